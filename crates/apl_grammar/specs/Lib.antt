@@ -1,0 +1,4 @@
+pub mod Tree
+pub mod Caret
+pub mod Stops
+pub mod Automaton
