@@ -1,2 +1,3 @@
+pub mod Carets
 pub mod Reading
 pub mod Trees

@@ -6,4 +6,7 @@ mod reader;
 mod statement;
 
 pub use program::{Operation, Program};
-pub use statement::{GrammarStop, one_reading, one_tree, program_of};
+pub use statement::{GrammarStop, one_caret, one_reading, one_tree, program_of};
+
+#[cfg(test)]
+mod tests;

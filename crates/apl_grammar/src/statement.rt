@@ -1,7 +1,8 @@
 //! The program of a statement.
-ghost use Rattle.std.specs.Prelude.{◌≡◌, ◌<◌, List, IfOk, IfErr, vec_len};
+ghost use Rattle.std.specs.Prelude.{◌≡◌, ◌<◌, ℕ, List, IfOk, IfErr, vec_len};
 ghost use Rattle.apl_tokens.specs.declared.token.Token.{Token};
 ghost use Rattle.apl_grammar.specs.Tree.{Expr, IsTree, IsProgramOf, operations, spells};
+ghost use Rattle.apl_grammar.specs.Caret.{IsCaret};
 ghost use Rattle.apl_grammar.specs.Stops.{IsStopOf};
 
 use super::program::Program;
@@ -39,4 +40,9 @@ pub fn one_reading()
 /// A list of tokens has one tree at most.
 pub fn one_tree()
     ensures { (e f : Expr) → IsTree e → IsTree f → spells e ≡ spells f → e ≡ f }
+{}
+
+/// Tokens have one caret at most.
+pub fn one_caret()
+    ensures { (tokens : List Token) (c d : ℕ) → IsCaret tokens c → IsCaret tokens d → c ≡ d }
 {}
