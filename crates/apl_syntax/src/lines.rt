@@ -1,0 +1,24 @@
+//! What a line is, and why it can't be read.
+
+use apl_grammar::Program;
+
+/// What a line is.
+#[derive(Drop)]
+pub enum Line {
+    /// The line has no token.
+    Blank,
+    Statement(Program),
+}
+
+/// Why a line is not read. Columns count characters from 0.
+#[derive(Clone, Copy, Debug, PartialEq, Eq, Drop)]
+pub enum ReadStop {
+    /// The line has a symbol that is not listed. The longest front of listed symbols has so many bytes, and the column is
+    /// the number of its characters.
+    Character { bytes: usize, column: usize },
+    /// At this column no token fits, or stands the caret of tokens that no statement has.
+    Syntax { column: usize },
+    /// A constant passes a limit: a numeral at this column leaves the range, or a constant there has too many elements.
+    Limit { column: usize },
+    Memory,
+}

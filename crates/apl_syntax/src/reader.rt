@@ -1,0 +1,39 @@
+//! From the bytes of a line to what it is.
+ghost use Rattle.std.specs.Prelude.{◌≡◌, ℕ, List, IfOk, IfErr};
+ghost use Rattle.apl_syntax.specs.Reading.{Reading, IsReading};
+ghost use Rattle.apl_syntax.specs.Answers.{IsLineOf, IsReadStopOf};
+
+use super::lines::{Line, ReadStop};
+use apl_grammar::{GrammarStop, one_caret, one_tree, program_of};
+use apl_tokens::{FrontStop, LexicalStop, Token, front, one_front, one_lexing, tokens};
+use std::alloc::Global;
+
+/// Reads a line. An unlisted symbol is found before all else, and without memory.
+pub fn read(alloc: Global, line: &[u8]) -> Result<Line, ReadStop>
+    ensures line { IfOk result (IsLineOf line.now) }
+    ensures stop { IfErr result (IsReadStopOf line.now) }
+{
+    let characters = match front(alloc, line) {
+        Ok(characters) => characters,
+        Err(FrontStop::Unlisted { bytes, column }) => {
+            return Err(ReadStop::Character { bytes, column });
+        }
+        Err(FrontStop::Memory) => return Err(ReadStop::Memory),
+    };
+    match tokens(alloc, characters.as_slice()) {
+        Ok(tokens) => statement(alloc, tokens),
+        Err(LexicalStop::Syntax { column }) => Err(ReadStop::Syntax { column }),
+        Err(LexicalStop::Limit { column }) => Err(ReadStop::Limit { column }),
+        Err(LexicalStop::Memory) => Err(ReadStop::Memory),
+    }
+}
+
+/// A line reads in one way at most.
+pub fn one_reading()
+    ensures { (line : List ℕ) (one other : Reading) → IsReading line one → IsReading line other → one ≡ other }
+{
+    one_front();
+    one_lexing();
+    one_tree();
+    one_caret();
+}
