@@ -1,0 +1,88 @@
+//! A sink in memory, which fails at a chosen call.
+ghost use Rattle.std.specs.Prelude.{◌≡◌, ℕ, ◌<◌, ◌≤◌, ◌↔◌, ◌++◌, min, take, [], length, Some, IsTrue, IsErr, IfOk, OnErr};
+ghost use Rattle.apl_print.specs.Failures.{CountsFailure};
+ghost use Rattle.apl_print.specs.SinkValues.{after_call};
+
+use super::sinks::{Sink, SinkFault};
+use std::alloc::Global;
+use std::marker::Model;
+
+/// Keeps what it takes, at most a chosen number of bytes a call.
+#[derive(Drop)]
+pub struct MemorySink {
+    bytes: Vec<u8>,
+    most: usize,
+    calls_to_failure: Option<u64>,
+    failures: u64,
+}
+
+impl Model for MemorySink {
+    ghost use Rattle.std.specs.Prelude.{◌<◌};
+    ghost use Rattle.apl_print.specs.SinkValues.{MemorySinkValue};
+
+    ghost Value = { MemorySinkValue };
+
+    ghost view = { λ s. record { bytes = s.bytes.items; most = s.most; calls_to_failure = s.calls_to_failure; failures = s.failures } };
+
+    ghost invariant = { λ s. 0 < s.most };
+}
+
+impl MemorySink {
+    /// An empty sink that takes at most `most` bytes a call, and fails at the call of that number, counted from 1, if one
+    /// is given. It takes no memory: `alloc` is kept for what the sink takes later.
+    pub fn new(alloc: Global, most: usize, fail_at: Option<u64>) -> MemorySink
+        requires { 0 < most }
+        ensures empty { result.bytes ≡ [] }
+        ensures most { result.most ≡ most }
+        ensures fails { result.calls_to_failure ≡ fail_at }
+        ensures sound { result.failures ≡ 0 }
+    {
+        MemorySink {
+            bytes: Vec::new(alloc),
+            most,
+            calls_to_failure: fail_at,
+            failures: 0,
+        }
+    }
+
+    /// What it took.
+    pub fn bytes(&self) -> &[u8]
+        ensures { result.now ≡ self.now.bytes }
+    {
+        self.bytes.as_slice()
+    }
+
+    /// Counts a call, and says whether it is the one that fails.
+    fn is_due(&mut self) -> bool
+        ensures due { IsTrue result ↔ (self.old.calls_to_failure ≡ Some 1) }
+        ensures counted { self.new ≡ record self.old { calls_to_failure = after_call self.old.calls_to_failure } }
+    {
+        let is_due = self.calls_to_failure == Some(1);
+        self.calls_to_failure = self.calls_to_failure.and_then(|calls| calls.checked_sub(1));
+        is_due
+    }
+}
+
+impl Sink for MemorySink {
+    ghost taken = { λ s. Some s.bytes };
+
+    ghost failures = { λ s. s.failures };
+
+    fn put(&mut self, bytes: &[u8]) -> Result<usize, SinkFault>
+        requires { 0 < length bytes.now }
+        ensures count { IfOk result (λ n. (0 < n) × (n ≡ min (length bytes.now) self.old.most)) }
+        ensures front { IfOk result (λ n. self.new.bytes ≡ self.old.bytes ++ take n bytes.now) }
+        ensures nothing { OnErr result (self.new.bytes ≡ self.old.bytes) }
+        ensures failures { CountsFailure self.old.failures self.new.failures result }
+        ensures due { self.old.calls_to_failure ≡ Some 1 → IsErr result }
+        ensures counted { self.new.calls_to_failure ≡ after_call self.old.calls_to_failure }
+        ensures most { self.new.most ≡ self.old.most }
+    {
+        let n = bytes.len().min(self.most);
+        if self.is_due() || self.bytes.extend_from_slice(&bytes[..n]).is_err() {
+            self.failures = self.failures.saturating_add(1);
+            return Err(SinkFault);
+        }
+        Ok(n)
+    }
+}
