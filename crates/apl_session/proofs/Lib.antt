@@ -1,0 +1,6 @@
+pub mod WrittenLemmas
+pub mod LineLemmas
+pub mod RunLemmas
+pub mod SourceLemmas
+pub mod LineAnswers
+pub mod LawLemmas

@@ -1,0 +1,47 @@
+-- How far a run has come, in the middle of its text.
+use Rattle.std.specs.Prelude.{◌≡◌, ℕ, ◌<◌, ◌≤◌, List, [], ◌∷◌, ◌++◌, length, flat_map, All, Option, Some, false, Result, Ok, Err}
+use Rattle.std.specs.Io.KnownBytes.{Appends}
+use Rattle.apl_session.specs.Lines.{line_feed, IsUnbroken}
+use Rattle.apl_session.specs.Run.{Answer, Semantics, IsAnswer, text_of}
+use Rattle.apl_session.specs.Outcome.{AnswersAll, AnswersFront}
+use Rattle.apl_session.specs.declared.interpreter.Next.{Next}
+use Rattle.apl_session.specs.declared.interpreter.Next.TheVariants.{Go, End}
+use Rattle.apl_session.specs.declared.interpreter.RunFault.{RunFault}
+use Rattle.apl_session.specs.declared.interpreter.RunFault.TheVariants.{Read, Write, Memory}
+
+-- the answers to these lines, one after the other, lead from one state to another, and none of them ends the run
+abbrev pub Leads : {W : Type 0} → Semantics W → W → List (List ℕ) → List (Answer W) → W → Type 0
+Leads semantics state [] [] last = last ≡ state
+Leads semantics state [] (answer ∷ answers) last = ⊥
+Leads semantics state (line ∷ lines) [] last = ⊥
+Leads semantics state (line ∷ lines) (answer ∷ answers) last = IsAnswer semantics state line answer × (answer.ends ≡ false)
+    × Leads semantics answer.after lines answers last
+
+-- these bytes are at least one of a line, and after those at most so many more
+pub record IsUnheld (most : ℕ) (bytes : List ℕ) : Type 0 where
+  pub front : List ℕ
+  pub more : List ℕ
+  pub is_bytes : bytes ≡ front ++ more
+  pub some : 0 < length front
+  pub unbroken : IsUnbroken front
+  pub few : length more ≤ most
+
+module _ {W : Type 0} (semantics : Semantics W) where
+  -- From one state to another, the whole lines at the front of the bytes were answered, and the rest is still to come.
+  pub record Progress (state now : W) (bytes rest : List ℕ) (old new : Option (List ℕ)) : Type 0 where
+    pub lines : List (List ℕ)
+    pub is_bytes : bytes ≡ flat_map (λ line. line ++ line_feed ∷ []) lines ++ rest
+    pub unbroken : All IsUnbroken lines
+    pub answers : List (Answer W)
+    pub leads : Leads semantics state lines answers now
+    pub written : Appends old new (text_of answers)
+
+  -- What a piece of the text does, of at most so many bytes: bytes is what was held before and the piece, and held what is
+  -- held after.
+  abbrev pub IsPieceAnswered : W → W → ℕ → List ℕ → List ℕ → Option (List ℕ) → Option (List ℕ) → Result Next RunFault → Type 0
+  IsPieceAnswered state now most bytes held old new (Ok Go) = Progress state now bytes held old new × IsUnbroken held
+  -- whatever follows, the whole run was written
+  IsPieceAnswered state now most bytes held old new (Ok End) = (more : List ℕ) → AnswersAll semantics state (Some (bytes ++ more)) old new
+  IsPieceAnswered state now most bytes held old new (Err Write) = (more : List ℕ) → AnswersFront semantics state (Some (bytes ++ more)) old new
+  IsPieceAnswered state now most bytes held old new (Err Memory) = (rest : List ℕ) × Progress state now bytes rest old new × IsUnheld most rest
+  IsPieceAnswered state now most bytes held old new (Err Read) = ⊥

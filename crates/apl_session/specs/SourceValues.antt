@@ -1,0 +1,21 @@
+-- What contracts see of the sources of this crate.
+use Rattle.std.specs.Prelude.{ℕ, ◌-◌, List, Option, Some, None, nat_lt, if◌then◌else◌}
+
+-- a reader as a source: the reader, how many takes may still give bytes, and how many calls failed
+pub record InValue (R : Type 0) : Type 0 where
+  pub inner : R
+  pub takes_left : ℕ
+  pub failures : ℕ
+
+-- a source in memory: the bytes that are still to come, how many it gives at most in a call, how many calls there are up to
+-- the one that fails, if one is to fail, and how many failed
+pub record MemorySourceValue : Type 0 where
+  pub bytes : List ℕ
+  pub most : ℕ
+  pub calls_to_failure : Option ℕ
+  pub failures : ℕ
+
+-- how many calls there are up to the one that fails, after a call
+abbrev pub after_call : Option ℕ → Option ℕ
+after_call None = None
+after_call (Some calls) = if nat_lt 0 calls then Some (calls - 1) else None

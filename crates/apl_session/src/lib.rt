@@ -1,0 +1,15 @@
+//! Lines of a text, answered one after the other by an interpreter.
+#![tactic(auto)]
+
+mod interpreter;
+mod laws;
+mod lines;
+mod memory;
+mod runs;
+mod sources;
+mod streams;
+
+pub use interpreter::{Next, RunFault};
+pub use memory::MemorySource;
+pub use sources::{Source, SourceFault};
+pub use streams::In;
