@@ -4,3 +4,4 @@ pub mod Run
 pub mod LineAnswer
 pub mod Outcome
 pub mod Progress
+pub mod Ending

@@ -2,6 +2,7 @@
 ghost use Rattle.std.specs.Prelude.{◌≡◌, ℕ, List, IfOk, IfErr};
 ghost use Rattle.apl_syntax.specs.Reading.{Reading, IsReading};
 ghost use Rattle.apl_syntax.specs.Answers.{IsLineOf, IsReadStopOf};
+ghost use Rattle.apl_syntax.specs.Parses.{IsParsedLine, IsParseStop};
 
 use super::lines::{Line, ReadStop};
 use apl_grammar::{GrammarStop, one_caret, one_tree, program_of};
@@ -21,10 +22,25 @@ pub fn read(alloc: Global, line: &[u8]) -> Result<Line, ReadStop>
         Err(FrontStop::Memory) => return Err(ReadStop::Memory),
     };
     match tokens(alloc, characters.as_slice()) {
-        Ok(tokens) => statement(alloc, tokens),
+        Ok(tokens) => parsed(alloc, tokens),
         Err(LexicalStop::Syntax { column }) => Err(ReadStop::Syntax { column }),
         Err(LexicalStop::Limit { column }) => Err(ReadStop::Limit { column }),
         Err(LexicalStop::Memory) => Err(ReadStop::Memory),
+    }
+}
+
+/// The statement of the tokens, or a blank line where there are none.
+fn parsed(alloc: Global, tokens: Vec<Token>) -> Result<Line, ReadStop>
+    ensures line { IfOk result (IsParsedLine tokens.items) }
+    ensures stop { IfErr result (IsParseStop tokens.items) }
+{
+    if tokens.is_empty() {
+        return Ok(Line::Blank);
+    }
+    match program_of(alloc, tokens) {
+        Ok(program) => Ok(Line::Statement(program)),
+        Err(GrammarStop::Syntax { column }) => Err(ReadStop::Syntax { column }),
+        Err(GrammarStop::Memory) => Err(ReadStop::Memory),
     }
 }
 
