@@ -1,5 +1,5 @@
 //! Where bytes go.
-ghost use Rattle.std.specs.Prelude.{◌≡◌, ℕ, ◌<◌, ◌≤◌, List, Option, ◌++◌, take, length, IfOk, OnErr, flat_map, replicate};
+ghost use Rattle.std.specs.Prelude.{◌≡◌, ℕ, ◌<◌, ◌≤◌, List, Option, ◌++◌, take, length, IfOk, OnErr};
 ghost use Rattle.std.specs.Io.KnownBytes.{Appends, Keeps};
 ghost use Rattle.apl_print.specs.Failures.{CountsFailure};
 ghost use Rattle.apl_print.specs.Put.{Writes};
@@ -34,20 +34,6 @@ pub fn put_all<S: Sink>(sink: &mut S, bytes: &[u8]) -> Result<(), SinkFault>
     'puts: while !rest.is_empty() {
         match sink.put(rest) {
             Ok(n) => rest = &rest[n..],
-            Err(fault) => return Err(fault),
-        }
-    }
-    Ok(())
-}
-
-/// Puts the pieces of a text, one after the other.
-pub(crate) fn put_each<S: Sink>(sink: &mut S, pieces: &[&[u8]]) -> Result<(), SinkFault>
-    ensures writes { Writes (S.taken sink.old) (S.taken sink.new) (flat_map (λ piece. piece.now) pieces.now) result }
-    ensures failures { CountsFailure (S.failures sink.old) (S.failures sink.new) result }
-{
-    'pieces: for piece in pieces {
-        match put_all(sink, piece) {
-            Ok(()) => {}
             Err(fault) => return Err(fault),
         }
     }

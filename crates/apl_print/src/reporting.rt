@@ -1,0 +1,55 @@
+//! Writing a report.
+ghost use Rattle.std.specs.Prelude.{◌≡◌, ℕ, ◌∷◌, Some};
+ghost use Rattle.apl_print.specs.Failures.{CountsFailure};
+ghost use Rattle.apl_print.specs.Put.{Writes};
+ghost use Rattle.apl_print.specs.Reported.{reported, caret_line};
+ghost use Rattle.apl_print.specs.Text.{blanks, line_feed};
+
+use super::reports::Report;
+use super::sinks::{Sink, SinkFault, put_all};
+
+/// A run of blanks, of which slices are put.
+static BLANKS: [u8; 64] = [b' '; 64];
+
+/// Puts a report: its name, the line as it came, and a caret below a column of the line, counted in characters from 0, where
+/// one is given. It takes no memory. After a fault the sink has taken a beginning of the report.
+pub fn report<S: Sink>(
+    sink: &mut S,
+    report: Report,
+    line: &[u8],
+    column: Option<usize>,
+) -> Result<(), SinkFault>
+    ensures writes { Writes (S.taken sink.old) (S.taken sink.new) (reported report line.now column) result }
+    ensures failures { CountsFailure (S.failures sink.old) (S.failures sink.new) result }
+{
+    put_all(sink, report.heading())?;
+    put_all(sink, line)?;
+    match column {
+        None => put_all(sink, b"\n"),
+        Some(column) => put_caret(sink, column),
+    }
+}
+
+/// Ends a line, and puts the line with the caret.
+fn put_caret<S: Sink>(sink: &mut S, column: usize) -> Result<(), SinkFault>
+    ensures writes { Writes (S.taken sink.old) (S.taken sink.new) (line_feed ∷ caret_line (Some column)) result }
+    ensures failures { CountsFailure (S.failures sink.old) (S.failures sink.new) result }
+{
+    put_all(sink, b"\n      ")?;
+    put_blanks(sink, column)?;
+    put_all(sink, "∧\n".as_bytes())
+}
+
+/// Puts so many blanks.
+fn put_blanks<S: Sink>(sink: &mut S, count: usize) -> Result<(), SinkFault>
+    ensures writes { Writes (S.taken sink.old) (S.taken sink.new) (blanks count) result }
+    ensures failures { CountsFailure (S.failures sink.old) (S.failures sink.new) result }
+{
+    let mut rest = count;
+    'runs: while rest > 0 {
+        let n = rest.min(BLANKS.len());
+        put_all(sink, &BLANKS[..n])?;
+        rest -= n;
+    }
+    Ok(())
+}
