@@ -1,6 +1,13 @@
-//! The tokens of a line.
+//! The listed symbols, the front of a line, and the tokens of a line.
 #![tactic(auto)]
 
+mod fronts;
+mod laws;
+mod lexer;
+mod symbols;
 mod token;
 
+pub use fronts::{FrontStop, front};
+pub use laws::{front_is_unique, lexing_is_unique};
+pub use lexer::{LexicalStop, tokens};
 pub use token::{Glyph, Lexeme, Name, Token};

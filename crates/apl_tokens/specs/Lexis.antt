@@ -1,0 +1,170 @@
+-- The tokens of a line, as a relation between its characters and a list of tokens with columns.
+use Rattle.std.specs.Prelude.{◌≡◌, ◌⊎◌, ◌+◌, ◌-◌, ◌*◌, ◌<◌, ◌≤◌, ◌^◌, ℕ, zero, suc, ℤ, pos, negsuc, ◌≤ℤ◌, Bool, false, IsTrue, List, [], ◌∷◌, ◌++◌, Some, length, map, encode_utf8_all}
+use Rattle.apl_array.specs.Array.{ArrayValue, number_array}
+use Rattle.apl_tokens.specs.declared.token.Token.{Token}
+use Rattle.apl_tokens.specs.declared.token.Lexeme.{Lexeme}
+use Rattle.apl_tokens.specs.declared.token.Lexeme.TheVariants.{Constant, Name}
+use Rattle.apl_tokens.specs.Symbols.{is_digit, is_letter, is_name_character, is_blank, high_minus, symbol_lexeme}
+use Rattle.apl_tokens.specs.Fronts.{AllPass}
+
+-- the characters don't begin with one that passes
+abbrev pub BeginsWithNo : (ℕ → Bool) → List ℕ → Type 0
+BeginsWithNo p [] = Unit {0}
+BeginsWithNo p (c ∷ cs) = p c ≡ false
+
+-- the number that digits spell, behind those that spell n
+abbrev pub decimal_after : ℕ → List ℕ → ℕ
+decimal_after n [] = n
+decimal_after n (d ∷ ds) = decimal_after (10 * n + (d - 48)) ds
+
+abbrev pub decimal : List ℕ → ℕ
+decimal digits = decimal_after 0 digits
+
+-- one or more digits
+abbrev pub AreDigits : List ℕ → Type 0
+AreDigits [] = ⊥
+AreDigits (c ∷ cs) = AllPass is_digit (c ∷ cs)
+
+-- one or more blanks
+abbrev pub AreBlanks : List ℕ → Type 0
+AreBlanks [] = ⊥
+AreBlanks (c ∷ cs) = AllPass is_blank (c ∷ cs)
+
+abbrev pub negated : ℕ → ℤ
+negated zero = pos 0
+negated (suc n) = negsuc n
+
+-- perhaps a high minus, then digits
+pub data IsNumeral : List ℕ → ℤ → Type 0 where
+  plain : (digits : List ℕ) → AreDigits digits → IsNumeral digits (pos (decimal digits))
+  negative : (digits : List ℕ) → AreDigits digits → IsNumeral (high_minus ∷ digits) (negated (decimal digits))
+
+-- where a numeral begins within its constant, and its number
+abbrev pub Numeral : Type 0
+Numeral = ℕ × ℤ
+
+-- numerals with one or more blanks between them, the first of them at this place
+abbrev pub AreNumerals : ℕ → List ℕ → List Numeral → Type 0
+AreNumerals place text [] = ⊥
+AreNumerals place text (n ∷ []) = IsNumeral text n.1 × (n.0 ≡ place)
+AreNumerals place text (n ∷ m ∷ others) =
+    (first gap rest : List ℕ) × (text ≡ first ++ (gap ++ rest)) × IsNumeral first n.1 × (n.0 ≡ place) × AreBlanks gap
+    × AreNumerals (place + length (first ++ gap)) rest (m ∷ others)
+
+-- no blanks and then a numeral
+abbrev pub HasNoNextNumeral : List ℕ → Type 0
+HasNoNextNumeral after = (gap text rest : List ℕ) (z : ℤ) → AreBlanks gap → IsNumeral text z → after ≡ gap ++ (text ++ rest) → ⊥
+
+-- no further digit, and no further numeral: as many as stand there
+pub record EndsNumerals (after : List ℕ) : Type 0 where
+  pub digits : BeginsWithNo is_digit after
+  pub numerals : HasNoNextNumeral after
+
+abbrev pub least_number : ℤ
+least_number = negsuc (2 ^ 63 - 1)
+
+abbrev pub greatest_number : ℤ
+greatest_number = pos (2 ^ 63 - 1)
+
+abbrev pub IsInRange : ℤ → Type 0
+IsInRange z = (least_number ≤ℤ z) × (z ≤ℤ greatest_number)
+
+abbrev pub AreInRange : List Numeral → Type 0
+AreInRange [] = Unit {0}
+AreInRange (n ∷ ns) = IsInRange n.1 × AreInRange ns
+
+abbrev pub most_elements : ℕ
+most_elements = 2 ^ 30
+
+-- one element is a scalar, another number of them a vector
+abbrev pub constant_shape : {A : Type 0} → List A → List ℕ
+constant_shape (x ∷ []) = []
+constant_shape xs = length xs ∷ []
+
+-- the text is a constant of this value, as long as can be before what comes after it
+pub record IsConstant (text after : List ℕ) (value : ArrayValue) : Type 0 where
+  pub numerals : List Numeral
+  pub spelled : AreNumerals 0 text numerals
+  pub ends : EndsNumerals after
+  pub in_range : AreInRange numerals
+  pub few : length numerals ≤ most_elements
+  pub is : value ≡ number_array (constant_shape numerals) (map (λ n. n.1) numerals)
+
+-- a letter, then letters, digits and low lines, as many as stand there
+pub record IsName (text after name : List ℕ) : Type 0 where
+  pub first : ℕ
+  pub others : List ℕ
+  pub split : text ≡ first ∷ others
+  pub letter : IsTrue (is_letter first)
+  pub characters : AllPass is_name_character others
+  pub longest : BeginsWithNo is_name_character after
+  pub is : name ≡ encode_utf8_all text
+
+-- one symbol that is a token by itself
+pub record IsSymbol (text : List ℕ) (lexeme : Lexeme) : Type 0 where
+  pub character : ℕ
+  pub split : text ≡ character ∷ []
+  pub is : symbol_lexeme character ≡ Some lexeme
+
+-- the text is a token, as long as can be before what comes after it
+abbrev pub IsToken : List ℕ → List ℕ → Lexeme → Type 0
+IsToken text after (Constant value) = IsConstant text after value
+IsToken text after (Name name) = IsName text after name
+IsToken text after lexeme = IsSymbol text lexeme
+
+-- The tokens stand at the front of the characters, whose first is at column c. What follows them and the
+-- blanks behind them is the rest, at column d.
+abbrev pub LexesUpTo : ℕ → List ℕ → List Token → ℕ → List ℕ → Type 0
+LexesUpTo c characters [] d rest =
+    (gap : List ℕ) × (characters ≡ gap ++ rest) × AllPass is_blank gap × BeginsWithNo is_blank rest × (d ≡ c + length gap)
+LexesUpTo c characters (t ∷ ts) d rest =
+    (gap text after : List ℕ) × (characters ≡ gap ++ (text ++ after)) × AllPass is_blank gap × (t.column ≡ c + length gap)
+    × IsToken text after t.lexeme × LexesUpTo (t.column + length text) after ts d rest
+
+-- nothing is left
+abbrev pub IsEnd : List ℕ → Type 0
+IsEnd [] = Unit {0}
+IsEnd (c ∷ cs) = ⊥
+
+-- blanks, token, blanks, token and so on, up to the end
+abbrev pub Lexes : List ℕ → List Token → Type 0
+Lexes characters tokens = (d : ℕ) × (rest : List ℕ) × LexesUpTo 0 characters tokens d rest × IsEnd rest
+
+-- no token is here
+abbrev pub BeginsWithNoToken : List ℕ → Type 0
+BeginsWithNoToken rest = (text after : List ℕ) (lexeme : Lexeme) → rest ≡ text ++ after → IsToken text after lexeme → ⊥
+
+-- the first numeral out of range begins at this place
+pub data FirstOutOfRange : List Numeral → ℕ → Type 0 where
+  here : {n : Numeral} {ns : List Numeral} → (IsInRange n.1 → ⊥) → FirstOutOfRange (n ∷ ns) n.0
+  later : {n : Numeral} {ns : List Numeral} {place : ℕ} → IsInRange n.1 → FirstOutOfRange ns place → FirstOutOfRange (n ∷ ns) place
+
+-- Here begins a constant beyond a limit: of too many elements, at its first character, or else with a numeral out
+-- of range, at the first of those.
+pub record IsBeyondLimit (rest : List ℕ) (place : ℕ) : Type 0 where
+  pub text : List ℕ
+  pub after : List ℕ
+  pub numerals : List Numeral
+  pub split : rest ≡ text ++ after
+  pub spelled : AreNumerals 0 text numerals
+  pub ends : EndsNumerals after
+  pub which : ((most_elements < length numerals) × (place ≡ 0)) ⊎ ((length numerals ≤ most_elements) × FirstOutOfRange numerals place)
+
+-- Tokens fit up to this column, which is not the end, and there none fits.
+pub record HasLexicalFault (characters : List ℕ) (column : ℕ) : Type 0 where
+  pub tokens : List Token
+  pub rest : List ℕ
+  pub before : LexesUpTo 0 characters tokens column rest
+  pub more : IsEnd rest → ⊥
+  pub none : BeginsWithNoToken rest
+  pub within : (place : ℕ) → IsBeyondLimit rest place → ⊥
+
+-- Tokens fit up to some place, and there begins a constant beyond a limit, whose fault is at this column.
+pub record HasLimitFault (characters : List ℕ) (column : ℕ) : Type 0 where
+  pub tokens : List Token
+  pub rest : List ℕ
+  pub start : ℕ
+  pub place : ℕ
+  pub before : LexesUpTo 0 characters tokens start rest
+  pub beyond : IsBeyondLimit rest place
+  pub is : column ≡ start + place

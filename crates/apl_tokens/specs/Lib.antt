@@ -1,0 +1,5 @@
+pub mod Symbols
+pub mod Fronts
+pub mod Lexis
+pub mod Stops
+pub mod Scans

@@ -1,0 +1,79 @@
+-- What the lexer's own functions say of the front of a text. No contract of a public function cites this file.
+use Rattle.std.specs.Prelude.{◌≡◌, ◌⊎◌, ◌+◌, ◌<◌, ◌≤◌, ℕ, ℤ, Bool, IsTrue, List, [], ◌∷◌, ◌++◌, Option, Some, None, IfSome, length, take, drop, map, encode_utf8, encode_utf8_all}
+use Rattle.apl_tokens.specs.declared.token.Lexeme.{Lexeme}
+use Rattle.apl_tokens.specs.declared.lexer.Class.{Class}
+use Rattle.apl_tokens.specs.declared.lexer.Class.TheVariants as class
+use Rattle.apl_tokens.specs.declared.lexer.LexicalStop.{LexicalStop}
+use Rattle.apl_tokens.specs.declared.lexer.LexicalStop.TheVariants as stop
+use Rattle.apl_tokens.specs.Symbols.{is_digit, is_name_character, is_blank, is_listed}
+use Rattle.apl_tokens.specs.Fronts.{AllPass}
+use Rattle.apl_tokens.specs.Lexis.{BeginsWithNo, IsNumeral, Numeral, AreNumerals, IsInRange, AreInRange, FirstOutOfRange, IsToken, BeginsWithNoToken, IsBeyondLimit}
+
+-- a class of characters
+abbrev pub passes : Class → ℕ → Bool
+passes class.Blank c = is_blank c
+passes class.Digit c = is_digit c
+passes class.NamePart c = is_name_character c
+
+-- the text begins with so many bytes of so many listed characters, and this is the rest
+pub record ListsUpTo (text rest : List ℕ) (bytes count : ℕ) : Type 0 where
+  pub characters : List ℕ
+  pub listed : AllPass is_listed characters
+  pub split : text ≡ encode_utf8_all characters ++ rest
+  pub len : bytes ≡ length (encode_utf8_all characters)
+  pub counted : count ≡ length characters
+
+-- the text ends, or goes on with a character that is not listed
+abbrev pub EndsOrUnlisted : List ℕ → Type 0
+EndsOrUnlisted rest = (rest ≡ []) ⊎ ((c : ℕ) × (after : List ℕ) × (rest ≡ encode_utf8 c ++ after) × (IsTrue (is_listed c) → ⊥))
+
+-- no numeral begins the text
+abbrev pub HasNoNumeral : List ℕ → Type 0
+HasNoNumeral text = (numeral after : List ℕ) (z : ℤ) → text ≡ numeral ++ after → IsNumeral numeral z → ⊥
+
+-- the number as it is held, if it is in range
+abbrev pub IsHeldAs : ℤ → Option ℤ → Type 0
+IsHeldAs z None = IsInRange z → ⊥
+IsHeldAs z (Some v) = (v ≡ z) × IsInRange z
+
+-- the longest numeral at the front of a text has this length and number
+pub record IsNumeralAt (text : List ℕ) (len : ℕ) (number : Option ℤ) : Type 0 where
+  pub within : len ≤ length text
+  pub z : ℤ
+  pub is : IsNumeral (take len text) z
+  pub longest : BeginsWithNo is_digit (drop len text)
+  pub held : IsHeldAs z number
+
+-- what is held of numerals: their numbers, or the place of the first one out of range
+abbrev pub IsHeld : List Numeral → Option ℕ → List ℤ → Type 0
+IsHeld numerals None values = AreInRange numerals × (values ≡ map (λ n. n.1) numerals)
+IsHeld numerals (Some place) values = FirstOutOfRange numerals place
+
+-- the numerals at the front of a text, up to this length
+pub record IsRow (text : List ℕ) (len count : ℕ) (beyond : Option ℕ) (values : List ℤ) : Type 0 where
+  pub within : len ≤ length text
+  pub numerals : List Numeral
+  pub spelled : AreNumerals 0 (take len text) numerals
+  pub digits : BeginsWithNo is_digit (drop len text)
+  pub counted : count ≡ length numerals
+  pub few : count ≤ len
+  pub held : IsHeld numerals beyond values
+  pub inside : IfSome beyond (λ place. place ≤ len)
+
+-- one more numeral
+abbrev pub held_more : List ℤ → Option ℕ → ℕ → Option ℤ → List ℤ × Option ℕ
+held_more values (Some first) place number = (values, Some first)
+held_more values None place None = (values, Some place)
+held_more values None place (Some z) = (values ++ z ∷ [], None)
+
+-- a token of this length stands at the front of the text
+pub record IsTokenAt (text : List ℕ) (len : ℕ) (lexeme : Lexeme) : Type 0 where
+  pub within : len ≤ length text
+  pub some : 0 < len
+  pub is : IsToken (take len text) (drop len text) lexeme
+
+-- no token stands at the front of the text, which begins at this column
+abbrev pub IsStopAt : List ℕ → ℕ → LexicalStop → Type 0
+IsStopAt text column (stop.Syntax c) = (c ≡ column) × BeginsWithNoToken text × ((place : ℕ) → IsBeyondLimit text place → ⊥)
+IsStopAt text column (stop.Limit c) = (place : ℕ) × IsBeyondLimit text place × (c ≡ column + place)
+IsStopAt text column stop.Memory = Unit {0}

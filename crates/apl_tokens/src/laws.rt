@@ -1,0 +1,20 @@
+// Laws of the definitions: a line has one front, and its characters one list of tokens or one fault.
+ghost use Rattle.std.specs.Prelude.{◌≡◌, ℕ, List};
+ghost use Rattle.apl_tokens.specs.declared.token.Token.{Token};
+ghost use Rattle.apl_tokens.specs.Fronts.{IsFront};
+ghost use Rattle.apl_tokens.specs.Lexis.{Lexes, HasLexicalFault, HasLimitFault};
+
+/// The front of a line and what follows it are one.
+pub fn front_is_unique()
+    ensures { (bytes c d r s : List ℕ) → IsFront bytes c r → IsFront bytes d s → (c ≡ d) × (r ≡ s) }
+{}
+
+/// Characters have one list of tokens, or a lexical fault at one column, or a fault of a limit at one column.
+pub fn lexing_is_unique()
+    ensures tokens { (characters : List ℕ) (ts us : List Token) → Lexes characters ts → Lexes characters us → ts ≡ us }
+    ensures fault { (characters : List ℕ) (c d : ℕ) → HasLexicalFault characters c → HasLexicalFault characters d → c ≡ d }
+    ensures limit { (characters : List ℕ) (c d : ℕ) → HasLimitFault characters c → HasLimitFault characters d → c ≡ d }
+    ensures no_fault { (characters : List ℕ) (ts : List Token) (c : ℕ) → Lexes characters ts → HasLexicalFault characters c → ⊥ }
+    ensures no_limit { (characters : List ℕ) (ts : List Token) (c : ℕ) → Lexes characters ts → HasLimitFault characters c → ⊥ }
+    ensures one_kind { (characters : List ℕ) (c d : ℕ) → HasLexicalFault characters c → HasLimitFault characters d → ⊥ }
+{}

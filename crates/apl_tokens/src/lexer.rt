@@ -1,0 +1,321 @@
+// Tokens from characters.
+ghost use Rattle.std.specs.Prelude.{if◌then◌else◌, ◌-◌, ◌≡◌, ◌⊎◌, ◌≤◌, ◌<◌, ◌+◌, ◌^◌, ◌∷◌, [], ◌++◌, ℕ, ℤ, pos, Bool, true, false, List, IsTrue, IfSome, IfNone, IfOk, IfErr, length, take, drop, encode_utf8_all, string_bytes};
+ghost use Rattle.apl_tokens.specs.Symbols.{is_digit, is_letter, is_name_character};
+ghost use Rattle.apl_tokens.specs.Fronts.{AllPass};
+ghost use Rattle.apl_array.specs.Array.{number_array};
+ghost use Rattle.apl_tokens.specs.Lexis.{BeginsWithNo, decimal, negated, HasNoNextNumeral, AreBlanks, EndsNumerals, constant_shape, Lexes};
+ghost use Rattle.apl_tokens.specs.Stops.{IsLexicalStopOf};
+ghost use Rattle.apl_tokens.specs.Scans.{passes, IsHeldAs, IsNumeralAt, HasNoNumeral, held_more, IsRow, IsTokenAt, IsStopAt};
+
+use crate::symbols::{is_blank, is_digit, is_letter, is_name_character, symbol_lexeme};
+use crate::token::{Lexeme, Name, Token};
+use apl_array::{Array, MOST_ELEMENTS, Shape};
+use std::alloc::{AllocError, AllocFailed, Global};
+
+/// Why characters have no tokens. Columns count characters from 0.
+#[derive(Clone, Copy, Debug, PartialEq, Eq, Drop)]
+pub enum LexicalStop {
+    /// No token fits here.
+    Syntax { column: usize },
+    /// A numeral out of range, or a constant of more elements than the limit, begins here.
+    Limit { column: usize },
+    /// A growth was refused.
+    Memory,
+}
+
+impl From<AllocError> for LexicalStop {
+    ghost use Rattle.apl_tokens.specs.declared.lexer.LexicalStop.TheVariants.{Memory};
+
+    ghost from_gives = { λ _ stop. stop ≡ Memory };
+
+    fn from(_error: AllocError) -> LexicalStop {
+        LexicalStop::Memory
+    }
+}
+
+impl<T: Drop> From<AllocFailed<T>> for LexicalStop {
+    ghost use Rattle.apl_tokens.specs.declared.lexer.LexicalStop.TheVariants.{Memory};
+
+    ghost from_gives = { λ _ stop. stop ≡ Memory };
+
+    fn from(_error: AllocFailed<T>) -> LexicalStop {
+        LexicalStop::Memory
+    }
+}
+
+/// A class of characters.
+#[derive(Clone, Copy, Drop)]
+pub(crate) enum Class {
+    Blank,
+    Digit,
+    NamePart,
+}
+
+fn is_in(class: Class, c: char) -> bool
+    ensures { result ≡ passes class c }
+{
+    match class {
+        Class::Blank => is_blank(c),
+        Class::Digit => is_digit(c),
+        Class::NamePart => is_name_character(c),
+    }
+}
+
+/// The length of the longest front of the class.
+fn run_length(text: &[char], class: Class) -> usize
+    ensures within { result ≤ length text.now }
+    ensures front { AllPass (passes class) (take result text.now) }
+    ensures longest { BeginsWithNo (passes class) (drop result text.now) }
+{
+    for (i, c) in text.iter().enumerate() {
+        if !is_in(class, *c) {
+            return i;
+        }
+    }
+    text.len()
+}
+
+/// The number that digits spell, if it is at most 2 to the 63rd.
+fn magnitude(digits: &[char]) -> Option<u64>
+    requires { AllPass is_digit digits.now }
+    ensures found { IfSome result (λ n. (n ≡ decimal digits.now) × (n ≤ 2 ^ 63)) }
+    ensures none { IfNone result (2 ^ 63 < decimal digits.now) }
+{
+    let mut n: u64 = 0;
+    for c in digits {
+        let digit = u64::from(u32::from(*c) - 48);
+        if n > (9223372036854775808 - digit) / 10 {
+            return None;
+        }
+        n = 10 * n + digit;
+    }
+    Some(n)
+}
+
+/// The number that digits spell behind a high minus or none, if it is in range.
+fn number(digits: &[char], negative: bool) -> Option<i64>
+    requires { AllPass is_digit digits.now }
+    ensures { IsHeldAs (if negative then negated (decimal digits.now) else pos (decimal digits.now)) result }
+{
+    match magnitude(digits) {
+        None => None,
+        Some(0) => Some(0),
+        Some(n) => {
+            if negative {
+                Some(-1 - (n - 1) as i64)
+            } else if n < 9223372036854775808 {
+                Some(n as i64)
+            } else {
+                None
+            }
+        }
+    }
+}
+
+/// The length of a numeral, and its number if it is in range.
+#[derive(Clone, Copy, Drop)]
+struct Numeral {
+    length: usize,
+    number: Option<i64>,
+}
+
+/// The numeral at the front, if one is there.
+fn numeral_at(text: &[char]) -> Option<Numeral>
+    ensures found { IfSome result (λ n. IsNumeralAt text.now n.length n.number) }
+    ensures none { IfNone result (HasNoNumeral text.now) }
+{
+    if !text.is_empty() && text[0] == '¯' {
+        let rest = &text[1..];
+        let digits = run_length(rest, Class::Digit);
+        if digits == 0 {
+            return None;
+        }
+        let number = number(&rest[..digits], true);
+        return Some(Numeral {
+            length: digits + 1,
+            number,
+        });
+    }
+    let digits = run_length(text, Class::Digit);
+    if digits == 0 {
+        return None;
+    }
+    let number = number(&text[..digits], false);
+    Some(Numeral {
+        length: digits,
+        number,
+    })
+}
+
+/// The numeral behind blanks at the front, and how many blanks there are.
+fn next_numeral(text: &[char]) -> Option<(usize, Numeral)>
+    ensures found { IfSome result (λ r. (r.0 ≤ length text.now) × AreBlanks (take r.0 text.now) × IsNumeralAt (drop r.0 text.now) r.1.length r.1.number) }
+    ensures none { IfNone result (HasNoNextNumeral text.now) }
+{
+    let gap = run_length(text, Class::Blank);
+    if gap == 0 {
+        return None;
+    }
+    match numeral_at(&text[gap..]) {
+        Some(numeral) => Some((gap, numeral)),
+        None => None,
+    }
+}
+
+/// The numerals of a constant: their length in characters, how many, and their numbers or the first place out of range.
+#[derive(Drop)]
+struct Row {
+    length: usize,
+    count: usize,
+    beyond: Option<usize>,
+    values: Vec<i64>,
+}
+
+/// Holds one more number, or its place where it is the first out of range.
+fn hold(
+    values: &mut Vec<i64>,
+    beyond: Option<usize>,
+    place: usize,
+    number: Option<i64>,
+) -> Result<Option<usize>, AllocError>
+    ensures { IfOk result (λ b. held_more values.old.items beyond place number ≡ (values.new.items, b)) }
+{
+    if beyond.is_some() {
+        return Ok(beyond);
+    }
+    match number {
+        None => Ok(Some(place)),
+        Some(z) => {
+            values.push(z)?;
+            Ok(None)
+        }
+    }
+}
+
+/// All numerals at the front, the first of which is handed in.
+fn row_at(alloc: Global, text: &[char], first: Numeral) -> Result<Row, AllocError>
+    requires { IsNumeralAt text.now first.length first.number }
+    ensures row { IfOk result (λ r. IsRow text.now r.length r.count r.beyond r.values.items) }
+    ensures ends { IfOk result (λ r. EndsNumerals (drop r.length text.now)) }
+{
+    let mut values = Vec::new(alloc);
+    let mut length = first.length;
+    let mut count = 1;
+    let mut beyond = hold(&mut values, None, 0, first.number)?;
+    while let Some((gap, numeral)) = next_numeral(&text[length..]) {
+        beyond = hold(&mut values, beyond, length + gap, numeral.number)?;
+        length += gap + numeral.length;
+        count += 1;
+    }
+    Ok(Row {
+        length,
+        count,
+        beyond,
+        values,
+    })
+}
+
+/// A token and its length in characters.
+#[derive(Drop)]
+struct Scanned {
+    lexeme: Lexeme,
+    length: usize,
+}
+
+/// The scalar or vector of these numbers.
+fn number_array(alloc: Global, numbers: Vec<i64>) -> Array
+    requires few { length numbers.items ≤ MOST_ELEMENTS }
+    ensures { result ≡ number_array (constant_shape numbers.items) numbers.items }
+{
+    let lengths = [numbers.len()];
+    let lengths: &[usize] = if numbers.len() == 1 { &[] } else { &lengths };
+    let Ok(shape) = Shape::new(alloc, lengths) else {
+        unreachable!()
+    };
+    Array::ints(shape, numbers)
+}
+
+/// The number constant at the front of a text that begins at this column. Its first numeral is handed in.
+fn constant_at(
+    alloc: Global,
+    text: &[char],
+    first: Numeral,
+    column: usize,
+) -> Result<Scanned, LexicalStop>
+    requires numeral { IsNumeralAt text.now first.length first.number }
+    requires fits { column + length text.now < 2 ^ 64 }
+    ensures token { IfOk result (λ t. IsTokenAt text.now t.length t.lexeme) }
+    ensures stop { IfErr result (IsStopAt text.now column) }
+{
+    let row = row_at(alloc, text, first)?;
+    if row.count > MOST_ELEMENTS {
+        return Err(LexicalStop::Limit { column });
+    }
+    if let Some(place) = row.beyond {
+        return Err(LexicalStop::Limit {
+            column: column + place,
+        });
+    }
+    Ok(Scanned {
+        lexeme: Lexeme::Constant(number_array(alloc, row.values)),
+        length: row.length,
+    })
+}
+
+/// The name of these characters.
+fn name_of(alloc: Global, characters: &[char]) -> Result<Name, AllocError>
+    ensures { IfOk result (λ name. name ≡ encode_utf8_all characters.now) }
+{
+    let mut text = String::new(alloc);
+    for c in characters {
+        text.push(*c)?;
+    }
+    Ok(Name::new(text))
+}
+
+/// The token at the front of a text that begins at this column.
+fn token_at(alloc: Global, text: &[char], column: usize) -> Result<Scanned, LexicalStop>
+    requires more { 0 < length text.now }
+    requires fits { column + length text.now < 2 ^ 64 }
+    ensures token { IfOk result (λ t. IsTokenAt text.now t.length t.lexeme) }
+    ensures stop { IfErr result (IsStopAt text.now column) }
+{
+    let first = text[0];
+    if is_letter(first) {
+        let length = run_length(text, Class::NamePart);
+        let name = name_of(alloc, &text[..length])?;
+        return Ok(Scanned {
+            lexeme: Lexeme::Name(name),
+            length,
+        });
+    }
+    if let Some(numeral) = numeral_at(text) {
+        return constant_at(alloc, text, numeral, column);
+    }
+    match symbol_lexeme(first) {
+        Some(lexeme) => Ok(Scanned { lexeme, length: 1 }),
+        None => Err(LexicalStop::Syntax { column }),
+    }
+}
+
+/// The tokens of a line's characters.
+///
+/// # Errors
+///
+/// `Syntax` or `Limit` where a token is wanted and none fits, or a constant is beyond a limit: the leftmost such place.
+/// `Memory` where a growth was refused.
+pub fn tokens(alloc: Global, characters: &[char]) -> Result<Vec<Token>, LexicalStop>
+    ensures tokens { IfOk result (λ tokens. Lexes characters.now tokens.items) }
+    ensures stop { IfErr result (IsLexicalStopOf characters.now) }
+{
+    let mut tokens = Vec::new(alloc);
+    let mut column = run_length(characters, Class::Blank);
+    while column < characters.len() {
+        let token = token_at(alloc, &characters[column..], column)?;
+        let lexeme = token.lexeme;
+        tokens.push(Token { lexeme, column })?;
+        column += token.length;
+        column += run_length(&characters[column..], Class::Blank);
+    }
+    Ok(tokens)
+}
