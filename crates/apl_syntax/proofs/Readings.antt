@@ -1,5 +1,5 @@
 -- A line reads in one way at most.
-use Rattle.std.proofs.Common.{◌≡◌, ◌≢◌, ◌⊎◌, [], ◌∷◌, List, refl, sym, ◌∙◌, ap, subst, inl, inr, length}
+use Rattle.std.proofs.Common.{◌≡◌, ◌⊎◌, [], List, refl, sym, ◌∙◌, ap, subst, inl, inr, length}
 use Rattle.std.specs.Prelude.{ℕ, encode_utf8_all}
 use Rattle.apl_tokens.specs.declared.token.Token.{Token}
 use Rattle.apl_tokens.specs.Fronts.{IsFront}
@@ -10,7 +10,7 @@ use Rattle.apl_syntax.specs.Reading.{Reading, character, blank, statement, synta
 
 -- the laws of the crates below
 pub record Laws : Type 0 where
-  pub fronts : (line characters rest others other_rest : List ℕ) → IsFront line characters rest → IsFront line others other_rest → (characters ≡ others) × (rest ≡ other_rest)
+  pub fronts : (line characters others rest other_rest : List ℕ) → IsFront line characters rest → IsFront line others other_rest → (characters ≡ others) × (rest ≡ other_rest)
   pub lexings : (characters : List ℕ) (tokens others : List Token) → Lexes characters tokens → Lexes characters others → tokens ≡ others
   pub lexed_or_faulty : (characters : List ℕ) (tokens : List Token) (column : ℕ) → Lexes characters tokens → HasLexicalFault characters column → ⊥
   pub lexed_or_limited : (characters : List ℕ) (tokens : List Token) (column : ℕ) → Lexes characters tokens → HasLimitFault characters column → ⊥
@@ -90,20 +90,20 @@ parts line (limit c) h = inr h
 module _ (laws : Laws) (line : List ℕ) where
   one_unlisted : (b c d e : ℕ) → HasUnlisted line b c → HasUnlisted line d e → character b c ≡ character d e
   one_unlisted b c d e (cs, rest, front, some, bytes, column) (ds, other_rest, other, other_some, other_bytes, other_column) =
-      let same : cs ≡ ds = (laws.fronts line cs rest ds other_rest front other).0 in
+      let same : cs ≡ ds = (laws.fronts line cs ds rest other_rest front other).0 in
       let b_is : b ≡ d = bytes ∙ ap (λ (x : List ℕ). length (encode_utf8_all x)) same ∙ sym other_bytes in
       let c_is : c ≡ e = column ∙ ap (λ (x : List ℕ). length x) same ∙ sym other_column in
       cc
 
   unlisted_or_listed : (b c : ℕ) (ds : List ℕ) → HasUnlisted line b c → IsListed line ds → ⊥
-  unlisted_or_listed b c ds (cs, rest, front, some, bytes, column) listed = some (laws.fronts line cs rest ds [] front listed).1
+  unlisted_or_listed b c ds (cs, rest, front, some, bytes, column) listed = some (laws.fronts line cs ds rest [] front listed).1
 
   one_of_parts : (r s : Reading) → Parts line r → Parts line s → r ≡ s
   one_of_parts r s (inl (b, c, is, h)) (inl (d, e, is', k)) = is ∙ one_unlisted b c d e h k ∙ sym is'
   one_of_parts r s (inl (b, c, is, h)) (inr (ds, listed, k)) = absurd (unlisted_or_listed b c ds h listed)
   one_of_parts r s (inr (cs, listed, h)) (inl (b, c, is, k)) = absurd (unlisted_or_listed b c cs k listed)
   one_of_parts r s (inr (cs, listed, h)) (inr (ds, again, k)) =
-      let same : cs ≡ ds = (laws.fronts line cs [] ds [] listed again).0 in
+      let same : cs ≡ ds = (laws.fronts line cs ds [] [] listed again).0 in
       one_listed laws ds r s (subst (λ (x : List ℕ). IsListedReading x r) same h) k
 
   pub one_reading_of : (r s : Reading) → IsReading line r → IsReading line s → r ≡ s

@@ -1,7 +1,7 @@
 -- The answers of the reader, by what the line reads as.
 use Rattle.std.specs.Prelude.{◌≡◌, ℕ, List}
 use Rattle.apl_grammar.specs.Tree.{Expr, operations}
-use Rattle.apl_syntax.specs.Reading.{Reading, character, blank, statement, syntax, limit, IsListed, IsReading}
+use Rattle.apl_syntax.specs.Reading.{character, blank, statement, syntax, limit, IsListed, IsReading}
 use Rattle.apl_syntax.specs.declared.lines.Line.{Line}
 use Rattle.apl_syntax.specs.declared.lines.Line.TheVariants.{Blank, Statement}
 use Rattle.apl_syntax.specs.declared.lines.ReadStop.{ReadStop}

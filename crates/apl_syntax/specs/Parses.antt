@@ -1,5 +1,5 @@
 -- What becomes of the tokens of a line. No contract of a public function cites this file.
-use Rattle.std.specs.Prelude.{◌≡◌, ℕ, List, []}
+use Rattle.std.specs.Prelude.{◌≡◌, List, []}
 use Rattle.apl_tokens.specs.declared.token.Token.{Token}
 use Rattle.apl_grammar.specs.Tree.{IsProgramOf}
 use Rattle.apl_grammar.specs.Caret.{IsCaret, HasNoTree}

@@ -6,7 +6,7 @@ ghost use Rattle.apl_syntax.specs.Parses.{IsParsedLine, IsParseStop};
 
 use super::lines::{Line, ReadStop};
 use apl_grammar::{GrammarStop, one_caret, one_tree, program_of};
-use apl_tokens::{FrontStop, LexicalStop, Token, front, one_front, one_lexing, tokens};
+use apl_tokens::{FrontStop, LexicalStop, Token, front, front_is_unique, lexing_is_unique, tokens};
 use std::alloc::Global;
 
 /// Reads a line. An unlisted symbol is found before all else, and without memory.
@@ -21,6 +21,7 @@ pub fn read(alloc: Global, line: &[u8]) -> Result<Line, ReadStop>
         }
         Err(FrontStop::Memory) => return Err(ReadStop::Memory),
     };
+    one_reading();
     match tokens(alloc, characters.as_slice()) {
         Ok(tokens) => parsed(alloc, tokens),
         Err(LexicalStop::Syntax { column }) => Err(ReadStop::Syntax { column }),
@@ -48,8 +49,8 @@ fn parsed(alloc: Global, tokens: Vec<Token>) -> Result<Line, ReadStop>
 pub fn one_reading()
     ensures { (line : List ℕ) (one other : Reading) → IsReading line one → IsReading line other → one ≡ other }
 {
-    one_front();
-    one_lexing();
+    front_is_unique();
+    lexing_is_unique();
     one_tree();
     one_caret();
 }
