@@ -11,3 +11,6 @@ pub use fronts::{FrontStop, front};
 pub use laws::{front_is_unique, lexing_is_unique};
 pub use lexer::{LexicalStop, tokens};
 pub use token::{Glyph, Lexeme, Name, Token};
+
+#[cfg(test)]
+mod tests;

@@ -1,0 +1,150 @@
+//! Fronts and tokens of lines, as text: each token with its column, or the stop.
+use crate::{
+    FrontStop, Lexeme, LexicalStop, Token, front, front_is_unique, lexing_is_unique, tokens,
+};
+use apl_array::Array;
+use std::alloc::{AllocError, Global};
+use std::test::Fail;
+
+fn describe_constant(text: &mut String, value: &Array) -> Result<(), AllocError> {
+    let Some(numbers) = value.numbers() else {
+        return text.push_str("no numbers");
+    };
+    for number in numbers {
+        write!(text, " {number}")?;
+    }
+    write!(text, " rank {}", value.shape().rank())
+}
+
+fn describe_token(text: &mut String, token: &Token) -> Result<(), AllocError> {
+    write!(text, "{}:", token.column)?;
+    match &token.lexeme {
+        Lexeme::Constant(value) => describe_constant(text, value)?,
+        Lexeme::Name(name) => text.push_str(name.as_str())?,
+        Lexeme::Function(glyph) => write!(text, "{glyph:?}")?,
+        Lexeme::Arrow => text.push_str("Arrow")?,
+        _ => text.push_str("unknown")?,
+    }
+    text.push_str(";")
+}
+
+/// The tokens of a line, or why there are none.
+fn described(alloc: Global, line: &[u8]) -> Result<String, AllocError> {
+    let characters = match front(alloc, line) {
+        Ok(characters) => characters,
+        Err(stop) => return format!(in alloc; "{stop:?}"),
+    };
+    let tokens = match tokens(alloc, &characters) {
+        Ok(tokens) => tokens,
+        Err(stop) => return format!(in alloc; "{stop:?}"),
+    };
+    let mut text = String::new(alloc);
+    for token in &tokens {
+        describe_token(&mut text, token)?;
+    }
+    Ok(text)
+}
+
+#[test]
+fn tokens_of_lines(rt: HostRuntime) -> Result<(), Fail> {
+    front_is_unique();
+    lexing_is_unique();
+    let cases = [
+        ("", ""),
+        ("   ", ""),
+        ("2+3 4 5", "0: 2 rank 0;1:Plus;2: 3 4 5 rank 1;"),
+        ("  A_1 ← ¯5", "2:A_1;6:Arrow;8: -5 rank 0;"),
+        ("1¯2", "0: 1 rank 0;1: -2 rank 0;"),
+        ("1 2¯3 4", "0: 1 2 rank 1;3: -3 4 rank 1;"),
+        ("1A", "0: 1 rank 0;1:A;"),
+        ("A¯1", "0:A;1: -1 rank 0;"),
+        ("a×B-c", "0:a;1:Times;2:B;3:Minus;4:c;"),
+        ("000000000000000000000000000007 ¯0", "0: 7 0 rank 1;"),
+        (
+            "¯9223372036854775808 9223372036854775807",
+            "0: -9223372036854775808 9223372036854775807 rank 1;",
+        ),
+    ];
+    for (line, want) in cases {
+        let got = described(rt.alloc(), line.as_bytes())?;
+        assert_eq!(rt; got.as_str(), want, "at {line}");
+    }
+    Ok(())
+}
+
+#[test]
+fn lexical_faults(rt: HostRuntime) -> Result<(), Fail> {
+    let cases = [
+        ("1 2 ¯", LexicalStop::Syntax { column: 4 }),
+        ("¯¯1", LexicalStop::Syntax { column: 0 }),
+        ("1¯", LexicalStop::Syntax { column: 1 }),
+        ("++ 1_", LexicalStop::Syntax { column: 4 }),
+        ("99999999999999999999", LexicalStop::Limit { column: 0 }),
+        ("1 2 9223372036854775808", LexicalStop::Limit { column: 4 }),
+        ("1 ¯9223372036854775809", LexicalStop::Limit { column: 2 }),
+        ("1 9223372036854775808 ¯", LexicalStop::Limit { column: 2 }),
+        ("¯ 9223372036854775808", LexicalStop::Syntax { column: 0 }),
+    ];
+    for (line, want) in cases {
+        let Ok(characters) = front(rt.alloc(), line.as_bytes()) else {
+            assert!(rt; false, "at {line}");
+            return Ok(());
+        };
+        assert_eq!(rt;
+            tokens(rt.alloc(), &characters).err(),
+            Some(want),
+            "at {line}"
+        );
+    }
+    Ok(())
+}
+
+fn stop_of(alloc: Global, line: &[u8]) -> Option<FrontStop> {
+    front(alloc, line).err()
+}
+
+#[test]
+fn unlisted_symbols(rt: HostRuntime) -> Result<(), Fail> {
+    let alloc = rt.alloc();
+    let at = |bytes, column| Some(FrontStop::Unlisted { bytes, column });
+    assert_eq!(rt; stop_of(alloc, b"1+\xE2\x8D"), at(2, 2));
+    assert_eq!(rt; stop_of(alloc, b"\xC0\x80"), at(0, 0));
+    assert_eq!(rt; stop_of(alloc, b"\xED\xA0\x80"), at(0, 0));
+    assert_eq!(rt; stop_of(alloc, b"\xEF\xBB\xBF1"), at(0, 0));
+    assert_eq!(rt; stop_of(alloc, b"1+\r"), at(2, 2));
+    assert_eq!(rt; stop_of(alloc, b"\x7F"), at(0, 0));
+    assert_eq!(rt; stop_of(alloc, "1+(2)".as_bytes()), at(2, 2));
+    assert_eq!(rt; stop_of(alloc, ")OFF".as_bytes()), at(0, 0));
+    assert_eq!(rt; stop_of(alloc, "¯¯'".as_bytes()), at(4, 2));
+    assert_eq!(rt; stop_of(alloc, "2○3".as_bytes()), at(1, 1));
+    assert_eq!(rt; stop_of(alloc, "A←×9".as_bytes()), None);
+    Ok(())
+}
+
+#[test]
+fn a_long_line(rt: HostRuntime) -> Result<(), Fail> {
+    let alloc = rt.alloc();
+    let mut line = String::new(alloc);
+    for i in 0..100000 {
+        write!(line, "{i} ")?;
+    }
+    let Ok(characters) = front(alloc, line.as_bytes()) else {
+        assert!(rt; false);
+        return Ok(());
+    };
+    let tokens = tokens(alloc, &characters);
+    let Ok([token]) = tokens.as_deref() else {
+        assert!(rt; false);
+        return Ok(());
+    };
+    let Lexeme::Constant(value) = &token.lexeme else {
+        assert!(rt; false);
+        return Ok(());
+    };
+    assert_eq!(rt; value.shape().count(), 100000);
+    assert_eq!(rt;
+        value.numbers().and_then(|numbers| numbers.last().copied()),
+        Some(99999)
+    );
+    Ok(())
+}
