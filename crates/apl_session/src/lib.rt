@@ -15,3 +15,6 @@ pub use interpreter::{Next, RunFault};
 pub use memory::MemorySource;
 pub use sources::{Source, SourceFault};
 pub use streams::In;
+
+#[cfg(test)]
+mod tests;
