@@ -1,7 +1,7 @@
 -- Runs in which no line is refused.
-use Rattle.std.proofs.Common.{◌≡◌, ℕ, Bool, true, false, MatchBool, List, [], ◌∷◌, refl, sym, ap, ◌∙◌, subst, inl}
+use Rattle.std.proofs.Common.{◌≡◌, ℕ, Bool, true, false, MatchBool, if◌then◌else◌, List, [], ◌∷◌, refl, sym, ap, ◌∙◌, subst, inl}
 use Rattle.apl_session.specs.Lines.{without_return}
-use Rattle.apl_session.specs.Run.{Answer, Semantics, IsRun, IsDefinedRun, IsDeterministic, HasOneDefinedRun}
+use Rattle.apl_session.specs.Run.{Answer, Semantics, IsRun, IsDefinedRun, IsDeterministic, HasOneDefinedRun, IsTotal, HasDefinedRun}
 
 module _ {W : Type 0} (semantics : Semantics W) where
   -- what comes after an answer, in two runs
@@ -26,8 +26,8 @@ module _ {W : Type 0} (semantics : Semantics W) where
 
   -- a fact for both cases of a test
   either_way : (b : Bool) (P Q R : Type 0) → MatchBool b P Q → (Q → R) → MatchBool b P R
-  either_way true P Q R p then = p
-  either_way false P Q R q then = then q
+  either_way true P Q R p follows = p
+  either_way false P Q R q follows = follows q
 
   defined_is_run : (state : W) (lines : List (List ℕ)) (answers : List (Answer W)) → IsDefinedRun semantics state lines answers → IsRun semantics state lines answers
   defined_is_run state [] [] run = tt
@@ -38,3 +38,19 @@ module _ {W : Type 0} (semantics : Semantics W) where
 
   pub one_defined_run_lem : IsDeterministic semantics → HasOneDefinedRun W semantics
   one_defined_run_lem deterministic = record { one = one_run deterministic; is_run = defined_is_run }
+
+  -- the answers after one that may end the run
+  after_answer : (b : Bool) (later : List (Answer W)) (P : List (Answer W) → Type 0) → P later
+      → MatchBool b ((if b then [] else later) ≡ []) (P (if b then [] else later))
+  after_answer true later P p = refl
+  after_answer false later P p = p
+
+  pub some_defined_run_lem : IsTotal semantics → HasDefinedRun W semantics
+  some_defined_run_lem total state [] = ([], tt)
+  some_defined_run_lem total state (line ∷ lines) =
+      let first = total state (without_return line) in
+      let later = some_defined_run_lem total first.0.after lines in
+      (
+        first.0 ∷ (if first.0.ends then [] else later.0),
+        (first.1, after_answer first.0.ends later.0 (IsDefinedRun semantics first.0.after lines) later.1),
+      )

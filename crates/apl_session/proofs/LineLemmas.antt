@@ -3,11 +3,9 @@ use Rattle.std.proofs.Common.{◌≡◌, ◌≢◌, ℕ, ◌==◌, ◌<◌, fals
 use Rattle.std.specs.List.{All, flat_map}
 use Rattle.std.proofs.lemmas.List.Elements.{All-head, All-tail}
 use Rattle.std.proofs.lemmas.Bool.{ne_eqb}
-use Rattle.apl_session.specs.Lines.{lines_of, line_feed, before_first_line, IsUnbroken}
-
--- a line with the line feed that ends it
-abbrev pub ended : List ℕ → List ℕ
-ended line = line ++ line_feed ∷ []
+use Rattle.apl_print.specs.Reported.{ended}
+use Rattle.apl_print.specs.Text.{line_feed}
+use Rattle.apl_session.specs.Lines.{lines_of, before_first_line, IsUnbroken}
 
 pub lines_of-line : (line rest : List ℕ) → IsUnbroken line → lines_of (line ++ line_feed ∷ rest) ≡ line ∷ lines_of rest
 lines_of-line [] rest unbroken = refl

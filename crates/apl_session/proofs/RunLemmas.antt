@@ -1,5 +1,5 @@
 -- How answers to lines make up a run.
-use Rattle.std.proofs.Common.{◌≡◌, ◌≢◌, ℕ, ◌<◌, ◌≤◌, Bool, true, false, MatchBool, if◌then◌else◌, List, [], ◌∷◌, ◌++◌, length, Option, None, Some, Result, Ok, Err, refl, sym, ap, ◌∙◌, subst, inl, arith, append_assoc, append-nil, length-append}
+use Rattle.std.proofs.Common.{◌≡◌, ◌≢◌, ℕ, ◌<◌, ◌≤◌, Bool, true, false, MatchBool, List, [], ◌∷◌, ◌++◌, length, Option, None, Some, Result, Ok, Err, refl, sym, ap, ◌∙◌, subst, arith, append_assoc, append-nil, length-append}
 use Rattle.std.specs.List.{All, flat_map}
 use Rattle.std.specs.Io.KnownBytes.{Consumes}
 use Rattle.std.proofs.KnownBytes.{Appends-nil, Appends-trans}
@@ -7,7 +7,9 @@ use Rattle.std.proofs.lemmas.List.Elements.{All-nil, All-cons, All-append}
 use Rattle.std.proofs.lemmas.List.Concat.{flat_map-append}
 use Rattle.apl_print.specs.Put.{AppendsFront}
 use Rattle.apl_session.proofs.WrittenLemmas.{AppendsFront-after}
-use Rattle.apl_session.specs.Lines.{lines_of, line_feed, IsUnbroken}
+use Rattle.apl_print.specs.Reported.{ended}
+use Rattle.apl_print.specs.Text.{line_feed}
+use Rattle.apl_session.specs.Lines.{lines_of, IsUnbroken}
 use Rattle.apl_session.specs.Run.{Answer, Semantics, IsAnswer, IsRun, text_of}
 use Rattle.apl_session.specs.LineAnswer.{IsLineAnswered}
 use Rattle.apl_session.specs.Outcome.{IsSourceText, AnswersAll, AnswersFront, AnswersLines}
@@ -16,7 +18,7 @@ use Rattle.apl_session.specs.declared.interpreter.Next.{Next}
 use Rattle.apl_session.specs.declared.interpreter.Next.TheVariants.{Go, End}
 use Rattle.apl_session.specs.declared.interpreter.RunFault.{RunFault}
 use Rattle.apl_session.specs.declared.interpreter.RunFault.TheVariants.{Read, Write, Memory}
-use Rattle.apl_session.proofs.LineLemmas.{ended, lines_of-line, lines_of-last, lines_of-joined}
+use Rattle.apl_session.proofs.LineLemmas.{lines_of-line, lines_of-last, lines_of-joined}
 
 at_false : (b : Bool) (P Q : Type 0) → b ≡ false → Q → MatchBool b P Q
 at_false false P Q is q = q

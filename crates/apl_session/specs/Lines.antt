@@ -1,11 +1,8 @@
 -- A text as a list of lines.
 use Rattle.std.specs.Prelude.{ℕ, ◌-◌, ◌==◌, ◌≢◌, List, [], ◌∷◌, All, if◌then◌else◌, length, take, slice_index}
+use Rattle.apl_print.specs.Text.{line_feed}
 
--- the byte that ends a line
-abbrev pub line_feed : ℕ
-line_feed = 10
-
--- the byte that may stand before it
+-- the byte that may stand before the line feed
 abbrev pub carriage_return : ℕ
 carriage_return = 13
 

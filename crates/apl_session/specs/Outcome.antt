@@ -1,8 +1,9 @@
 -- How a run may come out, by what the source tells and what the sink took.
-use Rattle.std.specs.Prelude.{◌≡◌, ℕ, ◌<◌, ◌≤◌, List, ◌++◌, length, All, Option, IfSome, false, flat_map, ◌∷◌, []}
+use Rattle.std.specs.Prelude.{◌≡◌, ℕ, ◌<◌, ◌≤◌, List, ◌++◌, length, All, Option, IfSome, false, flat_map}
 use Rattle.std.specs.Io.KnownBytes.{Appends}
 use Rattle.apl_print.specs.Put.{AppendsFront}
-use Rattle.apl_session.specs.Lines.{lines_of, line_feed, IsUnbroken}
+use Rattle.apl_print.specs.Reported.{ended}
+use Rattle.apl_session.specs.Lines.{lines_of, IsUnbroken}
 use Rattle.apl_session.specs.Run.{Answer, Semantics, IsRun, text_of}
 
 -- the text is what the source tells, where it tells something
@@ -35,7 +36,7 @@ module _ {W : Type 0} (semantics : Semantics W) (state : W) (known : Option (Lis
     pub is_source : IsSourceText known text
     pub lines : List (List ℕ)
     pub rest : List ℕ
-    pub is_text : text ≡ flat_map (λ line. line ++ line_feed ∷ []) lines ++ rest
+    pub is_text : text ≡ flat_map ended lines ++ rest
     pub unbroken : All IsUnbroken lines
     pub is_rest : IsRest rest
     pub answers : List (Answer W)

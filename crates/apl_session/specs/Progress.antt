@@ -1,7 +1,8 @@
 -- How far a run has come, in the middle of its text.
 use Rattle.std.specs.Prelude.{◌≡◌, ℕ, ◌<◌, ◌≤◌, List, [], ◌∷◌, ◌++◌, length, flat_map, All, Option, Some, false, Result, Ok, Err}
 use Rattle.std.specs.Io.KnownBytes.{Appends}
-use Rattle.apl_session.specs.Lines.{line_feed, IsUnbroken}
+use Rattle.apl_print.specs.Reported.{ended}
+use Rattle.apl_session.specs.Lines.{IsUnbroken}
 use Rattle.apl_session.specs.Run.{Answer, Semantics, IsAnswer, text_of}
 use Rattle.apl_session.specs.Outcome.{AnswersAll, AnswersFront}
 use Rattle.apl_session.specs.declared.interpreter.Next.{Next}
@@ -30,7 +31,7 @@ module _ {W : Type 0} (semantics : Semantics W) where
   -- From one state to another, the whole lines at the front of the bytes were answered, and the rest is still to come.
   pub record Progress (state now : W) (bytes rest : List ℕ) (old new : Option (List ℕ)) : Type 0 where
     pub lines : List (List ℕ)
-    pub is_bytes : bytes ≡ flat_map (λ line. line ++ line_feed ∷ []) lines ++ rest
+    pub is_bytes : bytes ≡ flat_map ended lines ++ rest
     pub unbroken : All IsUnbroken lines
     pub answers : List (Answer W)
     pub leads : Leads semantics state lines answers now

@@ -1,5 +1,7 @@
 -- What a run of an interpreter over the lines of a text writes.
-use Rattle.std.specs.Prelude.{◌≡◌, ℕ, ◌⊎◌, Bool, true, false, MatchBool, List, [], ◌∷◌, ◌++◌, flat_map, codes}
+use Rattle.std.specs.Prelude.{◌≡◌, ℕ, ◌⊎◌, Bool, false, MatchBool, List, [], ◌∷◌, flat_map, None}
+use Rattle.apl_print.specs.Reported.{reported}
+use Rattle.apl_print.specs.declared.reports.Report.TheVariants.{WsFull}
 use Rattle.apl_session.specs.Lines.{without_return}
 
 -- the answer to a line: what is written, the state after it, and whether the run ends with it
@@ -16,7 +18,7 @@ pub record Semantics (W : Type 0) : Type 1 where
 
 -- the step of a line that is refused for want of memory: the report, and the state as it was
 abbrev pub refused_step : {W : Type 0} → W → List ℕ → Answer W
-refused_step state line = record { text = codes "WS FULL\n      " ++ (line ++ codes "\n"); after = state; ends = false }
+refused_step state line = record { text = reported WsFull line None; after = state; ends = false }
 
 -- a line's answer as it is defined
 abbrev pub IsDefinedAnswer : {W : Type 0} → Semantics W → W → List ℕ → Answer W → Type 0
@@ -52,7 +54,15 @@ abbrev pub IsDeterministic : {W : Type 0} → Semantics W → Type 0
 IsDeterministic {W} semantics = (state : W) (line : List ℕ) (one other : Answer W)
     → semantics.IsStep state line one → semantics.IsStep state line other → one ≡ other
 
--- a text has at most one run in which no line is refused, and such a run is a run
+-- a line has an answer in each state
+abbrev pub IsTotal : {W : Type 0} → Semantics W → Type 0
+IsTotal {W} semantics = (state : W) (line : List ℕ) → (answer : Answer W) × semantics.IsStep state line answer
+
+-- lines have a run in which none is refused
+abbrev pub HasDefinedRun : (W : Type 0) → Semantics W → Type 0
+HasDefinedRun W semantics = (state : W) (lines : List (List ℕ)) → (answers : List (Answer W)) × IsDefinedRun semantics state lines answers
+
+-- lines have at most one run in which none is refused, and such a run is a run
 pub record HasOneDefinedRun (W : Type 0) (semantics : Semantics W) : Type 0 where
   pub one : (state : W) (lines : List (List ℕ)) (answers others : List (Answer W))
       → IsDefinedRun semantics state lines answers → IsDefinedRun semantics state lines others → answers ≡ others

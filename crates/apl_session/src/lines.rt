@@ -1,6 +1,7 @@
 //! Where lines end.
 ghost use Rattle.std.specs.Prelude.{◌≡◌, ℕ, ◌++◌, ◌∷◌, IfSome, IfNone};
-ghost use Rattle.apl_session.specs.Lines.{line_feed, IsUnbroken, without_return};
+ghost use Rattle.apl_print.specs.Text.{line_feed};
+ghost use Rattle.apl_session.specs.Lines.{IsUnbroken, without_return};
 
 /// The first line and what follows its end, or nothing where no line ends.
 pub(crate) fn split_line(bytes: &[u8]) -> Option<(&[u8], &[u8])>

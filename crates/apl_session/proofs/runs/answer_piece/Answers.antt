@@ -1,6 +1,6 @@
-use Rattle.std.proofs.Common.{◌≢◌, ◌<◌, ◌≤◌, ◌++◌, length, Ok, refl, ap, ◌∙◌, arith, length-append}
+use Rattle.std.proofs.Common.{◌≢◌, ◌<◌, ◌++◌, length, Ok, refl, ap, ◌∙◌, arith}
 use Rattle.std.proofs.lemmas.List.Elements.{All-append, All-nil}
-use Rattle.apl_session.specs.Lines.{line_feed}
+use Rattle.apl_print.specs.Text.{line_feed}
 use Rattle.apl_session.specs.declared.interpreter.Next.TheVariants.{Go, End}
 use Rattle.apl_session.proofs.RunLemmas.{none_yet, few_after, piece_goes_on, piece_ends, piece_fails, end_unheld, answered_as}
 use Rattle.apl_session.proofs.runs.answer_piece.Goals as goal
