@@ -1,0 +1,145 @@
+-- One more value, one more stretch of values, and the first fault among them.
+use Rattle.std.proofs.Common.{◌≡◌, ℕ, ◌+◌, ◌-◌, ◌<◌, ◌≤◌, List, [], ◌∷◌, ◌++◌, length, get_or, Result, Ok, Err, refl, zero, suc, add-zero, sym, ap, ◌∙◌, subst, ⊎_elim, arith, length-append}
+use Rattle.std.specs.Prelude.{IsOk, slice_index}
+use Rattle.std.specs.declared.vec.Vec.{Vec}
+use Rattle.std.proofs.lemmas.List.{length_push, get_or_push, get_or_append_left, get_or-append_right}
+use Rattle.std.proofs.lemmas.Bool.{cases_lt}
+use Rattle.apl_pool.specs.declared.kernel.Fault.{Fault}
+use Rattle.apl_pool.specs.declared.kernel.Stop.{Stop}
+use Rattle.apl_pool.specs.declared.kernel.Stop.TheVariants.{Fault as FaultAt, Memory}
+use Rattle.apl_pool.specs.Pool.{AreValues, IsLeastFault, IsStopOf}
+use Rattle.apl_pool.specs.Parts.{AppendsValues, AreValuesFrom, IsFirstFault, IsStopFrom, IsPart}
+
+some_element : {T : Type 0} → (xs : List T) → 0 < length xs → T
+some_element [] h = absurd (omega arith)
+some_element (x ∷ xs) h = x
+
+module _ {T : Type 0} (outcome : ℕ → Result T Fault) where
+  ok_from_equal : (k : ℕ) (x : T) → outcome k ≡ Ok x → IsOk (outcome k)
+  ok_from_equal k x e = let P : Result T Fault → Type 0 = λ r. IsOk r in subst P (sym e) refl
+
+  pub AppendsValues_none : (from : ℕ) (old : List T) → AppendsValues outcome from from old old
+  AppendsValues_none from old = record { len = refl; kept = λ k d h. refl; each = λ k d h. absurd (omega arith) }
+
+  pub AppendsValues_more : (from to : ℕ) (old new : List T) (x : T) → from ≤ to → AppendsValues outcome from to old new
+      → outcome to ≡ Ok x → AppendsValues outcome from (to + 1) old (new ++ x ∷ [])
+  AppendsValues_more from to old new x order so_far is = record {
+    len = omega (arith, length_push new x, so_far.len);
+    kept = λ k d h.
+        let inside : k < length new = omega (arith, so_far.len) in
+        get_or_append_left new (x ∷ []) d k inside ∙ so_far.kept k d h;
+    each = λ k d h.
+        ⊎_elim
+        (λ below.
+        let inside : length old + k < length new = omega (arith, so_far.len) in
+        so_far.each k d below ∙ ap Ok (sym (get_or_append_left new (x ∷ []) d (length old + k) inside)))
+        (λ above.
+        let here : from + k ≡ to = omega arith in
+        let place : length new ≡ length old + k = omega (arith, so_far.len) in
+        ap outcome here ∙ is ∙ ap Ok (sym (get_or_push new x d (length old + k) place)))
+        (cases_lt (from + k) to);
+  }
+
+  -- no place that has given a value has a fault
+  pub IsOk-from_appended : (from to : ℕ) (old new : List T) → from ≤ to → AppendsValues outcome from to old new
+      → (k : ℕ) → from ≤ k → k < to → IsOk (outcome k)
+  IsOk-from_appended from to old new order all k low high =
+      let some : 0 < length new = omega (arith, all.len) in
+      let d = some_element new some in
+      let same : from + (k - from) ≡ k = omega arith in
+      let inside : from + (k - from) < to = omega arith in
+      let P : ℕ → Type 0 = λ n. IsOk (outcome n) in
+      subst P same (ok_from_equal (from + (k - from)) _ (all.each (k - from) d inside))
+
+  pub AreValuesFrom_none : (from : ℕ) → AreValuesFrom outcome from from []
+  AreValuesFrom_none from = record { len = omega arith; each = λ k d h. absurd (omega arith) }
+
+  -- values are put after values
+  pub AreValuesFrom-append : (from mid to : ℕ) (old new : List T) → AreValuesFrom outcome from mid old
+      → AreValuesFrom outcome mid to new → AreValuesFrom outcome from to (old ++ new)
+  AreValuesFrom-append from mid to old new first second = record {
+    len = omega (arith, length-append old new, first.len, second.len);
+    each = λ k d h.
+        ⊎_elim
+        (λ below. first.each k d below ∙ ap Ok (sym (get_or_append_left old new d k below)))
+        (λ above.
+        let inside : k - length old < length new = omega (arith, length-append old new) in
+        let same : mid + (k - length old) ≡ from + k = omega (arith, first.len) in
+        ap outcome (sym same) ∙ second.each (k - length old) d inside ∙ ap Ok (sym (get_or-append_right old new (length old) k d refl above)))
+        (cases_lt k (length old));
+  }
+
+  pub AreValuesFrom-from_appended : (from mid to : ℕ) (old new : List T) → mid ≤ to → AreValuesFrom outcome from mid old
+      → AppendsValues outcome mid to old new → AreValuesFrom outcome from to new
+  AreValuesFrom-from_appended from mid to old new order first second = record {
+    len = omega (arith, first.len, second.len);
+    each = λ k d h.
+        ⊎_elim
+        (λ below. first.each k d below ∙ ap Ok (sym (second.kept k d below)))
+        (λ above.
+        let inside : mid + (k - length old) < to = omega (arith, first.len, second.len) in
+        let same : mid + (k - length old) ≡ from + k = omega (arith, first.len) in
+        let place : length old + (k - length old) ≡ k = omega arith in
+        ap outcome (sym same) ∙ second.each (k - length old) d inside ∙ ap (λ n. Ok (get_or new n d)) place)
+        (cases_lt k (length old));
+  }
+
+  -- no place that has a value has a fault
+  pub IsOk-from_values : (from to : ℕ) (values : List T) → AreValuesFrom outcome from to values
+      → (k : ℕ) → from ≤ k → k < to → IsOk (outcome k)
+  IsOk-from_values from to values all k low high =
+      let some : 0 < length values = omega (arith, all.len) in
+      let d = some_element values some in
+      let same : from + (k - from) ≡ k = omega arith in
+      let inside : k - from < length values = omega (arith, all.len) in
+      let P : ℕ → Type 0 = λ n. IsOk (outcome n) in
+      subst P same (ok_from_equal (from + (k - from)) _ (all.each (k - from) d inside))
+
+  -- the first fault of a later stretch is that of the whole, where the places before it have values
+  pub IsStopFrom-wider : (from mid to end : ℕ) (values : List T) (stop : Stop) → from ≤ mid → to ≤ end → AreValuesFrom outcome from mid values
+      → IsStopFrom outcome mid to stop → IsStopFrom outcome from end stop
+  IsStopFrom-wider from mid to end values (FaultAt place fault) low high all first = record {
+    at_least = omega (arith, first.at_least);
+    below = omega (arith, first.below);
+    faulty = first.faulty;
+    earlier = λ k l h.
+        ⊎_elim
+        (λ below. IsOk-from_values from mid values all k l below)
+        (λ above. first.earlier k above h)
+        (cases_lt k mid);
+  }
+  IsStopFrom-wider from mid to end values Memory low high all first = tt
+
+  pub AreValues-from_zero : (count : ℕ) (values : List T) → AreValuesFrom outcome 0 count values → AreValues outcome count values
+  AreValues-from_zero count values all = record {
+    len = omega (arith, all.len);
+    each = λ place d h.
+        let inside : place < length values = omega (arith, all.len) in
+        let same : 0 + place ≡ place = omega arith in
+        ap outcome (sym same) ∙ all.each place d inside;
+  }
+
+  pub IsStopOf-from_zero : (count : ℕ) (stop : Stop) → IsStopFrom outcome 0 count stop → IsStopOf outcome count stop
+  IsStopOf-from_zero count (FaultAt place fault) first =
+      record { below = first.below; faulty = first.faulty; earlier = λ k h. first.earlier k (omega arith) h }
+  IsStopOf-from_zero count Memory first = tt
+
+-- what is known of a part that was read from the list of parts
+module _ {T Z : Type 0} (outcome : ℕ → Result T Fault) (bound : ℕ → ℕ) (n : ℕ) (parts : List (Result (Vec T Z) Stop))
+    (each : (t : ℕ) (d : Result (Vec T Z) Stop) → t < n → IsPart outcome (bound t) (bound (t + 1)) (get_or parts t d)) where
+  part_read : (k : ℕ) (part : Result (Vec T Z) Stop) → k < n → part ≡ get_or parts k part → IsPart outcome (bound k) (bound (k + 1)) part
+  part_read k part inside is =
+      let P : Result (Vec T Z) Stop → Type 0 = λ r. IsPart outcome (bound k) (bound (k + 1)) r in
+      subst P (sym is) (each k part inside)
+
+  pub values_read : (k : ℕ) (part : Result (Vec T Z) Stop) (v : Vec T Z) → k < n → part ≡ get_or parts k part → part ≡ Ok v
+      → AreValuesFrom outcome (bound k) (bound (k + 1)) v.items
+  values_read k part v inside is ok =
+      let P : Result (Vec T Z) Stop → Type 0 = λ r. IsPart outcome (bound k) (bound (k + 1)) r in
+      subst P ok (part_read k part inside is)
+
+  pub stop_read : (k : ℕ) (part : Result (Vec T Z) Stop) (stop : Stop) → k < n → part ≡ get_or parts k part → part ≡ Err stop
+      → IsStopFrom outcome (bound k) (bound (k + 1)) stop
+  stop_read k part stop inside is err =
+      let P : Result (Vec T Z) Stop → Type 0 = λ r. IsPart outcome (bound k) (bound (k + 1)) r in
+      subst P err (part_read k part inside is)

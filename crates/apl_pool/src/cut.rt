@@ -1,0 +1,18 @@
+//! How the places are cut into pieces.
+
+/// A cutting of places. Any answers give one: each is brought into `1..=rest`.
+pub trait Cut {
+    /// How many places the piece that begins at `start` has, where `rest` places are left from
+    /// there on. It may be asked more than once for a piece.
+    fn first(&self, start: usize, rest: usize) -> usize;
+}
+
+/// Each piece but the last has this length.
+#[derive(Clone, Copy, Debug, PartialEq, Eq)]
+pub struct Every(pub usize);
+
+impl Cut for Every {
+    fn first(&self, _start: usize, _rest: usize) -> usize {
+        self.0
+    }
+}

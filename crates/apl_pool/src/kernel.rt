@@ -1,0 +1,62 @@
+//! What is computed at each place, and why a pass may stop.
+ghost use Rattle.std.specs.Prelude.{◌≡◌, ℕ, ◌<◌, ◌≤◌, ◌^◌, Result};
+
+use std::alloc::AllocError;
+
+/// Why an element has no value.
+#[derive(Clone, Copy, Debug, PartialEq, Eq)]
+pub enum Fault {
+    /// A function isn't defined there.
+    Domain,
+    /// The exact value passes a limit.
+    Limit,
+    /// An index isn't one of the axis.
+    Index,
+}
+
+/// Why a pass over all places gave no values.
+#[derive(Clone, Copy, Debug, PartialEq, Eq)]
+pub enum Stop {
+    /// The least place that has a fault, and that fault.
+    Fault { place: u32, fault: Fault },
+    /// A growth was refused.
+    Memory,
+}
+
+impl From<AllocError> for Stop {
+    ghost use Rattle.std.specs.Prelude.{◌≡◌};
+    ghost use Rattle.apl_pool.specs.declared.kernel.Stop.TheVariants.{Memory};
+
+    ghost from_gives = { λ e r. r ≡ Memory };
+
+    fn from(_: AllocError) -> Self {
+        Stop::Memory
+    }
+}
+
+/// The most places that a kernel may have.
+pub const MOST_PLACES: usize = 1 << 30;
+
+/// A value or a fault at each place below a count. A kernel is lent to all workers.
+pub trait Kernel {
+    ghost use Rattle.apl_pool.specs.declared.kernel.Fault.{Fault};
+
+    /// What there is at a place without a fault.
+    type Out;
+
+    // How many places there are.
+    ghost place_count: { Self → ℕ };
+
+    // What there is at a place.
+    ghost outcome: { Self → ℕ → Result Self.Out Fault };
+
+    /// How many places there are.
+    fn count(&self) -> usize
+        ensures value { result ≡ place_count self.now }
+        ensures most { result ≤ MOST_PLACES };
+
+    /// What there is at a place: a function of the kernel and the place alone. It takes no memory.
+    fn at(&self, place: usize) -> Result<Self::Out, Fault>
+        requires { place < place_count self.now }
+        ensures { result ≡ outcome self.now place };
+}

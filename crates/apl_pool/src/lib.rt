@@ -1,0 +1,21 @@
+//! Work over the places of an array, cut into pieces and shared out to workers.
+//!
+//! What a pass over all places answers is what one worker answers who goes from place 0 upwards:
+//! the value at each place, or the least place that has a fault. Neither the number of workers
+//! nor the cutting is seen in it.
+#![tactic(auto)]
+
+mod cut;
+mod gate;
+mod kernel;
+mod parts;
+mod pool;
+mod shares;
+
+pub use cut::{Cut, Every};
+pub use gate::{Gate, Open};
+pub use kernel::{Fault, Kernel, MOST_PLACES, Stop};
+pub use pool::{MOST_WORKERS, Pool};
+
+#[cfg(test)]
+mod tests;
