@@ -1,14 +1,14 @@
 -- One more value, one more stretch of values, and the first fault among them.
-use Rattle.std.proofs.Common.{◌≡◌, ℕ, ◌+◌, ◌-◌, ◌<◌, ◌≤◌, List, [], ◌∷◌, ◌++◌, length, get_or, Result, Ok, Err, refl, zero, suc, add-zero, sym, ap, ◌∙◌, subst, ⊎_elim, arith, length-append}
-use Rattle.std.specs.Prelude.{IsOk, slice_index}
+use Rattle.std.proofs.Common.{◌≡◌, ℕ, ◌+◌, ◌-◌, ◌<◌, ◌≤◌, List, [], ◌∷◌, ◌++◌, length, get_or, Result, Ok, Err, refl, sym, ap, ◌∙◌, subst, ⊎_elim, arith, length-append}
+use Rattle.std.specs.Prelude.{IsOk}
 use Rattle.std.specs.declared.vec.Vec.{Vec}
 use Rattle.std.proofs.lemmas.List.{length_push, get_or_push, get_or_append_left, get_or-append_right}
 use Rattle.std.proofs.lemmas.Bool.{cases_lt}
 use Rattle.apl_pool.specs.declared.kernel.Fault.{Fault}
 use Rattle.apl_pool.specs.declared.kernel.Stop.{Stop}
 use Rattle.apl_pool.specs.declared.kernel.Stop.TheVariants.{Fault as FaultAt, Memory}
-use Rattle.apl_pool.specs.Pool.{AreValues, IsLeastFault, IsStopOf}
-use Rattle.apl_pool.specs.Parts.{AppendsValues, AreValuesFrom, IsFirstFault, IsStopFrom, IsPart}
+use Rattle.apl_pool.specs.Pool.{AreValues, IsStopOf}
+use Rattle.apl_pool.specs.Parts.{AppendsValues, AreValuesFrom, IsStopFrom, IsPart}
 
 some_element : {T : Type 0} → (xs : List T) → 0 < length xs → T
 some_element [] h = absurd (omega arith)
