@@ -3,8 +3,8 @@ use Rattle.std.proofs.Common.{◌≡◌, ℕ, ◌+◌, ◌-◌, ◌≤◌, List,
 use lib.Utf8.{encode}
 use Rattle.std.proofs.lemmas.List.{take-replicate, replicate-append-replicate}
 use Rattle.apl_print.specs.declared.reports.Report.{Report}
-use Rattle.apl_print.specs.Text.{blank, blanks, line_feed, indent, caret}
-use Rattle.apl_print.specs.Reported.{ended, caret_line, report_name, reported}
+use Rattle.apl_print.specs.Text.{blank, blanks, line_feed, indent, caret, ended}
+use Rattle.apl_print.specs.Reported.{caret_line, report_name, reported}
 
 -- one more slice of a run of blanks
 pub blanks_more : (count rest n : ℕ) → n ≤ 64 → n ≤ rest → rest ≤ count → blanks (count - rest) ++ take n (blanks 64) ≡ blanks (count - (rest - n))

@@ -1,8 +1,8 @@
 -- The text of a report, in bytes: its name, the line, and a caret below a column of the line.
-use Rattle.std.specs.Prelude.{ℕ, List, [], ◌∷◌, ◌++◌, Option, Some, None, codes, encode_utf8}
+use Rattle.std.specs.Prelude.{ℕ, List, [], ◌++◌, Option, Some, None, codes, encode_utf8}
 use Rattle.apl_print.specs.declared.reports.Report.{Report}
 use Rattle.apl_print.specs.declared.reports.Report.TheVariants.{Syntax, Value, Index, Rank, Length, Domain, Limit, Character, WsFull}
-use Rattle.apl_print.specs.Text.{line_feed, blanks, indent, caret}
+use Rattle.apl_print.specs.Text.{blanks, indent, caret, ended}
 
 abbrev pub report_name : Report → List ℕ
 report_name Syntax = codes "SYNTAX ERROR"
@@ -14,10 +14,6 @@ report_name Domain = codes "DOMAIN ERROR"
 report_name Limit = codes "LIMIT ERROR"
 report_name Character = codes "CHARACTER ERROR"
 report_name WsFull = codes "WS FULL"
-
--- a text as a line
-abbrev pub ended : List ℕ → List ℕ
-ended text = text ++ line_feed ∷ []
 
 -- the caret's line: as many blanks as the column, and the caret
 abbrev pub caret_line : Option ℕ → List ℕ

@@ -1,5 +1,5 @@
 -- Characters that printed texts are made of.
-use Rattle.std.specs.Prelude.{ℕ, List, replicate}
+use Rattle.std.specs.Prelude.{ℕ, List, [], ◌∷◌, ◌++◌, replicate}
 
 abbrev pub blank : ℕ
 blank = 32
@@ -18,6 +18,10 @@ caret = 0x2227
 abbrev pub blanks : ℕ → List ℕ
 blanks n = replicate n blank
 
--- the blanks before a line that goes on, and before the lines of a report
+-- the blanks before a continuation line, and before the lines of a report
 abbrev pub indent : ℕ
 indent = 6
+
+-- a text as a line
+abbrev pub ended : List ℕ → List ℕ
+ended text = text ++ line_feed ∷ []

@@ -4,14 +4,17 @@
 mod memory;
 mod reporting;
 mod reports;
+mod rows;
 mod sinks;
 mod streams;
+mod values;
 
 pub use memory::MemorySink;
 pub use reporting::report;
 pub use reports::Report;
 pub use sinks::{Sink, SinkFault, put_all};
 pub use streams::Out;
+pub use values::{print, shown_once};
 
 #[cfg(test)]
 mod tests;

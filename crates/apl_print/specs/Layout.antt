@@ -1,0 +1,31 @@
+-- How the printer lays out a row, field by field. Only the contracts of its own functions cite this: what is printed is said by `Row` and `Shown`.
+use Rattle.std.specs.Prelude.{ℕ, ◌+◌, ◌-◌, List, [], ◌∷◌, ◌++◌, Option, Some, None, length, take, drop, map, replicate, nat_le, if◌then◌else◌}
+use Rattle.apl_print.specs.Text.{line_feed, blanks, indent}
+use Rattle.apl_array.specs.Array.{ArrayValue}
+use Rattle.apl_print.specs.Shown.{field_of, empty_lines}
+
+-- what stands before a field of so many characters: nothing at the start of its row, the gap where it fits on the open line, and
+-- else a new line's blanks
+abbrev pub lead : ℕ → ℕ → Option ℕ → ℕ → List ℕ
+lead width gap None n = []
+lead width gap (Some column) n = if nat_le (column + gap + n) width then blanks gap else line_feed ∷ blanks indent
+
+-- how many characters the open line has after that field
+abbrev pub column_after : ℕ → ℕ → Option ℕ → ℕ → ℕ
+column_after width gap None n = n
+column_after width gap (Some column) n = if nat_le (column + gap + n) width then column + gap + n else indent + n
+
+-- the rest of a row, where the open line has so many characters, or the row has not begun
+abbrev pub laid : ℕ → ℕ → Option ℕ → List (List ℕ) → List ℕ
+laid width gap column [] = line_feed ∷ []
+laid width gap column (field ∷ fields) = lead width gap column (length field)
+    ++ (field ++ laid width gap (Some (column_after width gap column (length field))) fields)
+
+-- the rows from row r on
+abbrev pub rows_laid : ℕ → ℕ → List ℕ → ℕ → List (List (List ℕ)) → List ℕ
+rows_laid width gap shape r [] = []
+rows_laid width gap shape r (row ∷ rows) = replicate (empty_lines shape r) line_feed ++ (laid width gap None row ++ rows_laid width gap shape (r + 1) rows)
+
+-- the fields of the elements from one place up to another
+abbrev pub fields_between : ArrayValue → ℕ → ℕ → List (List ℕ)
+fields_between a start end = take (end - start) (drop start (map field_of a.ravel))

@@ -1,0 +1,116 @@
+//! The texts of reports.
+use crate::{MemorySink, Report, SinkFault, report};
+use std::alloc::Global;
+use std::test::Fail;
+
+/// What a report puts into a sink that takes a few bytes a call.
+fn reported(
+    alloc: Global,
+    report_kind: Report,
+    line: &str,
+    column: Option<usize>,
+) -> Result<MemorySink, SinkFault> {
+    let mut sink = MemorySink::new(alloc, 5, None);
+    report(&mut sink, report_kind, line.as_bytes(), column)?;
+    Ok(sink)
+}
+
+#[test]
+fn reports(rt: HostRuntime) -> Result<(), Fail> {
+    let cases = [
+        (
+            Report::Limit,
+            "+/¯1 1 9223372036854775807",
+            Some(1),
+            "LIMIT ERROR\n      +/¯1 1 9223372036854775807\n       ∧\n",
+        ),
+        (
+            Report::Character,
+            "2",
+            Some(1),
+            "CHARACTER ERROR\n      2\n       ∧\n",
+        ),
+        (
+            Report::Character,
+            "A",
+            Some(1),
+            "CHARACTER ERROR\n      A\n       ∧\n",
+        ),
+        (
+            Report::Length,
+            "  1 2+1 2 3 ⍝ x ",
+            Some(5),
+            "LENGTH ERROR\n        1 2+1 2 3 ⍝ x \n           ∧\n",
+        ),
+        (
+            Report::WsFull,
+            "A←⍳100000",
+            None,
+            "WS FULL\n      A←⍳100000\n",
+        ),
+        (
+            Report::Syntax,
+            "3+",
+            Some(1),
+            "SYNTAX ERROR\n      3+\n       ∧\n",
+        ),
+        (
+            Report::Value,
+            "B",
+            Some(0),
+            "VALUE ERROR\n      B\n      ∧\n",
+        ),
+        (
+            Report::Index,
+            "A[3;1]",
+            Some(1),
+            "INDEX ERROR\n      A[3;1]\n       ∧\n",
+        ),
+        (
+            Report::Rank,
+            "(⍳3)[1;1]",
+            Some(4),
+            "RANK ERROR\n      (⍳3)[1;1]\n          ∧\n",
+        ),
+        (
+            Report::Domain,
+            "B←5+÷0×C←4",
+            Some(4),
+            "DOMAIN ERROR\n      B←5+÷0×C←4\n          ∧\n",
+        ),
+    ];
+    for (report_kind, line, column, wanted) in cases {
+        let sink = reported(rt.alloc(), report_kind, line, column)?;
+        assert_eq!(rt; sink.bytes(), wanted.as_bytes(), "{line}");
+    }
+    Ok(())
+}
+
+#[test]
+fn report_far_along_a_line(rt: HostRuntime) -> Result<(), Fail> {
+    for column in [63, 64, 65, 128, 1000] {
+        let sink = reported(rt.alloc(), Report::Domain, "", Some(column))?;
+        assert_eq!(rt;
+            sink.bytes().len(),
+            "DOMAIN ERROR\n      \n      ∧\n".len() + column
+        );
+        assert_eq!(rt;
+            sink.bytes().iter().filter(|byte| **byte == b' ').count(),
+            13 + column
+        );
+        assert!(rt; sink.bytes().ends_with("∧\n".as_bytes()));
+    }
+    Ok(())
+}
+
+#[test]
+fn report_to_a_sink_that_fails(rt: HostRuntime) -> Result<(), Fail> {
+    let wanted = "VALUE ERROR\n      B\n       ∧\n".as_bytes();
+    for fail_at in 1..7 {
+        let mut sink = MemorySink::new(rt.alloc(), 20, Some(fail_at));
+        let outcome = report(&mut sink, Report::Value, b"B", Some(1));
+        assert_eq!(rt; outcome.is_ok(), fail_at == 6, "call {fail_at}");
+        assert!(rt; wanted.starts_with(sink.bytes()));
+    }
+    Ok(())
+}

@@ -1,0 +1,34 @@
+//! Printed values.
+ghost use Rattle.std.specs.Prelude.{◌≡◌, ℕ, ◌<◌, ◌≤◌, List, IfOk, string_bytes, encode_utf8_all, length};
+ghost use Rattle.apl_array.specs.Array.{ArrayValue, IsArray};
+ghost use Rattle.apl_print.specs.Shown.{IsShown};
+
+use super::rows::{Layout, put_rows};
+use apl_array::Array;
+use std::alloc::{AllocError, Global};
+
+/// The text of an array on lines of at most `width` characters, each ended by a line feed.
+///
+/// A scalar is one line, and a vector is a row of fields: a field is a number's digits or a character. Numbers have a blank between
+/// them. A field that does not fit begins a continuation line after six blanks. An array of rank 2 and above is its rows, in columns
+/// that are as wide as their widest field over the whole array, with empty lines between its planes; without elements it is no line.
+pub fn print(alloc: Global, array: &Array, width: u8) -> Result<String, AllocError>
+    requires low { 30 ≤ width }
+    requires high { width ≤ 130 }
+    ensures shown { IfOk result (λ text. (characters : List ℕ) × IsShown array.now width characters × (string_bytes text ≡ encode_utf8_all characters)) }
+{
+    let layout = Layout::new(width, array.kind());
+    let count = array.shape().count();
+    let mut text = String::with_capacity(alloc, layout.least_length(count))?;
+    if array.shape().rank() <= 1 {
+        layout.put_row(&mut text, array, 0, count, &[])?;
+    } else if count > 0 {
+        put_rows(alloc, &mut text, layout, array)?;
+    }
+    Ok(text)
+}
+
+/// The law that an array has one text at a width.
+pub fn shown_once()
+    ensures { (a : ArrayValue) (width : ℕ) (s t : List ℕ) → IsShown a width s → IsShown a width t → s ≡ t }
+{}
