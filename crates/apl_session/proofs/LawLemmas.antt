@@ -49,8 +49,7 @@ module _ {W : Type 0} (semantics : Semantics W) where
   some_defined_run_lem total state [] = ([], tt)
   some_defined_run_lem total state (line ∷ lines) =
       let first = total state (without_return line) in
-      let later = some_defined_run_lem total first.0.after lines in
-      (
+      let later = some_defined_run_lem total first.0.after lines in (
         first.0 ∷ (if first.0.ends then [] else later.0),
         (first.1, after_answer first.0.ends later.0 (IsDefinedRun semantics first.0.after lines) later.1),
       )

@@ -13,7 +13,7 @@ use Rattle.apl_session.specs.Lines.{lines_of, IsUnbroken}
 use Rattle.apl_session.specs.Run.{Answer, Semantics, IsAnswer, IsRun, text_of}
 use Rattle.apl_session.specs.LineAnswer.{IsLineAnswered}
 use Rattle.apl_session.specs.Outcome.{IsSourceText, AnswersAll, AnswersFront, AnswersLines}
-use Rattle.apl_session.specs.Progress.{Leads, IsUnheld, Progress, IsPieceAnswered}
+use Rattle.apl_session.specs.Progress.{Leads, IsUnheld, Progress, IsBlockAnswered}
 use Rattle.apl_session.specs.declared.interpreter.Next.{Next}
 use Rattle.apl_session.specs.declared.interpreter.Next.TheVariants.{Go, End}
 use Rattle.apl_session.specs.declared.interpreter.RunFault.{RunFault}
@@ -211,35 +211,35 @@ module _ {W : Type 0} (semantics : Semantics W) where
     written = Appends-nil known;
   }
 
-  -- ---- a line that begins with what is held and ends in a piece
+  -- ---- a line that begins with what is held and ends in a block
 
   joined : (held rest line after more : List ℕ) → rest ≡ line ++ line_feed ∷ after → (held ++ rest) ++ more ≡ (held ++ line) ++ line_feed ∷ (after ++ more)
   joined held rest line after more is = rw is (simp append_assoc)
 
-  -- what follows a line is shorter than the piece
+  -- what follows a line is shorter than the block
   pub few_after : (rest line after : List ℕ) (most : ℕ) → rest ≡ line ++ line_feed ∷ after → length rest ≤ most → length after ≤ most
   few_after rest line after most is few = omega (arith, length-append {A = ℕ}, ap length is)
 
-  pub piece_goes_on : (state mid last : W) (bytes held rest line after : List ℕ) (a b c : Option (List ℕ)) → rest ≡ line ++ line_feed ∷ after
+  pub block_goes_on : (state mid last : W) (bytes held rest line after : List ℕ) (a b c : Option (List ℕ)) → rest ≡ line ++ line_feed ∷ after
       → IsUnbroken (held ++ line) → Progress semantics state mid bytes (held ++ rest) a b
       → IsLineAnswered semantics mid last (held ++ line) b c (Ok Go) → Progress semantics state last bytes after a c
-  piece_goes_on state mid last bytes held rest line after a b c is unbroken first line_is =
+  block_goes_on state mid last bytes held rest line after a b c is unbroken first line_is =
       let place : held ++ rest ≡ (held ++ line) ++ line_feed ∷ after = sym (append-nil (held ++ rest)) ∙ joined held rest line after [] is ∙ ap (λ after. (held ++ line) ++ line_feed ∷ after) (append-nil after) in
       Progress-trans state mid last bytes ((held ++ line) ++ line_feed ∷ after) after a b c (subst (λ rest. Progress semantics state mid bytes rest a b) place first)
       (Progress-line mid last (held ++ line) after b c unbroken line_is)
 
-  pub piece_ends : (state mid last : W) (bytes held rest line after : List ℕ) (a b c : Option (List ℕ)) → rest ≡ line ++ line_feed ∷ after
+  pub block_ends : (state mid last : W) (bytes held rest line after : List ℕ) (a b c : Option (List ℕ)) → rest ≡ line ++ line_feed ∷ after
       → IsUnbroken (held ++ line) → Progress semantics state mid bytes (held ++ rest) a b
       → IsLineAnswered semantics mid last (held ++ line) b c (Ok End) → (more : List ℕ) → AnswersAll semantics state (Some (bytes ++ more)) a c
-  piece_ends state mid last bytes held rest line after a b c is unbroken first line_is more =
+  block_ends state mid last bytes held rest line after a b c is unbroken first line_is more =
       all_after state mid (bytes ++ more) ((held ++ line) ++ line_feed ∷ (after ++ more)) a b c
       (subst (λ rest. Progress semantics state mid (bytes ++ more) rest a b) (joined held rest line after more is) (Progress-more state mid bytes (held ++ rest) more a b first))
       (all_at_end mid last (held ++ line) (after ++ more) b c unbroken line_is)
 
-  pub piece_is_cut : (state mid last : W) (bytes held rest line after : List ℕ) (a b c : Option (List ℕ)) → rest ≡ line ++ line_feed ∷ after
+  pub block_is_cut : (state mid last : W) (bytes held rest line after : List ℕ) (a b c : Option (List ℕ)) → rest ≡ line ++ line_feed ∷ after
       → IsUnbroken (held ++ line) → Progress semantics state mid bytes (held ++ rest) a b
       → IsLineAnswered semantics mid last (held ++ line) b c (Err Write) → (more : List ℕ) → AnswersFront semantics state (Some (bytes ++ more)) a c
-  piece_is_cut state mid last bytes held rest line after a b c is unbroken first line_is more =
+  block_is_cut state mid last bytes held rest line after a b c is unbroken first line_is more =
       front_after state mid (bytes ++ more) ((held ++ line) ++ line_feed ∷ (after ++ more)) a b c
       (subst (λ rest. Progress semantics state mid (bytes ++ more) rest a b) (joined held rest line after more is) (Progress-more state mid bytes (held ++ rest) more a b first))
       (front_at_fault mid last (held ++ line) (after ++ more) b c unbroken line_is)
@@ -262,21 +262,21 @@ module _ {W : Type 0} (semantics : Semantics W) where
     few = omega (arith, length-append {A = ℕ}, ap length is);
   }
 
-  -- the line's fault is the piece's
-  pub piece_fails : (fault : RunFault) (state mid last : W) (most : ℕ) (bytes held rest line after left : List ℕ) (a b c : Option (List ℕ)) → rest ≡ line ++ line_feed ∷ after
+  -- the line's fault is the block's
+  pub block_fails : (fault : RunFault) (state mid last : W) (most : ℕ) (bytes held rest line after left : List ℕ) (a b c : Option (List ℕ)) → rest ≡ line ++ line_feed ∷ after
       → IsUnbroken (held ++ line) → length rest ≤ most → Progress semantics state mid bytes (held ++ rest) a b
       → (◌≢◌ {A = Result Next RunFault} (Err fault) (Err Memory) → IsLineAnswered semantics mid last (held ++ line) b c (Err fault))
       → (◌≡◌ {A = Result Next RunFault} (Err fault) (Err Memory) → (last ≡ mid) × (c ≡ b) × (0 < length held))
-      → IsPieceAnswered semantics state last most bytes left a c (Err fault)
-  piece_fails Read state mid last most bytes held rest line after left a b c is unbroken few first answered memory = answered (λ e. cc)
-  piece_fails Write state mid last most bytes held rest line after left a b c is unbroken few first answered memory =
-      piece_is_cut state mid last bytes held rest line after a b c is unbroken first (answered (λ e. cc))
-  piece_fails Memory state mid last most bytes held rest line after left a b c is unbroken few first answered memory =
+      → IsBlockAnswered semantics state last most bytes left a c (Err fault)
+  block_fails Read state mid last most bytes held rest line after left a b c is unbroken few first answered memory = answered (λ e. cc)
+  block_fails Write state mid last most bytes held rest line after left a b c is unbroken few first answered memory =
+      block_is_cut state mid last bytes held rest line after a b c is unbroken first (answered (λ e. cc))
+  block_fails Memory state mid last most bytes held rest line after left a b c is unbroken few first answered memory =
       let same = memory refl in
       let far = subst (λ known. Progress semantics state mid bytes (held ++ rest) a known) (sym same.1) first in
       (held ++ rest, subst (λ now. Progress semantics state now bytes (held ++ rest) a c) (sym same.0) far, unheld most held rest line after is unbroken same.2 few)
 
-  -- the end of the piece could not be held
+  -- the end of the block could not be held
   pub end_unheld : (state mid : W) (most : ℕ) (bytes held rest : List ℕ) (a b : Option (List ℕ)) → IsUnbroken held → IsUnbroken rest → 0 < length rest
       → Progress semantics state mid bytes (held ++ rest) a b → (left : List ℕ) × Progress semantics state mid bytes left a b × IsUnheld most left
   end_unheld state mid most bytes held rest a b unbroken_held unbroken some first = (

@@ -21,54 +21,54 @@ nothing_more known before after given room n none gave gives =
     subst (Consumes known after) same all
 
 -- what could not be held, and after it what the source still has
-begins_unheld : (piece most : ℕ) (rest : List ℕ) (after : Option (List ℕ)) → piece ≤ most → IsUnheld piece rest → BeginsUnheld most after (rest ++ left_of after)
-begins_unheld piece most rest after within is = record {
+begins_unheld : (block most : ℕ) (rest : List ℕ) (after : Option (List ℕ)) → block ≤ most → IsUnheld block rest → BeginsUnheld most after (rest ++ left_of after)
+begins_unheld block most rest after within is = record {
   front = is.front;
   more = is.more;
   still = left_of after;
   is_bytes = ap (λ rest. rest ++ left_of after) is.is_bytes ∙ append_assoc is.front is.more (left_of after);
   some = is.some;
   unbroken = is.unbroken;
-  few = let few : length is.more ≤ piece = is.few in omega arith;
+  few = let few : length is.more ≤ block = is.few in omega arith;
   is_source = IsSourceText-left after;
 }
 
 module _ {W : Type 0} (semantics : Semantics W) where
-  pub takes_more : (state mid last : W) (known before after : Option (List ℕ)) (given held piece left : List ℕ) (a b c : Option (List ℕ))
-      → Consumes known before given → Consumes before after piece → Progress semantics state mid given held a b → Progress semantics mid last (held ++ piece) left b c
+  pub takes_more : (state mid last : W) (known before after : Option (List ℕ)) (given held block left : List ℕ) (a b c : Option (List ℕ))
+      → Consumes known before given → Consumes before after block → Progress semantics state mid given held a b → Progress semantics mid last (held ++ block) left b c
       → (bytes : List ℕ) × Consumes known after bytes × Progress semantics state last bytes left a c
-  takes_more state mid last known before after given held piece left a b c gave gives first second = (
-    given ++ piece,
-    Consumes-trans known before after given piece gave gives,
-    Progress-trans semantics state mid last (given ++ piece) (held ++ piece) left a b c (Progress-more semantics state mid given held piece a b first) second,
+  takes_more state mid last known before after given held block left a b c gave gives first second = (
+    given ++ block,
+    Consumes-trans known before after given block gave gives,
+    Progress-trans semantics state mid last (given ++ block) (held ++ block) left a b c (Progress-more semantics state mid given held block a b first) second,
   )
 
-  pub ends_within : (state mid : W) (known before after : Option (List ℕ)) (given held piece : List ℕ) (a b c : Option (List ℕ))
-      → Consumes known before given → Consumes before after piece → Progress semantics state mid given held a b
-      → ((more : List ℕ) → AnswersAll semantics mid (Some ((held ++ piece) ++ more)) b c) → AnswersAll semantics state known a c
-  ends_within state mid known before after given held piece a b c gave gives first second =
+  pub ends_within : (state mid : W) (known before after : Option (List ℕ)) (given held block : List ℕ) (a b c : Option (List ℕ))
+      → Consumes known before given → Consumes before after block → Progress semantics state mid given held a b
+      → ((more : List ℕ) → AnswersAll semantics mid (Some ((held ++ block) ++ more)) b c) → AnswersAll semantics state known a c
+  ends_within state mid known before after given held block a b c gave gives first second =
       let more = left_of after in
-      AnswersAll-source semantics state ((given ++ piece) ++ more) known a c (IsSourceText-given known after (given ++ piece) (Consumes-trans known before after given piece gave gives))
-      (all_after semantics state mid ((given ++ piece) ++ more) ((held ++ piece) ++ more) a b c
-      (Progress-more semantics state mid (given ++ piece) (held ++ piece) more a b (Progress-more semantics state mid given held piece a b first)) (second more))
+      AnswersAll-source semantics state ((given ++ block) ++ more) known a c (IsSourceText-given known after (given ++ block) (Consumes-trans known before after given block gave gives))
+      (all_after semantics state mid ((given ++ block) ++ more) ((held ++ block) ++ more) a b c
+      (Progress-more semantics state mid (given ++ block) (held ++ block) more a b (Progress-more semantics state mid given held block a b first)) (second more))
 
-  pub cut_within : (state mid : W) (known before after : Option (List ℕ)) (given held piece : List ℕ) (a b c : Option (List ℕ))
-      → Consumes known before given → Consumes before after piece → Progress semantics state mid given held a b
-      → ((more : List ℕ) → AnswersFront semantics mid (Some ((held ++ piece) ++ more)) b c) → AnswersFront semantics state known a c
-  cut_within state mid known before after given held piece a b c gave gives first second =
+  pub cut_within : (state mid : W) (known before after : Option (List ℕ)) (given held block : List ℕ) (a b c : Option (List ℕ))
+      → Consumes known before given → Consumes before after block → Progress semantics state mid given held a b
+      → ((more : List ℕ) → AnswersFront semantics mid (Some ((held ++ block) ++ more)) b c) → AnswersFront semantics state known a c
+  cut_within state mid known before after given held block a b c gave gives first second =
       let more = left_of after in
-      AnswersFront-source semantics state ((given ++ piece) ++ more) known a c (IsSourceText-given known after (given ++ piece) (Consumes-trans known before after given piece gave gives))
-      (front_after semantics state mid ((given ++ piece) ++ more) ((held ++ piece) ++ more) a b c
-      (Progress-more semantics state mid (given ++ piece) (held ++ piece) more a b (Progress-more semantics state mid given held piece a b first)) (second more))
+      AnswersFront-source semantics state ((given ++ block) ++ more) known a c (IsSourceText-given known after (given ++ block) (Consumes-trans known before after given block gave gives))
+      (front_after semantics state mid ((given ++ block) ++ more) ((held ++ block) ++ more) a b c
+      (Progress-more semantics state mid (given ++ block) (held ++ block) more a b (Progress-more semantics state mid given held block a b first)) (second more))
 
-  pub memory_within : (state mid last : W) (most : ℕ) (known before after : Option (List ℕ)) (given held piece : List ℕ) (a b c : Option (List ℕ))
-      → Consumes known before given → Consumes before after piece → Progress semantics state mid given held a b
-      → ((rest : List ℕ) × Progress semantics mid last (held ++ piece) rest b c × IsUnheld (length piece) rest) → length piece ≤ most
+  pub memory_within : (state mid last : W) (most : ℕ) (known before after : Option (List ℕ)) (given held block : List ℕ) (a b c : Option (List ℕ))
+      → Consumes known before given → Consumes before after block → Progress semantics state mid given held a b
+      → ((rest : List ℕ) × Progress semantics mid last (held ++ block) rest b c × IsUnheld (length block) rest) → length block ≤ most
       → AnswersLines semantics state known a c (BeginsUnheld most after)
-  memory_within state mid last most known before after given held piece a b c gave gives first second within =
-      let whole = takes_more state mid last known before after given held piece second.0 a b c gave gives first second.1 in
+  memory_within state mid last most known before after given held block a b c gave gives first second within =
+      let whole = takes_more state mid last known before after given held block second.0 a b c gave gives first second.1 in
       AnswersLines-source semantics state last whole.0 second.0 (left_of after) known a c (BeginsUnheld most after) (IsSourceText-given known after whole.0 whole.1) whole.2
-      (begins_unheld (length piece) most second.0 after within second.2)
+      (begins_unheld (length block) most second.0 after within second.2)
 
   pub read_fails : (state mid : W) (known before after : Option (List ℕ)) (given held : List ℕ) (a b : Option (List ℕ))
       → Consumes known before given → Keeps before after → IsUnbroken held → Progress semantics state mid given held a b

@@ -37,12 +37,12 @@ module _ {W : Type 0} (semantics : Semantics W) where
     pub leads : Leads semantics state lines answers now
     pub written : Appends old new (text_of answers)
 
-  -- What a piece of the text does, of at most so many bytes: bytes is what was held before and the piece, and held what is
+  -- What a block of the text does, of at most so many bytes: bytes is what was held before and the block, and held what is
   -- held after.
-  abbrev pub IsPieceAnswered : W → W → ℕ → List ℕ → List ℕ → Option (List ℕ) → Option (List ℕ) → Result Next RunFault → Type 0
-  IsPieceAnswered state now most bytes held old new (Ok Go) = Progress state now bytes held old new × IsUnbroken held
+  abbrev pub IsBlockAnswered : W → W → ℕ → List ℕ → List ℕ → Option (List ℕ) → Option (List ℕ) → Result Next RunFault → Type 0
+  IsBlockAnswered state now most bytes held old new (Ok Go) = Progress state now bytes held old new × IsUnbroken held
   -- whatever follows, the whole run was written
-  IsPieceAnswered state now most bytes held old new (Ok End) = (more : List ℕ) → AnswersAll semantics state (Some (bytes ++ more)) old new
-  IsPieceAnswered state now most bytes held old new (Err Write) = (more : List ℕ) → AnswersFront semantics state (Some (bytes ++ more)) old new
-  IsPieceAnswered state now most bytes held old new (Err Memory) = (rest : List ℕ) × Progress state now bytes rest old new × IsUnheld most rest
-  IsPieceAnswered state now most bytes held old new (Err Read) = ⊥
+  IsBlockAnswered state now most bytes held old new (Ok End) = (more : List ℕ) → AnswersAll semantics state (Some (bytes ++ more)) old new
+  IsBlockAnswered state now most bytes held old new (Err Write) = (more : List ℕ) → AnswersFront semantics state (Some (bytes ++ more)) old new
+  IsBlockAnswered state now most bytes held old new (Err Memory) = (rest : List ℕ) × Progress state now bytes rest old new × IsUnheld most rest
+  IsBlockAnswered state now most bytes held old new (Err Read) = ⊥

@@ -4,7 +4,7 @@ ghost use Rattle.apl_print.specs.Failures.{one_more};
 ghost use Rattle.apl_session.specs.Lines.{IsUnbroken};
 ghost use Rattle.apl_session.specs.LineAnswer.{IsLineAnswered};
 ghost use Rattle.apl_session.specs.Outcome.{AnswersAll, AnswersFront, AnswersLines, BeginsUnbroken, BeginsUnheld};
-ghost use Rattle.apl_session.specs.Progress.{IsPieceAnswered};
+ghost use Rattle.apl_session.specs.Progress.{IsBlockAnswered};
 
 use super::interpreter::{Interpreter, Next, RunFault};
 use super::lines::split_line;
@@ -40,20 +40,20 @@ fn answer_line<I: Interpreter, S: Sink>(
     Ok(next)
 }
 
-/// Answers the lines that a piece of the text completes, and holds what is left of it.
-fn answer_piece<I: Interpreter, S: Sink>(
+/// Answers the lines that a block of the text completes, and holds what is left of it.
+fn answer_block<I: Interpreter, S: Sink>(
     interpreter: &mut I,
     held: &mut Vec<u8>,
-    piece: &[u8],
+    block: &[u8],
     sink: &mut S,
 ) -> Result<Next, RunFault>
     requires { IsUnbroken held.old.items }
-    ensures outcome { IsPieceAnswered I.semantics interpreter.old interpreter.new (length piece.now)
-        (held.old.items ++ piece.now) held.new.items (S.taken sink.old) (S.taken sink.new) result }
+    ensures outcome { IsBlockAnswered I.semantics interpreter.old interpreter.new (length block.now)
+        (held.old.items ++ block.now) held.new.items (S.taken sink.old) (S.taken sink.new) result }
     ensures sound { result ≢ Err RunFault.Write → S.failures sink.new ≡ S.failures sink.old }
     ensures failed { result ≡ Err RunFault.Write → S.failures sink.new ≡ one_more (S.failures sink.old) }
 {
-    let mut rest = piece;
+    let mut rest = block;
     'lines: while let Some((line, after)) = split_line(rest) {
         match answer_line(interpreter, held, line, sink) {
             Ok(Next::Go) => rest = after,
@@ -107,7 +107,7 @@ pub(crate) fn run_with<I: Interpreter, R: Source, S: Sink>(
         if n == 0 {
             break;
         }
-        match answer_piece(interpreter, &mut held, &room[..n], sink) {
+        match answer_block(interpreter, &mut held, &room[..n], sink) {
             Ok(Next::Go) => {}
             Ok(Next::End) => return Ok(()),
             Err(fault) => return Err(fault),

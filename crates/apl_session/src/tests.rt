@@ -173,3 +173,16 @@ fn fails_at_the_chosen_call_alone(rt: HostRuntime) -> Result<(), Fail> {
     assert_eq!(rt; source.take(&mut room), Ok(0));
     Ok(())
 }
+
+#[test]
+fn tells_why_a_run_stopped(rt: HostRuntime) -> Result<(), Fail> {
+    let rows = [
+        (RunFault::Read, "the source failed"),
+        (RunFault::Write, "the sink failed"),
+        (RunFault::Memory, "no memory for a line"),
+    ];
+    for (fault, words) in rows {
+        assert_eq!(rt; format!(in rt.alloc(); "{fault}")?.as_str(), words);
+    }
+    Ok(())
+}

@@ -30,12 +30,12 @@ pub takes-preserved : goal.takes-preserved
 takes-preserved g c =
     let given = c.takes.invariant.given in
     let outcome = rw c.in-Ok-Go.field-0-is at c.in-Ok-Go.ensures.outcome in
-    let other : c.answer_piece.result ≡ Err Write → ⊥ = λ e. let both = sym c.in-Ok-Go.is ∙ e in cc in
+    let other : c.answer_block.result ≡ Err Write → ⊥ = λ e. let both = sym c.in-Ok-Go.is ∙ e in cc in
     record {
       given = takes_more g.I.Interpreter.semantics _ _ _ _ _ _ given.0 c.takes.held.items _ _ _ _ _ given.1 c.in-Ok.ensures.bytes given.2 outcome.0;
       unbroken = outcome.1;
       source_sound = c.in-Ok.ensures.failures ∙ c.takes.invariant.source_sound;
-      sink_sound = c.answer_piece.ensures.sound other ∙ c.takes.invariant.sink_sound;
+      sink_sound = c.answer_block.ensures.sound other ∙ c.takes.invariant.sink_sound;
     }
 
 pub returns-in-Ok-End-clause-ok : goal.returns-in-Ok-End-clause-ok
@@ -44,18 +44,18 @@ returns-in-Ok-End-clause-ok g c =
     let outcome = rw c.in-Ok-End.field-0-is at c.in-Ok-End.ensures.outcome in
     ends_within g.I.Interpreter.semantics _ _ _ _ _ given.0 c.takes.held.items _ _ _ _ given.1 c.in-Ok.ensures.bytes given.2 outcome
 
-pub returns-in-Err-answer_piece-clause-write : goal.returns-in-Err-answer_piece-clause-write
-returns-in-Err-answer_piece-clause-write g c e =
+pub returns-in-Err-answer_block-clause-write : goal.returns-in-Err-answer_block-clause-write
+returns-in-Err-answer_block-clause-write g c e =
     let given = c.takes.invariant.given in
-    let is : c.in-Err-answer_piece.fault ≡ Write = cc in
-    let outcome = rw is at c.in-Err-answer_piece.ensures.outcome in
+    let is : c.in-Err-answer_block.fault ≡ Write = cc in
+    let outcome = rw is at c.in-Err-answer_block.ensures.outcome in
     cut_within g.I.Interpreter.semantics _ _ _ _ _ given.0 c.takes.held.items _ _ _ _ given.1 c.in-Ok.ensures.bytes given.2 outcome
 
-pub returns-in-Err-answer_piece-clause-memory : goal.returns-in-Err-answer_piece-clause-memory
-returns-in-Err-answer_piece-clause-memory g c e =
+pub returns-in-Err-answer_block-clause-memory : goal.returns-in-Err-answer_block-clause-memory
+returns-in-Err-answer_block-clause-memory g c e =
     let given = c.takes.invariant.given in
-    let is : c.in-Err-answer_piece.fault ≡ Memory = cc in
-    let outcome = rw is at c.in-Err-answer_piece.ensures.outcome in
+    let is : c.in-Err-answer_block.fault ≡ Memory = cc in
+    let outcome = rw is at c.in-Err-answer_block.ensures.outcome in
     memory_within g.I.Interpreter.semantics _ _ _ _ _ _ _ given.0 c.takes.held.items _ _ _ _ given.1 c.in-Ok.ensures.bytes given.2 outcome (omega (arith, length-take {A = ℕ}))
 
 pub returns-then-is_empty-clause-ok : goal.returns-then-is_empty-clause-ok
