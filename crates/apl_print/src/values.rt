@@ -1,6 +1,7 @@
 //! Printed values.
-ghost use Rattle.std.specs.Prelude.{◌≡◌, ℕ, ◌<◌, ◌≤◌, List, IfOk, string_bytes, encode_utf8_all, length};
-ghost use Rattle.apl_array.specs.Array.{ArrayValue, IsArray};
+ghost use Rattle.std.specs.Prelude.{◌≡◌, ℕ, ◌^◌, ◌<◌, ◌≤◌, List, IfOk, string_bytes, encode_utf8_all, slice_index, decimal};
+ghost use Rattle.std.specs.Str.Parse.{IsNumeral, digits_value};
+ghost use Rattle.apl_array.specs.Array.{ArrayValue};
 ghost use Rattle.apl_print.specs.Shown.{IsShown};
 
 use super::rows::{Layout, put_rows};
@@ -31,4 +32,10 @@ pub fn print(alloc: Global, array: &Array, width: u8) -> Result<String, AllocErr
 /// The law that an array has one text at a width.
 pub fn shown_once()
     ensures { (a : ArrayValue) (width : ℕ) (s t : List ℕ) → IsShown a width s → IsShown a width t → s ≡ t }
+{}
+
+/// The law of numerals: the digits of a number stand for it, and the first of them is 0 for 0 alone.
+pub fn numerals()
+    ensures digits { (n : ℕ) → n < 2 ^ 64 → IsNumeral 10 (decimal n) × (digits_value 10 (decimal n) ≡ n) }
+    ensures first { (n : ℕ) → 0 < n → n < 2 ^ 64 → 48 < slice_index (decimal n) 0 }
 {}
