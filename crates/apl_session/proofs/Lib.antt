@@ -4,3 +4,4 @@ pub mod RunLemmas
 pub mod SourceLemmas
 pub mod LineAnswers
 pub mod LawLemmas
+pub mod Steps

@@ -3,7 +3,7 @@ use Rattle.std.proofs.Common.{◌≡◌, ◌≢◌, ℕ, ◌==◌, ◌<◌, fals
 use Rattle.std.specs.List.{All, flat_map}
 use Rattle.std.proofs.lemmas.List.Elements.{All-head, All-tail}
 use Rattle.std.proofs.lemmas.Bool.{ne_eqb}
-use Rattle.apl_print.specs.Reported.{ended}
+use Rattle.apl_print.specs.Text.{ended}
 use Rattle.apl_print.specs.Text.{line_feed}
 use Rattle.apl_session.specs.Lines.{lines_of, before_first_line, IsUnbroken}
 

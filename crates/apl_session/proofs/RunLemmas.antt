@@ -7,7 +7,7 @@ use Rattle.std.proofs.lemmas.List.Elements.{All-nil, All-cons, All-append}
 use Rattle.std.proofs.lemmas.List.Concat.{flat_map-append}
 use Rattle.apl_print.specs.Put.{AppendsFront}
 use Rattle.apl_session.proofs.WrittenLemmas.{AppendsFront-after}
-use Rattle.apl_print.specs.Reported.{ended}
+use Rattle.apl_print.specs.Text.{ended}
 use Rattle.apl_print.specs.Text.{line_feed}
 use Rattle.apl_session.specs.Lines.{lines_of, IsUnbroken}
 use Rattle.apl_session.specs.Run.{Answer, Semantics, IsAnswer, IsRun, text_of}

@@ -5,3 +5,5 @@ pub mod LineAnswer
 pub mod Outcome
 pub mod Progress
 pub mod Ending
+pub mod Step
+pub mod Given

@@ -2,7 +2,7 @@
 use Rattle.std.specs.Prelude.{◌≡◌, ℕ, ◌<◌, ◌≤◌, List, ◌++◌, length, All, Option, IfSome, false, flat_map}
 use Rattle.std.specs.Io.KnownBytes.{Appends}
 use Rattle.apl_print.specs.Put.{AppendsFront}
-use Rattle.apl_print.specs.Reported.{ended}
+use Rattle.apl_print.specs.Text.{ended}
 use Rattle.apl_session.specs.Lines.{lines_of, IsUnbroken}
 use Rattle.apl_session.specs.Run.{Answer, Semantics, IsRun, text_of}
 

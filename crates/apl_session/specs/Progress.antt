@@ -1,7 +1,7 @@
 -- How far a run has come, in the middle of its text.
 use Rattle.std.specs.Prelude.{◌≡◌, ℕ, ◌<◌, ◌≤◌, List, [], ◌∷◌, ◌++◌, length, flat_map, All, Option, Some, false, Result, Ok, Err}
 use Rattle.std.specs.Io.KnownBytes.{Appends}
-use Rattle.apl_print.specs.Reported.{ended}
+use Rattle.apl_print.specs.Text.{ended}
 use Rattle.apl_session.specs.Lines.{IsUnbroken}
 use Rattle.apl_session.specs.Run.{Answer, Semantics, IsAnswer, text_of}
 use Rattle.apl_session.specs.Outcome.{AnswersAll, AnswersFront}

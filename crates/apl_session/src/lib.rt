@@ -1,20 +1,27 @@
-//! Lines of a text, answered one after the other by an interpreter.
+//! Sessions: the lines of a source, answered one after the other.
 #![tactic(auto)]
 
+mod answering;
 mod endings;
 mod interpreter;
 mod laws;
 mod lines;
 mod memory;
 mod runs;
+mod sessions;
 mod sources;
 mod streams;
 
+pub use answering::{one_run, one_step, run};
 pub use endings::ending;
 pub use interpreter::{Next, RunFault};
 pub use memory::MemorySource;
+pub use runs::BLOCK;
+pub use sessions::Session;
 pub use sources::{Source, SourceFault};
 pub use streams::In;
 
+#[cfg(test)]
+mod rows;
 #[cfg(test)]
 mod tests;

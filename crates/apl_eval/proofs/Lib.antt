@@ -1,0 +1,5 @@
+pub mod PairLemmas
+pub mod Extended
+pub mod NameLemmas
+pub mod StepLemmas
+pub mod StackLemmas

@@ -1,0 +1,10 @@
+//! Workspaces, and statements evaluated in them.
+#![tactic(auto)]
+
+mod arithmetic;
+mod names;
+mod statement;
+mod workspace;
+
+pub use statement::{EvalStop, Shown, eval};
+pub use workspace::Workspace;

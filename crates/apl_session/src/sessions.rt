@@ -1,0 +1,116 @@
+//! A session: a workspace, and the answer to each line.
+ghost use Rattle.std.specs.Prelude.{◌≡◌, ℕ, List};
+ghost use Rattle.apl_print.specs.Failures.{CountsFailure};
+ghost use Rattle.apl_grammar.specs.Tree.{Expr, operations};
+ghost use Rattle.apl_syntax.specs.Reading.{statement, IsReading};
+ghost use Rattle.apl_eval.specs.Workspace.{opening_workspace};
+ghost use Rattle.apl_session.specs.Lines.{IsUnbroken};
+ghost use Rattle.apl_session.specs.LineAnswer.{IsLineAnswered, next_after};
+ghost use Rattle.apl_session.specs.Step.{session_semantics};
+ghost use Rattle.apl_session.specs.Given.{IsGiven};
+
+use super::interpreter::{Next, RunFault};
+use super::lines::trim_return;
+use apl_eval::{EvalStop, Shown, Workspace, eval};
+use apl_grammar::Program;
+use apl_print::{Report, Sink, SinkFault, put_all, report};
+use apl_syntax::{Line, ReadStop, read};
+use std::alloc::Global;
+use std::marker::Model;
+
+/// A session: what the lines so far left behind.
+#[derive(Drop)]
+pub struct Session {
+    workspace: Workspace,
+}
+
+impl Model for Session {
+    ghost use Rattle.apl_eval.specs.contracts.workspace.Workspace as stored;
+    ghost use Rattle.apl_eval.specs.Workspace.{WorkspaceValue};
+
+    ghost Value = { WorkspaceValue };
+
+    ghost coded = { stored.the_row.coded };
+
+    ghost view = { λ s. s.workspace };
+}
+
+impl Session {
+    /// A session in which no name has a value. It takes no memory.
+    pub fn new(alloc: Global) -> Session
+        ensures { result ≡ opening_workspace }
+    {
+        Session {
+            workspace: Workspace::new(alloc),
+        }
+    }
+
+    /// Answers a line, which is given without its LF, and writes the answer. Where the write fails, the session is as after
+    /// the line, and a beginning of the answer's text was written.
+    pub fn line<S: Sink>(
+        &mut self,
+        alloc: Global,
+        line: &[u8],
+        sink: &mut S,
+    ) -> Result<Next, RunFault>
+        requires { IsUnbroken line.now }
+        ensures answered { IsLineAnswered session_semantics self.old self.new line.now (S.taken sink.old) (S.taken sink.new) result }
+        ensures failures { CountsFailure (S.failures sink.old) (S.failures sink.new) result }
+    {
+        answer(&mut self.workspace, alloc, trim_return(line), sink)
+    }
+}
+
+/// Answers a line without its carriage return.
+fn answer<S: Sink>(
+    workspace: &mut Workspace,
+    alloc: Global,
+    line: &[u8],
+    sink: &mut S,
+) -> Result<Next, RunFault>
+    ensures given { IsGiven workspace.old workspace.new line.now (S.taken sink.old) (S.taken sink.new) result }
+    ensures failures { CountsFailure (S.failures sink.old) (S.failures sink.new) result }
+{
+    match read(alloc, line) {
+        Ok(Line::Blank) => Ok(Next::Go),
+        Ok(Line::Statement(program)) => answer_statement(workspace, alloc, &program, line, sink),
+        Err(ReadStop::Character { bytes, column }) => {
+            go_on(report(sink, Report::Character, &line[..bytes], Some(column)))
+        }
+        Err(ReadStop::Syntax { column }) => go_on(report(sink, Report::Syntax, line, Some(column))),
+        Err(ReadStop::Limit { column }) => go_on(report(sink, Report::Limit, line, Some(column))),
+        Err(ReadStop::Memory) => go_on(report(sink, Report::WsFull, line, None)),
+    }
+}
+
+/// Answers a line that is this statement.
+fn answer_statement<S: Sink>(
+    workspace: &mut Workspace,
+    alloc: Global,
+    program: &Program,
+    line: &[u8],
+    sink: &mut S,
+) -> Result<Next, RunFault>
+    requires { (tree : Expr) × IsReading line.now (statement tree) × (operations tree ≡ program.now) }
+    ensures given { IsGiven workspace.old workspace.new line.now (S.taken sink.old) (S.taken sink.new) result }
+    ensures failures { CountsFailure (S.failures sink.old) (S.failures sink.new) result }
+{
+    match eval(workspace, alloc, program) {
+        Ok(Shown::Silent) => Ok(Next::Go),
+        Ok(Shown::Text(text)) => go_on(put_all(sink, text.as_bytes())),
+        Err(EvalStop::Error { report: name, column }) => {
+            go_on(report(sink, name, line, Some(column)))
+        }
+        Err(EvalStop::Memory) => go_on(report(sink, Report::WsFull, line, None)),
+    }
+}
+
+/// A run goes on after a line whose text was put.
+fn go_on(put: Result<(), SinkFault>) -> Result<Next, RunFault>
+    ensures { result ≡ next_after put }
+{
+    match put {
+        Ok(()) => Ok(Next::Go),
+        Err(_) => Err(RunFault::Write),
+    }
+}
