@@ -1,6 +1,6 @@
 -- Worked examples of the definitions of printed values.
 use Rattle.std.proofs.Common.{◌≡◌, ℕ, List, [], ◌∷◌, ◌++◌, map, codes, refl, lit≤, lit<}
-use Rattle.apl_print.specs.Row.{IsLaid, IsRow, text_of_lines}
+use Rattle.apl_print.specs.Row.{IsRow}
 use Rattle.apl_print.specs.Shown.{rows_of, column_width, aligned, plane_starts}
 use Rattle.apl_print.specs.Text.{high_minus}
 
@@ -22,7 +22,7 @@ twenty_numbers = record {
 
 -- the columns of a table with the rows 1 ¯10 and 100 2
 columns :
-  let rows = rows_of 2 2 (codes "1" ∷ (high_minus ∷ codes "10") ∷ codes "100" ∷ codes "2" ∷ []) in
+    let rows = rows_of 2 2 (codes "1" ∷ (high_minus ∷ codes "10") ∷ codes "100" ∷ codes "2" ∷ []) in
     map (aligned (column_width rows) 0) rows ≡ ((codes "  1" ∷ (high_minus ∷ codes "10") ∷ []) ∷ (codes "100" ∷ codes "  2" ∷ []) ∷ [])
 columns = refl
 

@@ -1,5 +1,5 @@
 -- Texts that are put piece by piece.
-use Rattle.std.proofs.Common.{◌≡◌, ℕ, List, [], ◌∷◌, ◌++◌, Option, Result, Ok, Err, ap, ◌∙◌, sym, subst, append_assoc, append-nil}
+use Rattle.std.proofs.Common.{ℕ, List, [], ◌++◌, Option, Result, Ok, Err, ap, ◌∙◌, sym, subst, append_assoc, append-nil}
 use Rattle.std.specs.Io.KnownBytes.{Appends}
 use Rattle.std.proofs.KnownBytes.{Appends-trans}
 use Rattle.apl_print.specs.Put.{AppendsFront, Writes}

@@ -1,9 +1,9 @@
 -- The pieces that a report is put in.
-use Rattle.std.proofs.Common.{◌≡◌, ℕ, ◌+◌, ◌-◌, ◌≤◌, List, [], ◌∷◌, ◌++◌, take, Option, Some, None, codes, encode_utf8, refl, ap, sym, ◌∙◌, append_assoc, arith}
+use Rattle.std.proofs.Common.{◌≡◌, ℕ, ◌+◌, ◌-◌, ◌≤◌, List, [], ◌∷◌, ◌++◌, take, Option, Some, codes, refl, ap, sym, ◌∙◌, append_assoc, arith}
 use lib.Utf8.{encode}
 use Rattle.std.proofs.lemmas.List.{take-replicate, replicate-append-replicate}
 use Rattle.apl_print.specs.declared.reports.Report.{Report}
-use Rattle.apl_print.specs.Text.{blank, blanks, line_feed, indent, caret, ended}
+use Rattle.apl_print.specs.Text.{blank, blanks, line_feed, caret}
 use Rattle.apl_print.specs.Reported.{caret_line, report_name, reported}
 
 -- one more slice of a run of blanks

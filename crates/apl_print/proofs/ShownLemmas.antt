@@ -1,13 +1,12 @@
 -- The text of an array: the printer's layout is the one that the definition allows.
-use Rattle.std.proofs.Common.{◌≡◌, ℕ, zero, suc, ◌+◌, ◌-◌, ◌<◌, ◌≤◌, List, [], ◌∷◌, ◌++◌, length, take, drop, get_or, map, max, replicate, Some, None, refl, sym, ap, ◌∙◌, subst, ⊎_elim, arith, append_assoc, length-append}
+use Rattle.std.proofs.Common.{◌≡◌, ℕ, zero, suc, ◌+◌, ◌-◌, ◌<◌, ◌≤◌, List, [], ◌∷◌, ◌++◌, length, take, drop, get_or, map, max, replicate, None, refl, sym, ap, ◌∙◌, subst, ⊎_elim, arith, length-append}
 use Rattle.std.specs.Prelude.{encode_utf8_all}
-use Rattle.std.specs.List.{flat_map, All, fold}
+use Rattle.std.specs.List.{All, fold}
 use Rattle.std.proofs.lemmas.Bool.{cases_lt}
 use Rattle.std.proofs.lemmas.List.{length-replicate, get_or_past}
 use Rattle.std.proofs.lemmas.List.Elements.{All-head, All-tail, All-nil, All-cons, All-take, All-drop, All-weaker}
 use Rattle.apl_array.specs.Array.{ArrayValue}
 use Rattle.apl_print.specs.Text.{line_feed, blank, blanks, indent}
-use Rattle.apl_print.specs.Row.{IsRow}
 use Rattle.apl_print.specs.Shown.{field_of, gap_of, row_count, row_length, rows_of, column_width, padded, aligned, empty_lines, AreRows, IsText, IsShown}
 use Rattle.apl_print.specs.Layout.{laid, rows_laid}
 use Rattle.apl_print.proofs.RowLemmas.{row_is_laid, IsRow-laid}

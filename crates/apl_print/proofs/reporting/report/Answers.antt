@@ -1,6 +1,5 @@
 use Rattle.std.proofs.Common.{Some, None, subst, sym, ◌∙◌, ap}
 use Rattle.std.proofs.lemmas.Result.{err_from_is_err_and}
-use Rattle.std.proofs.KnownBytes.{Appends-trans}
 use Rattle.apl_print.specs.Put.{AppendsFront, Writes}
 use Rattle.apl_print.specs.Reported.{reported}
 use Rattle.apl_print.proofs.PutLemmas.{AppendsFront-first, AppendsFront-after, Writes-after}

@@ -1,4 +1,4 @@
-use Rattle.std.proofs.Common.{◌≡◌, ◌<◌, ◌-◌, ℕ, length, take, drop, arith, rules, length-take, subst, sym}
+use Rattle.std.proofs.Common.{◌<◌, ◌-◌, length, take, drop, arith, length-take, subst}
 use Rattle.apl_print.proofs.TableLemmas.{rest_count}
 use Rattle.apl_print.proofs.rows.+plane_starts.Goals as goal
 

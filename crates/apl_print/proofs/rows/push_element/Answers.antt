@@ -1,8 +1,7 @@
-use Rattle.std.proofs.Common.{◌≡◌, ◌++◌, string_bytes, encode_utf8_all, ap, ◌∙◌, sym, subst, pos, rules, w64, to_z, of_z}
+use Rattle.std.proofs.Common.{◌≡◌, ◌++◌, string_bytes, encode_utf8_all, ap, ◌∙◌, sym, subst, rules, w64, to_z, of_z}
 use Rattle.std.proofs.lemmas.Result.{on_ok_weaker}
 use Rattle.std.proofs.lemmas.Int.{to_z-of_z}
 use Rattle.std.specs.Prelude.{IsAscii, FitsSigned, decimal, unsigned_abs}
-use Rattle.apl_array.specs.declared.array.Elem.TheVariants.{Int}
 use Rattle.apl_print.specs.Shown.{field_of, numeral_of}
 use Rattle.apl_print.proofs.TextLemmas.{pushed_on_ok, nonnegative_pushed, negative_pushed}
 use Rattle.apl_print.proofs.rows.push_element.Goals as goal

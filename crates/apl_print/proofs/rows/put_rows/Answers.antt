@@ -1,8 +1,8 @@
-use Rattle.std.proofs.Common.{◌≡◌, ℕ, ◌+◌, ◌-◌, ◌*◌, ◌/◌, ◌<◌, ◌≤◌, ◌++◌, List, [], length, get_or, map, replicate, string_bytes, encode_utf8_all, slice_index, ap, sym, subst, ◌∙◌, arith, append-nil}
+use Rattle.std.proofs.Common.{◌≡◌, ◌+◌, ◌-◌, ◌*◌, ◌/◌, ◌<◌, ◌≤◌, ◌++◌, length, get_or, map, replicate, string_bytes, encode_utf8_all, slice_index, ap, sym, subst, ◌∙◌, arith, append-nil}
 use Rattle.std.proofs.lemmas.List.{length-map}
 use Rattle.apl_array.specs.Shape.{count_of}
 use Rattle.apl_print.specs.Shown.{field_of, row_count, row_length, rows_of, column_width, aligned, empty_lines}
-use Rattle.apl_print.specs.Layout.{rows_laid, fields_between}
+use Rattle.apl_print.specs.Layout.{fields_between}
 use Rattle.apl_print.proofs.ShownLemmas.{laid_rows}
 use Rattle.apl_print.proofs.TableLemmas.{row_length_is, row_length_pos, rows_are, count_split, length-rows_of, table_row, rows_more, rows_end}
 use Rattle.apl_print.proofs.rows.put_rows.Goals as goal

@@ -1,4 +1,4 @@
-use Rattle.std.proofs.Common.{◌≡◌, ℕ, ◌-◌, ◌≤◌, ◌++◌, length, take, drop, None, string_bytes, encode_utf8_all, slice_index}
+use Rattle.std.proofs.Common.{◌≡◌, ◌-◌, ◌≤◌, ◌++◌, length, take, drop, None, string_bytes, encode_utf8_all, slice_index}
 use Rattle.std.specs.Prelude.{All, IfSome}
 use Rattle.apl_print.specs.Shown.{aligned}
 use Rattle.apl_print.specs.Layout.{laid, fields_between}
