@@ -1,0 +1,6 @@
+pub mod Exact
+pub mod Counting
+pub mod Powers
+pub mod Residues
+pub mod Sources
+pub mod Places

@@ -1,0 +1,9 @@
+pub mod Arithmetic
+pub mod Scalar
+pub mod Limits
+pub mod Operands
+pub mod Extension
+pub mod Faults
+pub mod Pointwise
+pub mod Monadic
+pub mod Dyadic

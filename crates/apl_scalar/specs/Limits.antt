@@ -1,0 +1,8 @@
+-- A value that is there only where the range has it.
+use Rattle.std.specs.Prelude.{ℤ, Option, Some, None, Result, Ok, Err}
+use Rattle.apl_pool.specs.declared.kernel.Fault.{Fault}
+use Rattle.apl_pool.specs.declared.kernel.Fault.TheVariants.{Limit}
+
+abbrev pub limited_value : Option ℤ → Result ℤ Fault
+limited_value (Some z) = Ok z
+limited_value None = Err Limit

@@ -1,0 +1,16 @@
+-- A monadic scalar function of an array.
+use Rattle.std.specs.Prelude.{ℕ, ℤ, List, Result}
+use Rattle.apl_array.specs.declared.array.Kind.TheVariants.{Number}
+use Rattle.apl_array.specs.Array.{ArrayValue, element_at}
+use Rattle.apl_pool.specs.declared.kernel.Fault.{Fault}
+use Rattle.apl_scalar.specs.declared.function.ScalarFunction.{ScalarFunction}
+use Rattle.apl_scalar.specs.declared.function.OpFault.{OpFault}
+use Rattle.apl_scalar.specs.Scalar.{monadic_of, as_element}
+use Rattle.apl_scalar.specs.Pointwise.{IsPointwise}
+
+-- what there is at an index list: a number or a fault
+abbrev pub monadic_element : ScalarFunction → ArrayValue → List ℕ → Result ℤ Fault
+monadic_element f b index = monadic_of f (element_at b index)
+
+abbrev pub AnswersMonadic : ScalarFunction → ArrayValue → Result ArrayValue OpFault → Type 0
+AnswersMonadic f b result = IsPointwise b.shape (λ index. as_element (monadic_element f b index)) Number result

@@ -1,0 +1,166 @@
+//! Exact arithmetic, refused only where the exact result leaves the range. No loop runs once for
+//! each unit of a large number.
+ghost use Rattle.std.specs.Prelude.{◌≡◌, pos, negsuc, ◌+◌, ◌%◌, ◌^◌, ◌<◌, ◌≤◌, ◌==◌, if◌then◌else◌};
+ghost use Rattle.std.specs.Int.{int_pow};
+ghost use Rattle.apl_scalar.specs.Arithmetic.{factorial, binomial, residue};
+ghost use Rattle.apl_scalar.specs.Scalar.{exact, reciprocal, quotient, power, factorial_of, combinations};
+ghost use Rattle.apl_scalar.specs.Limits.{limited_value};
+
+use apl_pool::Fault;
+
+/// The exact value, where 64 bits hold it.
+#[inline(always)]
+pub fn limited(exact: Option<i64>) -> Result<i64, Fault>
+    ensures { result ≡ limited_value exact }
+{
+    match exact {
+        Some(value) => Ok(value),
+        None => Err(Fault::Limit),
+    }
+}
+
+/// 1 by `x`.
+#[inline(always)]
+pub fn reciprocal(x: i64) -> Result<i64, Fault>
+    ensures { result ≡ reciprocal x }
+{
+    if x == 1 || x == -1 {
+        Ok(x)
+    } else {
+        Err(Fault::Domain)
+    }
+}
+
+/// `x` by `y`.
+#[inline(always)]
+pub fn quotient(x: i64, y: i64) -> Result<i64, Fault>
+    ensures { result ≡ quotient x y }
+{
+    if y == 0 {
+        return if x == 0 { Ok(1) } else { Err(Fault::Domain) };
+    }
+    if x.wrapping_rem(y) == 0 {
+        limited(x.checked_div(y))
+    } else {
+        Err(Fault::Domain)
+    }
+}
+
+/// `b` less `a` times their quotient rounded down.
+#[inline(always)]
+pub fn residue(a: i64, b: i64) -> i64
+    ensures { result ≡ residue a b }
+{
+    if a == 0 {
+        return b;
+    }
+    let rest = b.wrapping_rem_euclid(a);
+    if a < 0 && rest != 0 { rest + a } else { rest }
+}
+
+/// `x` to the power `y`.
+pub fn power(x: i64, y: i64) -> Result<i64, Fault>
+    ensures { result ≡ power x y }
+{
+    let size = y.unsigned_abs();
+    if y < 0 {
+        return match x {
+            1 => Ok(1),
+            -1 => Ok(power_of_minus_one(size)),
+            _ => Err(Fault::Domain),
+        };
+    }
+    if size < 64 {
+        return limited(x.checked_pow(size as u32));
+    }
+    large_power(x, size)
+}
+
+/// 1 where `n` is even, else -1.
+fn power_of_minus_one(n: u64) -> i64
+    ensures { result ≡ (if n % 2 == 0 then pos 1 else negsuc 0) }
+{
+    if n % 2 == 0 { 1 } else { -1 }
+}
+
+/// From 64 on a power leaves the range, but for those of -1, 0 and 1.
+fn large_power(x: i64, n: u64) -> Result<i64, Fault>
+    requires { 64 ≤ n }
+    ensures { result ≡ exact (int_pow x n) }
+{
+    if x.unsigned_abs() > 1 {
+        return Err(Fault::Limit);
+    }
+    Ok(if x < 0 { power_of_minus_one(n) } else { x })
+}
+
+/// The factorial of `x`. That of 21 leaves the range.
+pub fn factorial(x: i64) -> Result<i64, Fault>
+    ensures { result ≡ factorial_of x }
+{
+    if x < 0 {
+        return Err(Fault::Domain);
+    }
+    let n = x.unsigned_abs();
+    if n > 20 {
+        return Err(Fault::Limit);
+    }
+    Ok(product_up_to(n) as i64)
+}
+
+/// The product of the numbers from 1 up to `n`.
+fn product_up_to(n: u64) -> u64
+    requires { n ≤ 20 }
+    ensures value { result ≡ factorial n }
+    ensures small { result < 2 ^ 63 }
+{
+    let mut product = 1;
+    for k in 0..n {
+        product *= k + 1;
+    }
+    product
+}
+
+/// In how many ways `x` of `y` things are chosen.
+pub fn combinations(x: i64, y: i64) -> Result<i64, Fault>
+    ensures { result ≡ combinations x y }
+{
+    if x < 0 || y < 0 {
+        return Err(Fault::Domain);
+    }
+    limited(chosen(x.unsigned_abs(), y.unsigned_abs()))
+}
+
+/// In how many ways `x` of `y` things are chosen, where that is in the range: as many as leave
+/// `y - x` of them.
+fn chosen(x: u64, y: u64) -> Option<i64>
+    requires { y < 2 ^ 63 }
+    ensures { limited_value result ≡ exact (pos (binomial y x)) }
+{
+    if y < x {
+        return Some(0);
+    }
+    let rest = y - x;
+    if x < rest {
+        choices(y, x)
+    } else {
+        choices(y, rest)
+    }
+}
+
+/// In how many ways `k` of `n` things are chosen, where that is in the range. Those of i + 1 are
+/// those of i times n - i by i + 1. They rise up to n / 2, so they leave the range soon or never.
+fn choices(n: u64, k: u64) -> Option<i64>
+    requires range { n < 2 ^ 63 }
+    requires half { k + k ≤ n }
+    ensures { limited_value result ≡ exact (pos (binomial n k)) }
+{
+    let mut count: u128 = 1;
+    for i in 0..k {
+        count = count * (n - i) as u128 / (i + 1) as u128;
+        if count > i64::MAX as u128 {
+            return None;
+        }
+    }
+    Some(count as i64)
+}

@@ -1,0 +1,103 @@
+//! The scalar functions of arrays.
+ghost use Rattle.std.specs.Prelude.{◌≡◌, ℕ, IfOk, IfErr, Ok, IsTrue};
+ghost use Rattle.apl_array.specs.Shape.{count_of, index_at};
+ghost use Rattle.apl_pool.specs.Pool.{AreValues, IsStopOf};
+ghost use Rattle.apl_scalar.specs.Scalar.{has_monadic, has_dyadic};
+ghost use Rattle.apl_scalar.specs.Extension.{extended_shape};
+ghost use Rattle.apl_scalar.specs.Monadic.{AnswersMonadic, monadic_element};
+ghost use Rattle.apl_scalar.specs.Dyadic.{AnswersDyadic, dyadic_number};
+
+use crate::extend::extended;
+use crate::function::{OpFault, ScalarFunction};
+use crate::kernels::{ElementKernel, ElementPairs};
+use crate::passes::{fill_number_pairs, fill_numbers};
+use apl_array::{Array, Shape};
+use apl_pool::{Cut, Gate, Pool, Stop};
+use std::alloc::Global;
+use std::thread::Threads;
+
+/// A monadic scalar function of an array, at each index list. The result is of numbers. The
+/// refusal is the fault at the least place that has one.
+pub fn monadic<R: Threads + Sync, C: Cut + Sync, G: Gate + Sync>(
+    rt: &R,
+    alloc: Global,
+    pool: &Pool<C, G>,
+    f: ScalarFunction,
+    right: &Array,
+) -> Result<Array, OpFault>
+    requires { IsTrue (has_monadic f) }
+    ensures { AnswersMonadic f right.now result }
+{
+    let shape = right.shape().copy(alloc)?;
+    match fill_monadic(rt, alloc, pool, f, right) {
+        Ok(numbers) => Ok(Array::ints(shape, numbers)),
+        Err(stop) => Err(OpFault::from(stop)),
+    }
+}
+
+fn fill_monadic<R: Threads + Sync, C: Cut + Sync, G: Gate + Sync>(
+    rt: &R,
+    alloc: Global,
+    pool: &Pool<C, G>,
+    f: ScalarFunction,
+    right: &Array,
+) -> Result<Vec<i64>, Stop>
+    requires { IsTrue (has_monadic f) }
+    ensures values { IfOk result (λ v. AreValues (λ place. monadic_element f right.now (index_at right.now.shape place)) (count_of right.now.shape) v.items) }
+    ensures stop { IfErr result (IsStopOf (λ place. monadic_element f right.now (index_at right.now.shape place)) (count_of right.now.shape)) }
+{
+    match right.numbers() {
+        Some(numbers) => fill_numbers(rt, alloc, pool, f, numbers),
+        None => {
+            let kernel = ElementKernel {
+                function: f,
+                array: right,
+            };
+            pool.fill(rt, alloc, &kernel)
+        }
+    }
+}
+
+/// A dyadic scalar function of two arrays. Equal shapes go element by element; an argument of one
+/// element is extended to the other's shape, and of two such the one of larger rank gives the
+/// shape, the left one on a tie. Else unequal ranks are refused as `Rank`, unequal lengths as
+/// `Length`. The result is of numbers, and the refusal of elements is the fault at the least
+/// place that has one.
+pub fn dyadic<R: Threads + Sync, C: Cut + Sync, G: Gate + Sync>(
+    rt: &R,
+    alloc: Global,
+    pool: &Pool<C, G>,
+    f: ScalarFunction,
+    left: &Array,
+    right: &Array,
+) -> Result<Array, OpFault>
+    requires { IsTrue (has_dyadic f) }
+    ensures { AnswersDyadic f left.now right.now result }
+{
+    let shape = extended(left.shape(), right.shape())?.copy(alloc)?;
+    match fill_dyadic(rt, alloc, pool, f, left, right, &shape) {
+        Ok(numbers) => Ok(Array::ints(shape, numbers)),
+        Err(stop) => Err(OpFault::from(stop)),
+    }
+}
+
+fn fill_dyadic<R: Threads + Sync, C: Cut + Sync, G: Gate + Sync>(
+    rt: &R,
+    alloc: Global,
+    pool: &Pool<C, G>,
+    f: ScalarFunction,
+    left: &Array,
+    right: &Array,
+    shape: &Shape,
+) -> Result<Vec<i64>, Stop>
+    requires valence { IsTrue (has_dyadic f) }
+    requires shape { extended_shape left.now.shape right.now.shape ≡ Ok shape.now }
+    ensures values { IfOk result (λ v. AreValues (λ place. dyadic_number f left.now right.now shape.now (index_at shape.now place)) (count_of shape.now) v.items) }
+    ensures stop { IfErr result (IsStopOf (λ place. dyadic_number f left.now right.now shape.now (index_at shape.now place)) (count_of shape.now)) }
+{
+    let elements = ElementPairs::new(f, left, right, shape);
+    match elements.numbers() {
+        Some(pairs) => fill_number_pairs(rt, alloc, pool, f, pairs),
+        None => pool.fill(rt, alloc, &elements),
+    }
+}

@@ -1,0 +1,116 @@
+//! The scalar functions by their glyphs, and why a function has no value.
+
+use apl_pool::{Fault, Stop};
+use std::alloc::AllocError;
+
+/// A scalar function, under the name of its glyph.
+#[derive(Clone, Copy, Debug, PartialEq, Eq)]
+pub enum ScalarFunction {
+    Plus,
+    Minus,
+    Times,
+    Divide,
+    Stile,
+    Star,
+    Bang,
+    Floor,
+    Ceiling,
+    And,
+    Or,
+    Nand,
+    Nor,
+    Less,
+    LessOrEqual,
+    Equal,
+    GreaterOrEqual,
+    Greater,
+    NotEqual,
+    Tilde,
+}
+
+impl ScalarFunction {
+    ghost use Rattle.std.specs.Prelude.{◌≡◌};
+    ghost use Rattle.apl_scalar.specs.Scalar.{has_monadic, has_dyadic};
+
+    /// Whether it is a function of one argument.
+    pub fn is_monadic(self) -> bool
+        ensures { result ≡ has_monadic self }
+    {
+        matches!(
+            self,
+            ScalarFunction::Plus
+                | ScalarFunction::Minus
+                | ScalarFunction::Times
+                | ScalarFunction::Divide
+                | ScalarFunction::Stile
+                | ScalarFunction::Bang
+                | ScalarFunction::Floor
+                | ScalarFunction::Ceiling
+                | ScalarFunction::Tilde
+        )
+    }
+
+    /// Whether it is a function of two arguments.
+    pub fn is_dyadic(self) -> bool
+        ensures { result ≡ has_dyadic self }
+    {
+        !matches!(self, ScalarFunction::Tilde)
+    }
+}
+
+/// Why a function of arrays has no value.
+#[derive(Clone, Copy, Debug, PartialEq, Eq)]
+pub enum OpFault {
+    /// The numbers of axes do not agree.
+    Rank,
+    /// The lengths do not agree.
+    Length,
+    /// An index isn't one of the axis.
+    Index,
+    /// A function isn't defined there.
+    Domain,
+    /// The exact value passes a limit.
+    Limit,
+    /// A growth was refused.
+    Memory,
+}
+
+impl From<Fault> for OpFault {
+    ghost use Rattle.std.specs.Prelude.{◌≡◌};
+    ghost use Rattle.apl_scalar.specs.Faults.{op_fault_of};
+
+    ghost from_gives = { λ fault r. r ≡ op_fault_of fault };
+
+    fn from(fault: Fault) -> Self {
+        match fault {
+            Fault::Domain => OpFault::Domain,
+            Fault::Limit => OpFault::Limit,
+            Fault::Index => OpFault::Index,
+        }
+    }
+}
+
+impl From<Stop> for OpFault {
+    ghost use Rattle.std.specs.Prelude.{◌≡◌};
+    ghost use Rattle.apl_scalar.specs.Faults.{op_fault_of_stop};
+
+    ghost from_gives = { λ stop r. r ≡ op_fault_of_stop stop };
+
+    fn from(stop: Stop) -> Self {
+        match stop {
+            Stop::Fault { place: _, fault } => OpFault::from(fault),
+            Stop::Memory => OpFault::Memory,
+        }
+    }
+}
+
+impl From<AllocError> for OpFault {
+    ghost use Rattle.std.specs.Prelude.{◌≡◌};
+    ghost use Rattle.apl_scalar.specs.declared.function.OpFault.TheVariants.{Memory};
+
+    ghost from_gives = { λ e r. r ≡ Memory };
+
+    fn from(_: AllocError) -> Self {
+        OpFault::Memory
+    }
+}

@@ -1,0 +1,22 @@
+//! The scalar functions of elements and of arrays.
+//!
+//! They are those of the APL\360 User's Manual (1968), over whole numbers of 64 bits; the integer
+//! cases are those of ISO 8485:1989. Only a function's exact result is tested against the range.
+#![tactic(auto)]
+
+mod arithmetic;
+mod arrays;
+mod extend;
+mod function;
+mod glyphs;
+mod kernels;
+mod passes;
+mod tables;
+mod truth;
+
+pub use arrays::{dyadic, monadic};
+pub use function::{OpFault, ScalarFunction as Prim};
+pub use tables::{apply1, apply2, identity};
+
+#[cfg(test)]
+mod tests;

@@ -1,0 +1,137 @@
+//! The scalar functions of numbers and of elements.
+ghost use Rattle.std.specs.Prelude.{◌≡◌, Bool, ◌&&◌, ◌||◌, not, IsTrue};
+ghost use Rattle.apl_scalar.specs.Scalar.{monadic_number, monadic_of, dyadic_numbers, dyadic_of, compare_elements, identity_of, has_monadic, has_dyadic, as_element, bit, is_bit, is_one, logical};
+
+use crate::arithmetic::{combinations, factorial, limited, power, quotient, reciprocal, residue};
+use crate::truth::{and, bit, nand, negation, nor, or};
+use crate::function::ScalarFunction;
+use apl_array::Elem;
+use apl_pool::Fault;
+
+/// A monadic function of a number.
+#[inline(always)]
+pub fn number1(f: ScalarFunction, x: i64) -> Result<i64, Fault>
+    ensures { result ≡ monadic_number f x }
+{
+    match f {
+        ScalarFunction::Plus | ScalarFunction::Floor | ScalarFunction::Ceiling => Ok(x),
+        ScalarFunction::Minus => limited(x.checked_neg()),
+        ScalarFunction::Times => Ok(x.signum()),
+        ScalarFunction::Divide => reciprocal(x),
+        ScalarFunction::Stile => limited(x.checked_abs()),
+        ScalarFunction::Bang => factorial(x),
+        ScalarFunction::Tilde => negation(x),
+        _ => Err(Fault::Domain),
+    }
+}
+
+/// A dyadic function of two numbers.
+#[inline(always)]
+pub fn number2(f: ScalarFunction, x: i64, y: i64) -> Result<i64, Fault>
+    ensures { result ≡ dyadic_numbers f x y }
+{
+    match f {
+        ScalarFunction::Plus => limited(x.checked_add(y)),
+        ScalarFunction::Minus => limited(x.checked_sub(y)),
+        ScalarFunction::Times => limited(x.checked_mul(y)),
+        ScalarFunction::Divide => quotient(x, y),
+        ScalarFunction::Stile => Ok(residue(x, y)),
+        ScalarFunction::Star => power(x, y),
+        ScalarFunction::Bang => combinations(x, y),
+        ScalarFunction::Floor => Ok(if y < x { y } else { x }),
+        ScalarFunction::Ceiling => Ok(if y < x { x } else { y }),
+        ScalarFunction::And => and(x, y),
+        ScalarFunction::Or => or(x, y),
+        ScalarFunction::Nand => nand(x, y),
+        ScalarFunction::Nor => nor(x, y),
+        ScalarFunction::Less => Ok(bit(x < y)),
+        ScalarFunction::LessOrEqual => Ok(bit(x <= y)),
+        ScalarFunction::Equal => Ok(bit(x == y)),
+        ScalarFunction::GreaterOrEqual => Ok(bit(x >= y)),
+        ScalarFunction::Greater => Ok(bit(x > y)),
+        ScalarFunction::NotEqual => Ok(bit(x != y)),
+        ScalarFunction::Tilde => Err(Fault::Domain),
+    }
+}
+
+/// A monadic function of an element.
+#[inline(always)]
+pub fn element1(f: ScalarFunction, x: Elem) -> Result<i64, Fault>
+    ensures { result ≡ monadic_of f x }
+{
+    match x {
+        Elem::Int(x) => number1(f, x),
+        Elem::Chr(_) => Err(Fault::Domain),
+    }
+}
+
+/// A dyadic function of two elements.
+#[inline(always)]
+pub fn element2(f: ScalarFunction, x: Elem, y: Elem) -> Result<i64, Fault>
+    ensures { result ≡ dyadic_of f x y }
+{
+    match (x, y) {
+        (Elem::Int(x), Elem::Int(y)) => number2(f, x, y),
+        (Elem::Chr(c), Elem::Chr(d)) => compare(f, c == d),
+        _ => compare(f, false),
+    }
+}
+
+/// A dyadic function where a character is among the arguments.
+fn compare(f: ScalarFunction, same: bool) -> Result<i64, Fault>
+    ensures { result ≡ compare_elements f same }
+{
+    match f {
+        ScalarFunction::Equal => Ok(bit(same)),
+        ScalarFunction::NotEqual => Ok(bit(!same)),
+        _ => Err(Fault::Domain),
+    }
+}
+
+/// The result of a monadic scalar function of an element. It takes no memory.
+pub fn apply1(f: ScalarFunction, x: Elem) -> Result<Elem, Fault>
+    requires { IsTrue (has_monadic f) }
+    ensures { result ≡ as_element (monadic_of f x) }
+{
+    match element1(f, x) {
+        Ok(z) => Ok(Elem::Int(z)),
+        Err(fault) => Err(fault),
+    }
+}
+
+/// The result of a dyadic scalar function of two elements. It takes no memory.
+pub fn apply2(f: ScalarFunction, x: Elem, y: Elem) -> Result<Elem, Fault>
+    requires { IsTrue (has_dyadic f) }
+    ensures { result ≡ as_element (dyadic_of f x y) }
+{
+    match element2(f, x, y) {
+        Ok(z) => Ok(Elem::Int(z)),
+        Err(fault) => Err(fault),
+    }
+}
+
+/// What the reduction of no element by a dyadic function gives, where it gives something.
+pub fn identity(f: ScalarFunction) -> Option<i64>
+    ensures { result ≡ identity_of f }
+{
+    match f {
+        ScalarFunction::Plus
+        | ScalarFunction::Minus
+        | ScalarFunction::Stile
+        | ScalarFunction::Or
+        | ScalarFunction::Less
+        | ScalarFunction::Greater
+        | ScalarFunction::NotEqual => Some(0),
+        ScalarFunction::Times
+        | ScalarFunction::Divide
+        | ScalarFunction::Star
+        | ScalarFunction::Bang
+        | ScalarFunction::And
+        | ScalarFunction::LessOrEqual
+        | ScalarFunction::Equal
+        | ScalarFunction::GreaterOrEqual => Some(1),
+        ScalarFunction::Floor => Some(i64::MAX),
+        ScalarFunction::Ceiling => Some(i64::MIN),
+        ScalarFunction::Nand | ScalarFunction::Nor | ScalarFunction::Tilde => None,
+    }
+}

@@ -1,0 +1,81 @@
+//! The functions of truth values, of which 1 is true and 0 is false.
+ghost use Rattle.std.specs.Prelude.{◌≡◌, Ok, Err, ◌&&◌, ◌||◌, not, if◌then◌else◌};
+ghost use Rattle.apl_scalar.specs.Scalar.{bit, is_bit, is_one, logical, negation};
+
+use apl_pool::Fault;
+
+#[inline(always)]
+pub fn bit(truth: bool) -> i64
+    ensures { result ≡ bit truth }
+{
+    if truth { 1 } else { 0 }
+}
+
+#[inline(always)]
+fn is_bit(x: i64) -> bool
+    ensures { result ≡ is_bit x }
+{
+    x == 0 || x == 1
+}
+
+#[inline(always)]
+fn is_one(x: i64) -> bool
+    ensures { result ≡ is_one x }
+{
+    x == 1
+}
+
+#[inline(always)]
+pub fn negation(x: i64) -> Result<i64, Fault>
+    ensures { result ≡ negation x }
+{
+    if is_bit(x) {
+        Ok(bit(!is_one(x)))
+    } else {
+        Err(Fault::Domain)
+    }
+}
+
+#[inline(always)]
+pub fn and(x: i64, y: i64) -> Result<i64, Fault>
+    ensures { result ≡ logical (λ p q. p && q) x y }
+{
+    if is_bit(x) && is_bit(y) {
+        Ok(bit(is_one(x) && is_one(y)))
+    } else {
+        Err(Fault::Domain)
+    }
+}
+
+#[inline(always)]
+pub fn or(x: i64, y: i64) -> Result<i64, Fault>
+    ensures { result ≡ logical (λ p q. p || q) x y }
+{
+    if is_bit(x) && is_bit(y) {
+        Ok(bit(is_one(x) || is_one(y)))
+    } else {
+        Err(Fault::Domain)
+    }
+}
+
+#[inline(always)]
+pub fn nand(x: i64, y: i64) -> Result<i64, Fault>
+    ensures { result ≡ logical (λ p q. not (p && q)) x y }
+{
+    if is_bit(x) && is_bit(y) {
+        Ok(bit(!(is_one(x) && is_one(y))))
+    } else {
+        Err(Fault::Domain)
+    }
+}
+
+#[inline(always)]
+pub fn nor(x: i64, y: i64) -> Result<i64, Fault>
+    ensures { result ≡ logical (λ p q. not (p || q)) x y }
+{
+    if is_bit(x) && is_bit(y) {
+        Ok(bit(!(is_one(x) || is_one(y))))
+    } else {
+        Err(Fault::Domain)
+    }
+}
