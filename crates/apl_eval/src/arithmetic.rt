@@ -93,7 +93,11 @@ fn extended<'a>(left: &'a Shape, right: &'a Shape) -> Result<&'a Shape, Report>
     let left_is_one = left.count() == 1;
     let right_is_one = right.count() == 1;
     if left_is_one && right_is_one {
-        return Ok(if left.rank() < right.rank() { right } else { left });
+        return Ok(if left.rank() < right.rank() {
+            right
+        } else {
+            left
+        });
     }
     if left_is_one {
         return Ok(right);
@@ -142,11 +146,7 @@ fn each_pair<F: NumberFunction>(
 }
 
 /// The function at each place of the extended shape.
-fn pairwise<F: NumberFunction>(
-    alloc: Global,
-    left: &Array,
-    right: &Array,
-) -> Result<Array, Refusal>
+fn pairwise<F: NumberFunction>(alloc: Global, left: &Array, right: &Array) -> Result<Array, Refusal>
     ensures { Answers (pairwise_result F.exact left.now right.now (extended_shape left.now.shape right.now.shape)) (λ a. a) result }
 {
     let shape = match extended(left.shape(), right.shape()) {

@@ -142,7 +142,10 @@ fn carry_out(
             let (Some(left), Some(right)) = (stack.pop(), stack.pop()) else {
                 unreachable!()
             };
-            put(stack, result_value(alloc, *column, *function, &left, &right))
+            put(
+                stack,
+                result_value(alloc, *column, *function, &left, &right),
+            )
         }
         Operation::Assign(_, name, _) => {
             let Some(value) = stack.last() else {
@@ -200,11 +203,7 @@ fn text_of(alloc: Global, program: &Program, value: &Array, width: u8) -> Result
 ///
 /// An assignment shows nothing, and another statement the text of its value, printed at the workspace's width. After a fault the
 /// assignments made before it are kept. After want of memory the workspace is as it was.
-pub fn eval(
-    workspace: &mut Workspace,
-    alloc: Global,
-    program: &Program,
-) -> Result<Shown, EvalStop>
+pub fn eval(workspace: &mut Workspace, alloc: Global, program: &Program) -> Result<Shown, EvalStop>
     ensures { (tree : Expr) → operations tree ≡ program.now → Evaluates tree workspace.old workspace.new result }
 {
     let mut staged = Names::new(alloc);

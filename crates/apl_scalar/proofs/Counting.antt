@@ -41,20 +41,20 @@ choose-factorial (suc n) (suc k) h =
     let left = choose-factorial n k (omega arith) in
     ⊎_elim
     (λ below.
-        let right = choose-factorial n (suc k) (omega arith) in
-        let inner : n - k ≡ suc (n - suc k) = omega arith in
-        let outer : suc n - suc k ≡ suc (n - suc k) = omega arith in
-        let left' = rw inner at left in
-        let whole : k + 1 + suc (n - suc k) ≡ suc n = omega arith in
-        let sum = pascal_sum (choose n k) (choose n (suc k)) k (factorial k) (suc (n - suc k)) (factorial (n - suc k)) (factorial n) left' right in
-        rw outer (sum ∙ ap (λ x. x * factorial n) whole))
+    let right = choose-factorial n (suc k) (omega arith) in
+    let inner : n - k ≡ suc (n - suc k) = omega arith in
+    let outer : suc n - suc k ≡ suc (n - suc k) = omega arith in
+    let left' = rw inner at left in
+    let whole : k + 1 + suc (n - suc k) ≡ suc n = omega arith in
+    let sum = pascal_sum (choose n k) (choose n (suc k)) k (factorial k) (suc (n - suc k)) (factorial (n - suc k)) (factorial n) left' right in
+    rw outer (sum ∙ ap (λ x. x * factorial n) whole))
     (λ above.
-        let inner : n - k ≡ 0 = omega arith in
-        let outer : suc n - suc k ≡ 0 = omega arith in
-        let left' = rw inner at left in
-        let whole : k + 1 ≡ suc n = omega arith in
-        let sum = pascal_end (choose n k) (choose n (suc k)) k (factorial k) (factorial n) left' (choose-past n (suc k) (omega arith)) in
-        rw outer (sum ∙ ap (λ x. x * factorial n) whole))
+    let inner : n - k ≡ 0 = omega arith in
+    let outer : suc n - suc k ≡ 0 = omega arith in
+    let left' = rw inner at left in
+    let whole : k + 1 ≡ suc n = omega arith in
+    let sum = pascal_end (choose n k) (choose n (suc k)) k (factorial k) (factorial n) left' (choose-past n (suc k) (omega arith)) in
+    rw outer (sum ∙ ap (λ x. x * factorial n) whole))
     (cases_lt k n)
 
 same_from_scaled : (a b w : ℕ) → 0 < w → a * w ≡ b * w → a ≡ b

@@ -6,7 +6,8 @@ ghost use Rattle.apl_scalar.specs.Operands.{operand_at};
 
 use crate::function::ScalarFunction;
 use crate::glyphs::{
-    And, Bang, Ceiling, Divide, Equal, Floor, Function, Greater, GreaterOrEqual, Less, LessOrEqual, Minus, Nand, Nor, NotEqual, Or, Plus, Star, Stile, Tilde, Times,
+    And, Bang, Ceiling, Divide, Equal, Floor, Function, Greater, GreaterOrEqual, Less, LessOrEqual,
+    Minus, Nand, Nor, NotEqual, Or, Plus, Star, Stile, Tilde, Times,
 };
 use crate::kernels::{NumberKernel, NumberPairs, NumberPairsKernel};
 use apl_pool::{Cut, Gate, Pool, Stop};
@@ -103,7 +104,9 @@ pub fn fill_number_pairs<R: Threads + Sync, C: Cut + Sync, G: Gate + Sync>(
         ScalarFunction::Less => fill_pairs::<Less, R, C, G>(rt, alloc, pool, pairs),
         ScalarFunction::LessOrEqual => fill_pairs::<LessOrEqual, R, C, G>(rt, alloc, pool, pairs),
         ScalarFunction::Equal => fill_pairs::<Equal, R, C, G>(rt, alloc, pool, pairs),
-        ScalarFunction::GreaterOrEqual => fill_pairs::<GreaterOrEqual, R, C, G>(rt, alloc, pool, pairs),
+        ScalarFunction::GreaterOrEqual => fill_pairs::<GreaterOrEqual, R, C, G>(
+            rt, alloc, pool, pairs,
+        ),
         ScalarFunction::Greater => fill_pairs::<Greater, R, C, G>(rt, alloc, pool, pairs),
         ScalarFunction::NotEqual => fill_pairs::<NotEqual, R, C, G>(rt, alloc, pool, pairs),
         ScalarFunction::Tilde => unreachable!(),

@@ -3,8 +3,8 @@ ghost use Rattle.std.specs.Prelude.{◌≡◌, Bool, ◌&&◌, ◌||◌, not, Is
 ghost use Rattle.apl_scalar.specs.Scalar.{monadic_number, monadic_of, dyadic_numbers, dyadic_of, compare_elements, identity_of, has_monadic, has_dyadic, as_element, bit, is_bit, is_one, logical};
 
 use crate::arithmetic::{combinations, factorial, limited, power, quotient, reciprocal, residue};
-use crate::truth::{and, bit, nand, negation, nor, or};
 use crate::function::ScalarFunction;
+use crate::truth::{and, bit, nand, negation, nor, or};
 use apl_array::Elem;
 use apl_pool::Fault;
 

@@ -5,6 +5,7 @@ use apl_pool::{Every, Fault, Open, Pool};
 use std::test::Fail;
 
 const LEAST: i64 = i64::MIN;
+
 const MOST: i64 = i64::MAX;
 
 #[test]

@@ -110,7 +110,7 @@ module _ (state now : WorkspaceValue) (line : List ℕ) (ops : List Operation) (
   given_assignment old evaluates =
       let found : Evaluates read.0 state now (Ok Silent) = evaluates read.0 read.2 in
       let answers : IsStatementAnswer line read.0 (done found.0 now) (says [] now) =
-          subst (λ (b : Bool). MatchBool b (says [] now ≡ says [] now) (Prints found.0 now (says [] now))) (sym found.2) refl in
+      subst (λ (b : Bool). MatchBool b (says [] now ≡ says [] now) (Prints found.0 now (says [] now))) (sym found.2) refl in
       given_silent state now line old (statement read.0) read.1
       (subst (λ (o : Outcome). IsStatementAnswer line read.0 o (says [] now)) (sym found.1) answers)
 
@@ -124,7 +124,7 @@ module _ (state now : WorkspaceValue) (line : List ℕ) (ops : List Operation) (
       let answer : Answer WorkspaceValue = says (encode_utf8_all printed.0) now in
       let prints : Prints found.0 now answer = (printed.0, printed.1, refl) in
       let answers : IsStatementAnswer line read.0 (done found.0 now) answer =
-          subst (λ (b : Bool). MatchBool b (answer ≡ says [] now) (Prints found.0 now answer)) (sym found.2.0) prints in
+      subst (λ (b : Bool). MatchBool b (answer ≡ says [] now) (Prints found.0 now answer)) (sym found.2.0) prints in
       given_reading state line (string_bytes text) old new (statement read.0) answer put r e read.1
       (subst (λ (o : Outcome). IsStatementAnswer line read.0 o answer) (sym found.1) answers) refl printed.2 written
 

@@ -46,11 +46,7 @@ impl Interpreter for Answering {
 
 /// Answers the lines of a source in a new session, and writes the answers to a sink: up to the first line whose answer ends
 /// the run, or to the end of the source.
-pub fn run<R: Source, S: Sink>(
-    alloc: Global,
-    source: &mut R,
-    sink: &mut S,
-) -> Result<(), RunFault>
+pub fn run<R: Source, S: Sink>(alloc: Global, source: &mut R, sink: &mut S) -> Result<(), RunFault>
     // What was written is the text of a run over all of the source's lines, and nothing else.
     ensures ok { OnOk result (AnswersAll session_semantics opening_workspace (R.coming source.old)
         (S.taken sink.old) (S.taken sink.new)) }

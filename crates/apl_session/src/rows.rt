@@ -29,7 +29,10 @@ fn values_names_and_functions(rt: HostRuntime) -> Result<(), Fail> {
             ("B\n", "VALUE ERROR\n      B\n      ∧\n"),
             ("1 2+3 4\n", "4 6\n"),
         ] {
-            assert!(rt; writes(alloc, session.as_bytes(), most, text.as_bytes())?, "{session}");
+            assert!(rt;
+                writes(alloc, session.as_bytes(), most, text.as_bytes())?,
+                "{session}"
+            );
         }
     }
     Ok(())
@@ -47,7 +50,10 @@ fn ends_of_lines(rt: HostRuntime) -> Result<(), Fail> {
             ("\r", ""),
             ("1", "1\n"),
         ] {
-            assert!(rt; writes(alloc, session.as_bytes(), most, text.as_bytes())?, "{session}");
+            assert!(rt;
+                writes(alloc, session.as_bytes(), most, text.as_bytes())?,
+                "{session}"
+            );
         }
     }
     Ok(())
@@ -58,19 +64,37 @@ fn numerals_and_the_range(rt: HostRuntime) -> Result<(), Fail> {
     let alloc = rt.alloc();
     for most in SIZES {
         for (session, text) in [
-            ("9223372036854775808\n", "LIMIT ERROR\n      9223372036854775808\n      ∧\n"),
-            ("9223372036854775807+1\n", "LIMIT ERROR\n      9223372036854775807+1\n                         ∧\n"),
+            (
+                "9223372036854775808\n",
+                "LIMIT ERROR\n      9223372036854775808\n      ∧\n",
+            ),
+            (
+                "9223372036854775807+1\n",
+                "LIMIT ERROR\n      9223372036854775807+1\n                         ∧\n",
+            ),
             ("1 2 ¯\n", "SYNTAX ERROR\n      1 2 ¯\n          ∧\n"),
             ("¯¯1\n", "SYNTAX ERROR\n      ¯¯1\n      ∧\n"),
             ("1¯\n", "SYNTAX ERROR\n      1¯\n       ∧\n"),
-            ("1 2 9223372036854775808\n", "LIMIT ERROR\n      1 2 9223372036854775808\n          ∧\n"),
-            ("1 ¯9223372036854775809\n", "LIMIT ERROR\n      1 ¯9223372036854775809\n        ∧\n"),
+            (
+                "1 2 9223372036854775808\n",
+                "LIMIT ERROR\n      1 2 9223372036854775808\n          ∧\n",
+            ),
+            (
+                "1 ¯9223372036854775809\n",
+                "LIMIT ERROR\n      1 ¯9223372036854775809\n        ∧\n",
+            ),
             ("¯9223372036854775808\n", "¯9223372036854775808\n"),
             ("000000000000000000000000000007 ¯0\n", "7 0\n"),
             ("++ 1_\n", "SYNTAX ERROR\n      ++ 1_\n          ∧\n"),
-            ("1 9223372036854775808 ¯\n", "LIMIT ERROR\n      1 9223372036854775808 ¯\n        ∧\n"),
+            (
+                "1 9223372036854775808 ¯\n",
+                "LIMIT ERROR\n      1 9223372036854775808 ¯\n        ∧\n",
+            ),
         ] {
-            assert!(rt; writes(alloc, session.as_bytes(), most, text.as_bytes())?, "{session}");
+            assert!(rt;
+                writes(alloc, session.as_bytes(), most, text.as_bytes())?,
+                "{session}"
+            );
         }
     }
     Ok(())
@@ -90,7 +114,10 @@ fn carets_of_grammar_faults(rt: HostRuntime) -> Result<(), Fail> {
             ("1A\n", "SYNTAX ERROR\n      1A\n      ∧\n"),
             ("A¯1\n", "SYNTAX ERROR\n      A¯1\n      ∧\n"),
         ] {
-            assert!(rt; writes(alloc, session.as_bytes(), most, text.as_bytes())?, "{session}");
+            assert!(rt;
+                writes(alloc, session.as_bytes(), most, text.as_bytes())?,
+                "{session}"
+            );
         }
     }
     Ok(())
@@ -102,7 +129,10 @@ fn an_unlisted_symbol_is_judged_before_all_else(rt: HostRuntime) -> Result<(), F
     for most in SIZES {
         for (session, text) in [
             ("2○3\n", "CHARACTER ERROR\n      2\n       ∧\n"),
-            ("2○3\n2+3 4 5\n", "CHARACTER ERROR\n      2\n       ∧\n5 6 7\n"),
+            (
+                "2○3\n2+3 4 5\n",
+                "CHARACTER ERROR\n      2\n       ∧\n5 6 7\n",
+            ),
             ("\u{feff}\n", "CHARACTER ERROR\n      \n      ∧\n"),
             ("1\t2\n", "CHARACTER ERROR\n      1\n       ∧\n"),
             ("1\r\r\n", "CHARACTER ERROR\n      1\n       ∧\n"),
@@ -110,12 +140,43 @@ fn an_unlisted_symbol_is_judged_before_all_else(rt: HostRuntime) -> Result<(), F
             (")OFF\n", "CHARACTER ERROR\n      \n      ∧\n"),
             ("¯¯'\n", "CHARACTER ERROR\n      ¯¯\n        ∧\n"),
         ] {
-            assert!(rt; writes(alloc, session.as_bytes(), most, text.as_bytes())?, "{session}");
+            assert!(rt;
+                writes(alloc, session.as_bytes(), most, text.as_bytes())?,
+                "{session}"
+            );
         }
-        assert!(rt; writes(alloc, b"A\xff\n", most, b"CHARACTER ERROR\n      A\n       \xe2\x88\xa7\n")?);
-        assert!(rt; writes(alloc, b"1+\xe2\x8d\n", most, b"CHARACTER ERROR\n      1+\n        \xe2\x88\xa7\n")?);
-        assert!(rt; writes(alloc, b"\xc0\x80\n", most, b"CHARACTER ERROR\n      \n      \xe2\x88\xa7\n")?);
-        assert!(rt; writes(alloc, b"\xed\xa0\x80\n", most, b"CHARACTER ERROR\n      \n      \xe2\x88\xa7\n")?);
+        assert!(rt;
+            writes(
+                alloc,
+                b"A\xff\n",
+                most,
+                b"CHARACTER ERROR\n      A\n       \xe2\x88\xa7\n"
+            )?
+        );
+        assert!(rt;
+            writes(
+                alloc,
+                b"1+\xe2\x8d\n",
+                most,
+                b"CHARACTER ERROR\n      1+\n        \xe2\x88\xa7\n"
+            )?
+        );
+        assert!(rt;
+            writes(
+                alloc,
+                b"\xc0\x80\n",
+                most,
+                b"CHARACTER ERROR\n      \n      \xe2\x88\xa7\n"
+            )?
+        );
+        assert!(rt;
+            writes(
+                alloc,
+                b"\xed\xa0\x80\n",
+                most,
+                b"CHARACTER ERROR\n      \n      \xe2\x88\xa7\n"
+            )?
+        );
     }
     Ok(())
 }

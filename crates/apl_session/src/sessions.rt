@@ -98,9 +98,12 @@ fn answer_statement<S: Sink>(
     match eval(workspace, alloc, program) {
         Ok(Shown::Silent) => Ok(Next::Go),
         Ok(Shown::Text(text)) => go_on(put_all(sink, text.as_bytes())),
-        Err(EvalStop::Error { report: name, column }) => {
-            go_on(report(sink, name, line, Some(column)))
-        }
+        Err(
+            EvalStop::Error {
+                report: name,
+                column,
+            },
+        ) => { go_on(report(sink, name, line, Some(column))) }
         Err(EvalStop::Memory) => go_on(report(sink, Report::WsFull, line, None)),
     }
 }

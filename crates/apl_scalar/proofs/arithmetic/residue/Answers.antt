@@ -25,13 +25,13 @@ returns-else-a-lt0 c =
     let rest = simp to_z-of_z at c.wrapping_rem_euclid-rest.ensures in
     elim c.else-a-lt0.branch [
       | else-a-lt0-via-then-a-lt0+else-rest-ne0 w ↦
-        (let below : c.args.a <ℤ pos 0 = omega (arith, ints) in
-        let t = w.if-rest-ne0.false in
-        let none : c.wrapping_rem_euclid-rest.result ≡ pos 0 = omega (arith, ints) in
-        let is = residue_zero c.args.a c.args.b below (sym rest ∙ none) in
-        rw (is, none) refl)
+          (let below : c.args.a <ℤ pos 0 = omega (arith, ints) in
+          let t = w.if-rest-ne0.false in
+          let none : c.wrapping_rem_euclid-rest.result ≡ pos 0 = omega (arith, ints) in
+          let is = residue_zero c.args.a c.args.b below (sym rest ∙ none) in
+          rw (is, none) refl)
       | else-a-lt0-via-else-a-lt0 w ↦
-        (let above : pos 0 <ℤ c.args.a = omega (arith, ints) in
-        let is = residue_pos c.args.a c.args.b above in
-        rw (is, ← rest) (omega (arith, ints)))
+          (let above : pos 0 <ℤ c.args.a = omega (arith, ints) in
+          let is = residue_pos c.args.a c.args.b above in
+          rw (is, ← rest) (omega (arith, ints)))
     ]

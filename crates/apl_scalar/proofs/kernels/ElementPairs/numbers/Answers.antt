@@ -31,8 +31,8 @@ returns-in-Some-Some-clause-same c =
     let right_lawful : IsArray k.right.now = c.in-Some-Some.ensures'.lawful in
     dyadic_place k.function k.left.now k.right.now xs ys k.shape.now (not k.left_is_whole) (not k.right_is_whole)
     (λ place inside. element_of_operand k.left.now xs k.shape.now place (not k.left_is_whole) left inside (k.left_same ∙ not_not k.left_is_whole)
-        (operand_whole k.left.now xs k.shape.now k.left_is_whole left left_lawful k.left_same)
-        (operand_one k.left.now xs k.left_is_whole left left_lawful k.left_one))
+    (operand_whole k.left.now xs k.shape.now k.left_is_whole left left_lawful k.left_same)
+    (operand_one k.left.now xs k.left_is_whole left left_lawful k.left_one))
     (λ place inside. element_of_operand k.right.now ys k.shape.now place (not k.right_is_whole) right inside (k.right_same ∙ not_not k.right_is_whole)
-        (operand_whole k.right.now ys k.shape.now k.right_is_whole right right_lawful k.right_same)
-        (operand_one k.right.now ys k.right_is_whole right right_lawful k.right_one))
+    (operand_whole k.right.now ys k.shape.now k.right_is_whole right right_lawful k.right_same)
+    (operand_one k.right.now ys k.right_is_whole right right_lawful k.right_one))
