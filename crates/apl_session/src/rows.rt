@@ -1,5 +1,5 @@
 //! Whole sessions, and what they write.
-use crate::{MemorySource, run};
+use crate::{MemorySource, Next, RunFault, Session, ending, run};
 use apl_print::MemorySink;
 use std::alloc::{AllocError, Global};
 use std::test::Fail;
@@ -194,5 +194,61 @@ fn long_lines(rt: HostRuntime) -> Result<(), Fail> {
     let unlisted = vec![in alloc; 0xe2; 100_000]?;
     let report = "CHARACTER ERROR\n      \n      ∧\n".as_bytes();
     assert!(rt; writes(alloc, unlisted.as_slice(), 1 << 20, report)?);
+    Ok(())
+}
+
+#[test]
+fn a_source_that_fails(rt: HostRuntime) -> Result<(), Fail> {
+    let alloc = rt.alloc();
+    let mut source = MemorySource::new(b"1+1\n2+", 6, Some(2));
+    let mut sink = MemorySink::new(alloc, 7, None);
+    assert_eq!(rt; run(alloc, &mut source, &mut sink), Err(RunFault::Read));
+    assert!(rt; sink.bytes() == b"2\n".as_slice());
+    Ok(())
+}
+
+#[test]
+fn a_sink_that_fails_at_each_call_in_turn(rt: HostRuntime) -> Result<(), Fail> {
+    let alloc = rt.alloc();
+    let text = "6\nLENGTH ERROR\n      1 2+1 2 3\n         ∧\n".as_bytes();
+    for most in [1, 7] {
+        let mut is_whole = false;
+        for call in 1..100 {
+            let mut source = MemorySource::new("A+A←3\n1 2+1 2 3\n".as_bytes(), 64, None);
+            let mut sink = MemorySink::new(alloc, most.max(1), Some(call));
+            let outcome = run(alloc, &mut source, &mut sink);
+            assert!(rt; text.starts_with(sink.bytes()));
+            is_whole = outcome.is_ok();
+            assert!(rt; is_whole == (sink.bytes() == text));
+            if is_whole {
+                break;
+            }
+            assert_eq!(rt; outcome, Err(RunFault::Write));
+        }
+        assert!(rt; is_whole);
+    }
+    Ok(())
+}
+
+#[test]
+fn a_session_is_as_after_a_line_whose_write_fails(rt: HostRuntime) -> Result<(), Fail> {
+    let alloc = rt.alloc();
+    let mut session = Session::new(alloc);
+    let mut failing = MemorySink::new(alloc, 7, Some(1));
+    let outcome = session.line(alloc, "A+A←3".as_bytes(), &mut failing);
+    assert_eq!(rt; outcome, Err(RunFault::Write));
+    assert!(rt; failing.bytes().is_empty());
+    let mut sink = MemorySink::new(alloc, 7, None);
+    assert_eq!(rt; session.line(alloc, b"A", &mut sink), Ok(Next::Go));
+    assert!(rt; sink.bytes() == b"3\n".as_slice());
+    Ok(())
+}
+
+#[test]
+fn how_the_program_ends(rt: HostRuntime) -> Result<(), Fail> {
+    assert_eq!(rt; ending(&Ok(())), (0, ""));
+    assert_eq!(rt; ending(&Err(RunFault::Read)), (1, "aplcalc: read failed"));
+    assert_eq!(rt; ending(&Err(RunFault::Write)), (1, "aplcalc: write failed"));
+    assert_eq!(rt; ending(&Err(RunFault::Memory)), (1, "aplcalc: no memory"));
     Ok(())
 }

@@ -13,7 +13,7 @@ use super::interpreter::{Next, RunFault};
 use super::lines::trim_return;
 use apl_eval::{EvalStop, Shown, Workspace, eval};
 use apl_grammar::Program;
-use apl_print::{Report, Sink, SinkFault, put_all, report};
+use apl_print::{Report, Sink, SinkFault, put_all, report as put_report};
 use apl_syntax::{Line, ReadStop, read};
 use std::alloc::Global;
 use std::marker::Model;
@@ -75,11 +75,21 @@ fn answer<S: Sink>(
         Ok(Line::Blank) => Ok(Next::Go),
         Ok(Line::Statement(program)) => answer_statement(workspace, alloc, &program, line, sink),
         Err(ReadStop::Character { bytes, column }) => {
-            go_on(report(sink, Report::Character, &line[..bytes], Some(column)))
+            go_on(put_report(sink, Report::Character, &line[..bytes], Some(column)))
         }
-        Err(ReadStop::Syntax { column }) => go_on(report(sink, Report::Syntax, line, Some(column))),
-        Err(ReadStop::Limit { column }) => go_on(report(sink, Report::Limit, line, Some(column))),
-        Err(ReadStop::Memory) => go_on(report(sink, Report::WsFull, line, None)),
+        Err(ReadStop::Syntax { column }) => go_on(put_report(
+            sink,
+            Report::Syntax,
+            line,
+            Some(column),
+        )),
+        Err(ReadStop::Limit { column }) => go_on(put_report(
+            sink,
+            Report::Limit,
+            line,
+            Some(column),
+        )),
+        Err(ReadStop::Memory) => go_on(put_report(sink, Report::WsFull, line, None)),
     }
 }
 
@@ -98,13 +108,10 @@ fn answer_statement<S: Sink>(
     match eval(workspace, alloc, program) {
         Ok(Shown::Silent) => Ok(Next::Go),
         Ok(Shown::Text(text)) => go_on(put_all(sink, text.as_bytes())),
-        Err(
-            EvalStop::Error {
-                report: name,
-                column,
-            },
-        ) => { go_on(report(sink, name, line, Some(column))) }
-        Err(EvalStop::Memory) => go_on(report(sink, Report::WsFull, line, None)),
+        Err(EvalStop::Error { report, column }) => {
+            go_on(put_report(sink, report, line, Some(column)))
+        }
+        Err(EvalStop::Memory) => go_on(put_report(sink, Report::WsFull, line, None)),
     }
 }
 
