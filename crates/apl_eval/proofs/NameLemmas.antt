@@ -1,13 +1,13 @@
 -- A hash map's names as a finite map, and maps laid over one another.
-use Rattle.std.proofs.Common.{◌≡◌, ◌<◌, ◌≤◌, ◌+◌, ℕ, suc, List, [], ◌∷◌, ◌++◌, length, map, Option, Some, None, refl, sym, ap, ◌∙◌, subst, arith, Bor, ◌⊎◌, inl, inr}
-use Rattle.std.specs.Prelude.{Bool, true, false, cond, string_bytes, String, option_map, option_copied, MatchOption, string_eq, bytes_eq, is_some}
-use Rattle.std.specs.Ordering.{nat_cmp, is_eq, eq_by_cmp}
+use Rattle.std.proofs.Common.{◌≡◌, ◌≤◌, ◌+◌, ℕ, List, [], ◌∷◌, ◌++◌, length, map, Option, Some, None, refl, sym, ap, ◌∙◌, subst, arith, Bor, ◌⊎◌, inl, inr}
+use Rattle.std.specs.Prelude.{Bool, true, false, cond, string_bytes, String, option_map, option_copied, MatchOption, string_eq, bytes_eq}
+use Rattle.std.specs.Ordering.{nat_cmp, eq_by_cmp}
 use Rattle.std.specs.Cmp.Lexicographic.{slice_cmp, nat_list_cmp_total}
 use Rattle.std.specs.Cmp.{eq_by_cmp_equiv}
-use Rattle.std.specs.FinMap.{find, from_entries, entries, get, insert, empty, get-from_entries, get-entries, get-insert, get-empty, same_map, slice_cmp-IsAntisymmetric, nat_cmp-IsAntisymmetric}
+use Rattle.std.specs.FinMap.{find, entries, get, insert, empty, get-from_entries, get-entries, get-insert, get-empty, same_map, slice_cmp-IsAntisymmetric, nat_cmp-IsAntisymmetric}
 use Rattle.std.specs.HashMap.{HashMap, get_by_text, IsUnique, UpdatesBy, spare}
 use Rattle.std.specs.HashMap.{get as hash_get}
-use Rattle.std.specs.Map.{lookup, update, keys_of}
+use Rattle.std.specs.Map.{lookup, keys_of}
 use Rattle.std.specs.List.{IsDistinct, AllByRecursion}
 use Rattle.std.specs.declared.rc.Rc.{Rc}
 use Rattle.std.proofs.lemmas.Slice.Eq.{bytes_eq-Decides}

@@ -1,10 +1,9 @@
 -- The stack that a vector holds, and the workspace with staged assignments.
-use Rattle.std.proofs.Common.{◌≡◌, ◌<◌, ◌-◌, ◌+◌, ℕ, suc, List, [], ◌∷◌, ◌++◌, length, take, drop, get_or, map, reverse, refl, sym, ◌∙◌, ap, arith, drop-cons}
+use Rattle.std.proofs.Common.{◌≡◌, ◌<◌, ◌-◌, ℕ, suc, List, [], ◌∷◌, ◌++◌, length, take, drop, get_or, map, sym, ◌∙◌, ap, arith, drop-cons}
 use Rattle.std.proofs.lemmas.List.{drop_all, take-append-drop, reverse-append}
 use Rattle.std.specs.declared.rc.Rc.{Rc}
 use Rattle.apl_array.specs.Array.{ArrayValue}
 use Rattle.apl_eval.specs.Workspace.{NameValues, WorkspaceValue, with_names, assigned}
-use Rattle.apl_eval.specs.Names.{overlaid}
 use Rattle.apl_eval.specs.Steps.{stack_of, staged_in}
 use Rattle.apl_eval.proofs.NameLemmas.{overlaid-empty, overlaid-insert}
 use Rattle.std.specs.FinMap.{empty, insert}

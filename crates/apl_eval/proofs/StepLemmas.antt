@@ -1,5 +1,5 @@
 -- The operations of a tree, carried out one after another, come to the tree's meaning.
-use Rattle.std.proofs.Common.{◌≡◌, ◌≢◌, ◌+◌, ◌<◌, ◌≤◌, ℕ, List, [], ◌∷◌, ◌++◌, length, drop, get_or, refl, sym, ◌∙◌, ap, subst, append_assoc, arith, drop-cons, add-one, Err}
+use Rattle.std.proofs.Common.{◌≡◌, ◌≢◌, ◌+◌, ◌<◌, ◌≤◌, ℕ, List, [], ◌∷◌, ◌++◌, length, drop, get_or, refl, sym, ◌∙◌, ap, append_assoc, drop-cons, add-one, Err}
 use Rattle.std.proofs.lemmas.List.{append-nil, drop_all}
 use Rattle.apl_array.specs.Array.{ArrayValue}
 use Rattle.apl_tokens.specs.declared.token.Glyph.{Glyph}
@@ -10,7 +10,7 @@ use Rattle.apl_print.specs.declared.reports.Report.{Report}
 use Rattle.apl_eval.specs.Workspace.{WorkspaceValue, assigned}
 use Rattle.apl_eval.specs.Arithmetic.{dyadic_result}
 use Rattle.apl_eval.specs.Meaning.{Outcome, done, failed, then, judged, mean_operand, mean}
-use Rattle.apl_eval.specs.Steps.{State, waiting, ended, stuck, onto, step, go_on, steps, IsOutcome, IsState}
+use Rattle.apl_eval.specs.Steps.{waiting, ended, stuck, onto, step, go_on, steps, IsOutcome, IsState}
 use Rattle.apl_eval.specs.declared.statement.EvalStop.{EvalStop}
 use Rattle.apl_eval.specs.declared.statement.EvalStop.TheVariants.{Error, Memory}
 

@@ -1,5 +1,5 @@
 -- The pairs of numbers that a function of two arrays goes through. No contract of a public function cites this file.
-use Rattle.std.specs.Prelude.{◌≡◌, ◌⊎◌, ℕ, ℤ, List, [], ◌∷◌, Option, Some, None, Result, Ok, Err, if◌then◌else◌}
+use Rattle.std.specs.Prelude.{◌≡◌, ◌⊎◌, ℕ, ℤ, List, [], ◌∷◌, Option, Some, None, Result, if◌then◌else◌}
 use Rattle.apl_array.specs.Range.{in_range}
 use Rattle.apl_print.specs.declared.reports.Report.{Report}
 use Rattle.apl_eval.specs.Arithmetic.{limited, zip_with, all_or_first, and_first}

@@ -8,3 +8,6 @@ mod workspace;
 
 pub use statement::{EvalStop, Shown, eval};
 pub use workspace::Workspace;
+
+#[cfg(test)]
+mod tests;

@@ -20,14 +20,16 @@ pub struct Workspace {
 }
 
 impl Model for Workspace {
-    ghost use Rattle.std.specs.Prelude.{◌≤◌};
-    ghost use Rattle.std.specs.Coded.{codes};
+    ghost use Rattle.std.specs.Prelude.{ℕ, ◌≤◌, refl};
+    ghost use Rattle.std.specs.Coded.{code_by, coded×, coded_ℕ};
+    ghost use Rattle.apl_array.specs.declared.axis.Origin.{Origin};
+    ghost use Rattle.apl_array.specs.contracts.axis.Origin as origins;
     ghost use Rattle.apl_eval.specs.contracts.names.Names as stored;
-    ghost use Rattle.apl_eval.specs.Workspace.{WorkspaceValue};
+    ghost use Rattle.apl_eval.specs.Workspace.{NameValues, WorkspaceValue};
 
     ghost Value = { WorkspaceValue };
 
-    ghost coded = { Prim.hlevel (codes, stored.the_row.coded) };
+    ghost coded = { code_by (NameValues × (Origin × ℕ)) (coded× stored.the_row.coded (coded× origins.the_row.coded coded_ℕ)) (λ w. (w.names, (w.origin, w.width))) (λ p. record { names = p.0; origin = p.1.0; width = p.1.1 }) (λ _. refl) };
 
     ghost view = { λ w. record { names = w.names; origin = w.origin; width = w.width } };
 

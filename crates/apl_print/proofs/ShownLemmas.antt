@@ -1,13 +1,17 @@
 -- The text of an array: the printer's layout is the one that the definition allows.
-use Rattle.std.proofs.Common.{◌≡◌, ℕ, zero, suc, ◌+◌, ◌-◌, ◌<◌, ◌≤◌, List, [], ◌∷◌, ◌++◌, length, take, drop, get_or, map, max, replicate, None, refl, sym, ap, ◌∙◌, subst, ⊎_elim, arith, length-append}
+use Rattle.std.proofs.Common.{pos, negsuc, ◌≡◌, ℕ, zero, suc, ◌+◌, ◌-◌, ◌<◌, ◌≤◌, List, [], ◌∷◌, ◌++◌, length, take, drop, get_or, map, max, replicate, None, refl, sym, ap, ◌∙◌, subst, ⊎_elim, arith, length-append}
 use Rattle.std.specs.Prelude.{encode_utf8_all}
 use Rattle.std.specs.List.{All, fold}
 use Rattle.std.proofs.lemmas.Bool.{cases_lt}
 use Rattle.std.proofs.lemmas.List.{length-replicate, get_or_past}
-use Rattle.std.proofs.lemmas.List.Elements.{All-head, All-tail, All-nil, All-cons, All-take, All-drop, All-weaker}
+use Rattle.std.proofs.lemmas.List.Elements.{All-head, All-tail, All-nil, All-cons, All-take, All-drop, All-weaker, All-map}
+use Rattle.std.proofs.lemmas.Int.{ints}
+use Rattle.std.proofs.lemmas.Fmt.{length-decimal-le}
+use Rattle.apl_array.specs.declared.array.Elem.{Elem}
+use Rattle.apl_array.specs.declared.array.Elem.TheVariants.{Int, Chr}
 use Rattle.apl_array.specs.Array.{ArrayValue}
 use Rattle.apl_print.specs.Text.{line_feed, blank, blanks, indent}
-use Rattle.apl_print.specs.Shown.{field_of, gap_of, row_count, row_length, rows_of, column_width, padded, aligned, empty_lines, AreRows, IsText, IsShown}
+use Rattle.apl_print.specs.Shown.{IsInRange, field_of, gap_of, row_count, row_length, rows_of, column_width, padded, aligned, empty_lines, AreRows, IsText, IsShown}
 use Rattle.apl_print.specs.Layout.{laid, rows_laid}
 use Rattle.apl_print.proofs.RowLemmas.{row_is_laid, IsRow-laid}
 
@@ -143,4 +147,17 @@ shown_by_layout a width gap bytes wide is_gap short is_text = (
   subst (λ g. IsText width g a.shape (map field_of a.ravel) (laid_text width gap a.shape (map field_of a.ravel))) is_gap
       (IsText-laid width gap a.shape (map field_of a.ravel) 21 (omega arith) short),
   is_text,
+)
+
+-- numbers of 64 bits have short fields
+field_of-short : (x : Elem) → IsInRange x → length (field_of x) ≤ 21
+field_of-short (Int (pos n)) fits = omega (arith, length-decimal-le 20 n (omega arith) (omega (arith, ints)) (omega (arith, ints)))
+field_of-short (Int (negsuc n)) fits = omega (arith, length-decimal-le 20 (suc n) (omega arith) (omega (arith, ints)) (omega (arith, ints)))
+field_of-short (Chr c) fits = omega arith
+
+pub shown_always : (a : ArrayValue) (width : ℕ) → All IsInRange a.ravel → 30 ≤ width → (text : List ℕ) × IsShown a width text
+shown_always a width in_range wide = (
+  laid_text width (gap_of a.kind) a.shape (map field_of a.ravel),
+  IsText-laid width (gap_of a.kind) a.shape (map field_of a.ravel) 21 (omega arith)
+      (All-map (λ f. length f ≤ 21) field_of a.ravel (All-weaker IsInRange (λ x. length (field_of x) ≤ 21) field_of-short a.ravel in_range)),
 )

@@ -14,7 +14,7 @@ pub use reporting::report;
 pub use reports::Report;
 pub use sinks::{Sink, SinkFault, put_all};
 pub use streams::Out;
-pub use values::{numerals, print, shown_once};
+pub use values::{numerals, print, shown_always, shown_once};
 
 #[cfg(test)]
 mod tests;

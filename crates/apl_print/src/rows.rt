@@ -47,8 +47,9 @@ impl Layout {
         requires lawful { IsArray array.now }
         requires order { start ≤ end }
         requires within { end ≤ count_of array.now.shape }
-        ensures laid { OnOk result (string_bytes text.new ≡ string_bytes text.old
-            ++ encode_utf8_all (laid self.width self.gap None (aligned (slice_index widths.now) 0 (fields_between array.now start end)))) }
+        ensures laid { OnOk result (
+            let row = aligned (slice_index widths.now) 0 (fields_between array.now start end) in
+            string_bytes text.new ≡ string_bytes text.old ++ encode_utf8_all (laid self.width self.gap None row)) }
         ensures short { OnOk result (All (λ field. length field ≤ 21) (fields_between array.now start end)) }
     {
         let mut column = None;
@@ -69,9 +70,12 @@ impl Layout {
         width: u8,
     ) -> Result<usize, AllocError>
         requires { IfSome column (λ c. c ≤ 300) }
-        ensures text { OnOk result (string_bytes text.new ≡ string_bytes text.old
-            ++ encode_utf8_all (lead self.width self.gap column (length (padded width (field_of element))) ++ padded width (field_of element))) }
-        ensures column { IfOk result (λ next. next ≡ column_after self.width self.gap column (length (padded width (field_of element)))) }
+        ensures text { OnOk result (
+            let field = padded width (field_of element) in
+            string_bytes text.new ≡ string_bytes text.old
+            ++ encode_utf8_all (lead self.width self.gap column (length field) ++ field)) }
+        ensures column { IfOk result (λ next.
+            next ≡ column_after self.width self.gap column (length (padded width (field_of element)))) }
         ensures open { IfOk result (λ next. next ≤ 300) }
         ensures short { length (field_of element) ≤ 21 }
     {
@@ -92,7 +96,8 @@ impl Layout {
     ) -> Result<usize, AllocError>
         requires open { IfSome column (λ c. c ≤ 300) }
         requires short { size ≤ 280 }
-        ensures text { OnOk result (string_bytes text.new ≡ string_bytes text.old ++ encode_utf8_all (lead self.width self.gap column size)) }
+        ensures text { OnOk result (string_bytes text.new ≡ string_bytes text.old
+            ++ encode_utf8_all (lead self.width self.gap column size)) }
         ensures column { IfOk result (λ next. next ≡ column_after self.width self.gap column size) }
         ensures open { IfOk result (λ next. next ≤ 300) }
     {
@@ -124,9 +129,10 @@ pub(crate) fn put_rows(
     requires rank { 1 < length array.now.shape }
     requires some { 0 < count_of array.now.shape }
     ensures laid { OnOk result (
-        let rows = rows_of (row_count array.now.shape) (row_length array.now.shape) (map field_of array.now.ravel) in
+        let shape = array.now.shape in
+        let rows = rows_of (row_count shape) (row_length shape) (map field_of array.now.ravel) in
         string_bytes text.new ≡ string_bytes text.old
-        ++ encode_utf8_all (rows_laid layout.width layout.gap array.now.shape 0 (map (aligned (column_width rows) 0) rows))) }
+        ++ encode_utf8_all (rows_laid layout.width layout.gap shape 0 (map (aligned (column_width rows) 0) rows))) }
     ensures short { OnOk result (All (λ field. length field ≤ 21) (map field_of array.now.ravel)) }
 {
     let lengths = array.shape().lengths();
@@ -212,9 +218,10 @@ fn column_widths(
 fn widen(widths: &mut [u8], array: &Array, start: usize)
     requires lawful { IsArray array.now }
     requires within { start + length widths.old ≤ count_of array.now.shape }
-    ensures widths { (k : ℕ) → k < length widths.old
-        → slice_index widths.new k ≡ max (slice_index widths.old k) (length (field_of (element_in array.now (start + k)))) }
-    ensures short { (k : ℕ) → k < length widths.old → length (field_of (element_in array.now (start + k))) ≤ 21 }
+    ensures widths { (k : ℕ) → k < length widths.old → slice_index widths.new k
+        ≡ max (slice_index widths.old k) (length (field_of (element_in array.now (start + k)))) }
+    ensures short { (k : ℕ) → k < length widths.old
+        → length (field_of (element_in array.now (start + k))) ≤ 21 }
 {
     'columns: for (k, width) in widths.iter_mut().enumerate() {
         *width = (*width).max(length_of(array.get(start + k)));
@@ -244,7 +251,8 @@ fn length_of(element: Elem) -> u8
 
 /// Puts the field of an element.
 fn push_element(text: &mut String, element: Elem) -> Result<(), AllocError>
-    ensures { OnOk result (string_bytes text.new ≡ string_bytes text.old ++ encode_utf8_all (field_of element)) }
+    ensures { OnOk result (string_bytes text.new
+        ≡ string_bytes text.old ++ encode_utf8_all (field_of element)) }
 {
     match element {
         Elem::Int(number) => {
@@ -259,7 +267,8 @@ fn push_element(text: &mut String, element: Elem) -> Result<(), AllocError>
 
 /// Puts a character so many times.
 fn push_run(text: &mut String, character: char, count: usize) -> Result<(), AllocError>
-    ensures { OnOk result (string_bytes text.new ≡ string_bytes text.old ++ encode_utf8_all (replicate count character)) }
+    ensures { OnOk result (string_bytes text.new
+        ≡ string_bytes text.old ++ encode_utf8_all (replicate count character)) }
 {
     'run: for _i in 0..count {
         text.push(character)?;

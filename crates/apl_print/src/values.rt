@@ -1,8 +1,8 @@
 //! Printed values.
-ghost use Rattle.std.specs.Prelude.{◌≡◌, ℕ, ◌^◌, ◌<◌, ◌≤◌, List, IfOk, string_bytes, encode_utf8_all, slice_index, decimal};
+ghost use Rattle.std.specs.Prelude.{◌≡◌, ℕ, ◌^◌, ◌<◌, ◌≤◌, List, All, IfOk, string_bytes, encode_utf8_all, slice_index, decimal};
 ghost use Rattle.std.specs.Str.Parse.{IsNumeral, digits_value};
 ghost use Rattle.apl_array.specs.Array.{ArrayValue};
-ghost use Rattle.apl_print.specs.Shown.{IsShown};
+ghost use Rattle.apl_print.specs.Shown.{IsInRange, IsShown};
 
 use super::rows::{Layout, put_rows};
 use apl_array::Array;
@@ -10,13 +10,19 @@ use std::alloc::{AllocError, Global};
 
 /// The text of an array on lines of at most `width` characters, each ended by a line feed.
 ///
-/// A scalar is one line, and a vector is a row of fields: a field is a number's digits or a character. Numbers have a blank between
-/// them. A field that does not fit begins a continuation line after six blanks. An array of rank 2 and above is its rows, in columns
-/// that are as wide as their widest field over the whole array, with empty lines between its planes; without elements it is no line.
+/// A scalar or a vector is one row of fields, and a vector without elements is an empty line. A field
+/// is the digits of a number, behind `¯` where it is negative, or a character. Numbers have a blank
+/// between them. A field that does not fit on its line begins a continuation line after six blanks.
+///
+/// An array of rank 2 and above is its rows, in columns that are as wide as their widest field over the
+/// whole array, with empty lines between its planes. Without elements it has no line.
+///
+/// Memory is taken for the text, and for a byte for each column of an array of rank 2 and above.
 pub fn print(alloc: Global, array: &Array, width: u8) -> Result<String, AllocError>
     requires low { 30 ≤ width }
     requires high { width ≤ 130 }
-    ensures shown { IfOk result (λ text. (characters : List ℕ) × IsShown array.now width characters × (string_bytes text ≡ encode_utf8_all characters)) }
+    ensures shown { IfOk result (λ text. (characters : List ℕ) × IsShown array.now width characters
+        × (string_bytes text ≡ encode_utf8_all characters)) }
 {
     let layout = Layout::new(width, array.kind());
     let count = array.shape().count();
@@ -31,7 +37,14 @@ pub fn print(alloc: Global, array: &Array, width: u8) -> Result<String, AllocErr
 
 /// The law that an array has one text at a width.
 pub fn shown_once()
-    ensures { (a : ArrayValue) (width : ℕ) (s t : List ℕ) → IsShown a width s → IsShown a width t → s ≡ t }
+    ensures { (a : ArrayValue) (width : ℕ) (s t : List ℕ) → IsShown a width s → IsShown a width t
+        → s ≡ t }
+{}
+
+/// The law that an array has some text at each width that lines may have.
+pub fn shown_always()
+    ensures { (a : ArrayValue) (width : ℕ) → All IsInRange a.ravel → 30 ≤ width
+        → (text : List ℕ) × IsShown a width text }
 {}
 
 /// The law of numerals: the digits of a number stand for it, and the first of them is 0 for 0 alone.

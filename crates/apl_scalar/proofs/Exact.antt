@@ -1,12 +1,11 @@
 -- What is refused where an exact value leaves the range.
-use Rattle.std.proofs.Common.{◌≡◌, ℕ, suc, ◌+◌, ◌-◌, ◌^◌, ◌<◌, ◌≤◌, ℤ, pos, negsuc, neg_ℤ, true, false, Option, Some, None, Result, Ok, Err, refl, sym, ap, ◌∙◌, ⊎_elim, arith}
+use Rattle.std.proofs.Common.{◌≡◌, ℕ, ◌^◌, ◌<◌, ◌≤◌, ℤ, pos, negsuc, neg_ℤ, Option, Some, None, Ok, Err, refl, sym, ap, ◌∙◌, ⊎_elim, arith}
 use Rattle.std.proofs.lemmas.Bool.{cases_Bool}
 use Rattle.std.proofs.lemmas.Int.{ints}
 use Rattle.std.specs.Prelude.{FitsSigned, SomeIff, unsigned_abs, int_div}
 use Rattle.std.specs.Int.{w64, CanDivide, IsNonZero}
 use Rattle.apl_array.specs.Range.{in_range}
 use Rattle.apl_array.proofs.Ranges.{in_range-from_IsInRange, IsInRange-from_in_range, IsInRange-from_FitsSigned, FitsSigned-from_IsInRange}
-use Rattle.apl_pool.specs.declared.kernel.Fault.{Fault}
 use Rattle.apl_pool.specs.declared.kernel.Fault.TheVariants.{Limit}
 use Rattle.apl_scalar.specs.Scalar.{exact}
 use Rattle.apl_scalar.specs.Limits.{limited_value}

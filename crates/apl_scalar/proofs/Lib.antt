@@ -4,3 +4,4 @@ pub mod Powers
 pub mod Residues
 pub mod Sources
 pub mod Places
+pub mod Answers

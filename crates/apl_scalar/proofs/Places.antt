@@ -1,13 +1,12 @@
 -- From the values at the places to the elements at the index lists.
-use Rattle.std.proofs.Common.{◌≡◌, ℕ, ℤ, pos, ◌<◌, List, length, map, Result, Ok, Err, get_or, refl, sym, ap, ◌∙◌, subst, arith}
+use Rattle.std.proofs.Common.{◌≡◌, ℕ, ℤ, pos, ◌<◌, List, length, Result, Ok, Err, get_or, refl, sym, ap, ◌∙◌, subst, arith}
 use Rattle.std.specs.Prelude.{IsOk, IfOk, IfErr}
 use Rattle.std.specs.declared.vec.Vec.{Vec}
 use Rattle.std.proofs.lemmas.List.{get_or-map}
-use Rattle.apl_array.specs.declared.array.Elem.{Elem}
 use Rattle.apl_array.specs.declared.array.Elem.TheVariants.{Int}
 use Rattle.apl_array.specs.declared.array.Kind.TheVariants.{Number}
-use Rattle.apl_array.specs.Shape.{IsIndexOf, count_of, place_of, index_at}
-use Rattle.apl_array.specs.Array.{ArrayValue, element_at, number_array}
+use Rattle.apl_array.specs.Shape.{count_of, place_of, index_at}
+use Rattle.apl_array.specs.Array.{number_array}
 use Rattle.apl_array.proofs.Shapes.{place_of-bound, index_at-place_of, place_of-index_at, IsIndexOf-index_at}
 use Rattle.apl_pool.specs.declared.kernel.Fault.{Fault}
 use Rattle.apl_pool.specs.declared.kernel.Fault.TheVariants.{Domain, Limit, Index}
@@ -15,7 +14,7 @@ use Rattle.apl_pool.specs.declared.kernel.Stop.{Stop}
 use Rattle.apl_pool.specs.declared.kernel.Stop.TheVariants.{Fault as FaultAt, Memory}
 use Rattle.apl_pool.specs.Pool.{AreValues, IsLeastFault, IsStopOf}
 use Rattle.apl_scalar.specs.Scalar.{as_element}
-use Rattle.apl_scalar.specs.Faults.{op_fault_of, op_fault_of_stop}
+use Rattle.apl_scalar.specs.Faults.{op_fault_of_stop}
 use Rattle.apl_scalar.specs.Pointwise.{IsArrayOf, IsLeastFaultOf, IsRefusalOf}
 
 IsOk-as_element : (r : Result ℤ Fault) → IsOk r → IsOk (as_element r)

@@ -1,5 +1,5 @@
 -- The element of an argument that stands at a place of the extended shape.
-use Rattle.std.proofs.Common.{◌≡◌, ℕ, ◌+◌, ◌*◌, ◌<◌, Bool, true, false, List, [], ◌∷◌, length, replicate, refl, sym, ap, ◌∙◌, subst, arith, if◌then◌else◌, ℤ, pos, not, get_or, map}
+use Rattle.std.proofs.Common.{◌≡◌, ℕ, ◌<◌, Bool, true, false, List, [], ◌∷◌, length, replicate, refl, sym, ap, ◌∙◌, arith, if◌then◌else◌, ℤ, pos, not, get_or}
 use Rattle.std.proofs.lemmas.List.{get_or-map, length-map}
 use Rattle.apl_array.specs.declared.array.Elem.TheVariants.{Int}
 use Rattle.std.proofs.lemmas.Slice.Eq.{bytes_eq-Decides}

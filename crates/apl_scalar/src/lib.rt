@@ -10,12 +10,14 @@ mod extend;
 mod function;
 mod glyphs;
 mod kernels;
+mod laws;
 mod passes;
 mod tables;
 mod truth;
 
 pub use arrays::{dyadic, monadic};
 pub use function::{OpFault, ScalarFunction as Prim};
+pub use laws::outcomes_determine_answer;
 pub use tables::{apply1, apply2, identity};
 
 #[cfg(test)]

@@ -1,5 +1,5 @@
 -- A line has one step at most, and how a line was answered once its text was put.
-use Rattle.std.proofs.Common.{◌≡◌, ◌≢◌, ◌⊎◌, [], List, refl, sym, ◌∙◌, ap, subst, inl, inr, Result, Ok, Err}
+use Rattle.std.proofs.Common.{◌≡◌, [], List, refl, sym, ◌∙◌, ap, subst, inl, inr, Result, Ok, Err}
 use Rattle.std.specs.Prelude.{ℕ, Bool, true, false, MatchBool, Option, Some, None, String, string_bytes, encode_utf8_all}
 use Rattle.std.specs.declared.alloc.Global.{Global}
 use Rattle.std.proofs.KnownBytes.{Appends-nil}

@@ -1,5 +1,5 @@
 -- The step of a line: what is written for it, the workspace after it, and whether the run ends with it.
-use Rattle.std.specs.Prelude.{◌≡◌, ℕ, Bool, true, false, MatchBool, List, [], Option, Some, None, take, encode_utf8_all}
+use Rattle.std.specs.Prelude.{◌≡◌, ℕ, false, MatchBool, List, [], Some, take, encode_utf8_all}
 use Rattle.apl_grammar.specs.Tree.{Expr}
 use Rattle.apl_syntax.specs.Reading.{Reading, character, blank, statement, syntax, limit, IsReading, IsListed}
 use Rattle.apl_print.specs.Reported.{reported}

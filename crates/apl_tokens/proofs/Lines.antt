@@ -5,7 +5,10 @@ use Rattle.apl_tokens.specs.declared.token.Token.{Token}
 use Rattle.apl_tokens.specs.declared.token.Lexeme.{Lexeme}
 use Rattle.apl_tokens.specs.declared.lexer.LexicalStop.{LexicalStop}
 use Rattle.apl_tokens.specs.declared.lexer.LexicalStop.TheVariants.{Syntax, Limit, Memory}
-use Rattle.apl_tokens.specs.Symbols.{is_blank}
+use Rattle.std.specs.Prelude.{◌==◌}
+use Rattle.std.specs.Bool.{passes}
+use Rattle.std.proofs.Common.{true, false, zero, suc, get_or, eqb→eq}
+use Rattle.apl_tokens.specs.Symbols.{is_blank, comment_mark}
 use Rattle.apl_tokens.specs.Fronts.{AllPass}
 use Rattle.apl_tokens.specs.Lexis.{BeginsWithNo, IsToken, LexesUpTo, IsEnd, Lexes}
 use Rattle.apl_tokens.specs.Stops.{IsLexicalStopOf}
@@ -36,9 +39,12 @@ LexesUpTo-next cs ts us column len n text rest k here past added before token wi
     (subst (λ x. LexesUpTo 0 cs (ts ++ token_at column k ∷ []) (column + len + n) x) last
     (subst (λ d. LexesUpTo 0 cs (ts ++ token_at column k ∷ []) d (drop n rest)) place more))
 
-some_is_no_end : (rest : List ℕ) → 0 < length rest → IsEnd rest → ⊥
-some_is_no_end [] some h = omega arith
-some_is_no_end (c ∷ cs) some h = h
+some_is_no_end : (cs : List ℕ) (column c : ℕ) → column < length cs → c ≡ get_or cs column c → (c == comment_mark) ≡ false → IsEnd (drop column cs) → ⊥
+some_is_no_end [] column c some at not end = omega arith
+some_is_no_end (d ∷ cs) zero c some at not end =
+    let bad : (comment_mark == comment_mark) ≡ false = ap (λ x. x == comment_mark) (sym (at ∙ end)) ∙ not in
+    absurd cc
+some_is_no_end (d ∷ cs) (suc column) c some at not end = some_is_no_end cs column c (omega arith) at not end
 
 none_left : (rest : List ℕ) → length rest ≡ 0 → IsEnd rest
 none_left [] e = tt
@@ -47,17 +53,25 @@ none_left (c ∷ cs) e = absurd (omega (arith, e))
 pub Lexes-end : (cs : List ℕ) (ts : List Token) (column : ℕ) → length cs ≤ column → LexesUpTo 0 cs ts column (drop column cs) → Lexes cs ts
 Lexes-end cs ts column over before = (column, drop column cs, before, none_left (drop column cs) (omega (arith, over, length-drop column cs)))
 
-pub stop_of : (cs : List ℕ) (ts : List Token) (column : ℕ) (text : List ℕ) (stop : LexicalStop) → text ≡ drop column cs → column < length cs → LexesUpTo 0 cs ts column (drop column cs) → IsStopAt text column stop → IsLexicalStopOf cs stop
-stop_of cs ts column text (Syntax c) here more before h =
+comment_left : (cs : List ℕ) (column c : ℕ) → column < length cs → c ≡ get_or cs column c → (c == comment_mark) ≡ true → IsEnd (drop column cs)
+comment_left [] column c some at is = absurd (omega arith)
+comment_left (d ∷ cs) zero c some at is = sym at ∙ eqb→eq c comment_mark (passes (c == comment_mark) is)
+comment_left (d ∷ cs) (suc column) c some at is = comment_left cs column c (omega arith) at is
+
+pub Lexes-comment : (cs : List ℕ) (ts : List Token) (column c : ℕ) → column < length cs → c ≡ get_or cs column c → (c == comment_mark) ≡ true → LexesUpTo 0 cs ts column (drop column cs) → Lexes cs ts
+Lexes-comment cs ts column c some at is before = (column, drop column cs, before, comment_left cs column c some at is)
+
+pub stop_of : (cs : List ℕ) (ts : List Token) (column c : ℕ) (text : List ℕ) (stop : LexicalStop) → text ≡ drop column cs → column < length cs → c ≡ get_or cs column c → (c == comment_mark) ≡ false → LexesUpTo 0 cs ts column (drop column cs) → IsStopAt text column stop → IsLexicalStopOf cs stop
+stop_of cs ts column c text (Syntax d) here more at not before h =
     let rest = subst (λ x. LexesUpTo 0 cs ts column x) (sym here) before in
     record {
       tokens = ts;
       rest = text;
       before = subst (λ d. LexesUpTo 0 cs ts d text) (sym h.0) rest;
-      more = some_is_no_end text (subst (λ x. 0 < length x) (sym here) (omega (arith, more, length-drop column cs)));
+      more = λ end. some_is_no_end cs column c more at not (subst IsEnd here end);
       none = h.1;
       within = h.2;
     }
-stop_of cs ts column text (Limit c) here more before (place, beyond, at) =
-    record { tokens = ts; rest = text; start = column; place = place; before = subst (λ x. LexesUpTo 0 cs ts column x) (sym here) before; beyond = beyond; is = at }
-stop_of cs ts column text Memory here more before h = tt
+stop_of cs ts column c text (Limit d) here more at not before (place, beyond, is) =
+    record { tokens = ts; rest = text; start = column; place = place; before = subst (λ x. LexesUpTo 0 cs ts column x) (sym here) before; beyond = beyond; is = is }
+stop_of cs ts column c text Memory here more at not before h = tt

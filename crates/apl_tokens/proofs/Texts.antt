@@ -8,9 +8,14 @@ use Rattle.std.proofs.Math.Seq.{take-add}
 use Rattle.std.proofs.lemmas.Str.{IsUtf8-append, IsUtf8-encode, length-encode, len_utf8_bounds, encodes-append}
 use Rattle.std.proofs.lemmas.Str.{length-le-encodes, encode_same, encodes_same, encodes-chars}
 use Rattle.std.proofs.lemmas.List.{append-nil, take-append-drop}
-use Rattle.apl_tokens.specs.Symbols.{is_listed}
+use Rattle.std.specs.Prelude.{◌==◌, ◌&&◌, ◌||◌, nat_lt}
+use Rattle.std.specs.Bool.{passes}
+use Rattle.std.specs.List.{list_any}
+use Rattle.std.proofs.Common.{eqb→eq, Bool, true, false}
+use Rattle.apl_tokens.specs.Symbols.{is_listed_ascii, is_listed, non_ascii_symbols}
 use Rattle.apl_tokens.specs.Fronts.{AllPass, IsFront}
 use Rattle.apl_tokens.specs.Scans.{ListsUpTo, EndsOrUnlisted}
+use Rattle.apl_tokens.proofs.Leads.{both}
 
 pub no_char_at_end : StartsWithNoChar []
 no_char_at_end c rest scalar e =
@@ -63,8 +68,32 @@ drop_front (x ∷ xs) ys n e = rw e (drop_front xs ys (length xs) refl)
 pub ListsUpTo-rest : (text rest : List ℕ) (bytes count : ℕ) → ListsUpTo text rest bytes count → drop bytes text ≡ rest
 ListsUpTo-rest text rest bytes count h = ap (drop bytes) h.split ∙ drop_front (encode_utf8_all h.characters) rest bytes h.len
 
+abbrev all_small : List ℕ → Bool
+all_small [] = true
+all_small (c ∷ cs) = nat_lt c 0xD800 && all_small cs
+
+one_of_small : (cs : List ℕ) (c : ℕ) → all_small cs ≡ true → list_any (λ s. s == c) cs ≡ true → nat_lt c 0xD800 ≡ true
+one_of_small [] c small h = absurd cc
+one_of_small (d ∷ cs) c small h =
+    let (first, rest) = both (nat_lt d 0xD800) (all_small cs) small in
+    by_test (d == c) refl first (one_of_small cs c rest) h
+  where
+    by_test : (b : Bool) → (d == c) ≡ b → nat_lt d 0xD800 ≡ true → (list_any (λ s. s == c) cs ≡ true → nat_lt c 0xD800 ≡ true) → (b || list_any (λ s. s == c) cs) ≡ true → nat_lt c 0xD800 ≡ true
+    by_test true e first below h = ap (λ x. nat_lt x 0xD800) (sym (eqb→eq d c (passes (d == c) e))) ∙ first
+    by_test false e first below h = below h
+
+pub ascii_below : (c : ℕ) → is_listed_ascii c ≡ true → c < 128
+ascii_below c h = grind (arith, nat_tests, h)
+
+listed_is_small : (c : ℕ) → IsTrue (is_listed c) → nat_lt c 0xD800 ≡ true
+listed_is_small c h = by_test (is_listed_ascii c) refl h
+  where
+    by_test : (b : Bool) → is_listed_ascii c ≡ b → (b || list_any (λ s. s == c) non_ascii_symbols) ≡ true → nat_lt c 0xD800 ≡ true
+    by_test true e h = let small : c < 128 = ascii_below c e in grind (arith, nat_tests)
+    by_test false e h = one_of_small non_ascii_symbols c refl h
+
 pub listed_is_scalar : (c : ℕ) → IsTrue (is_listed c) → IsScalar c
-listed_is_scalar c h = grind (arith, nat_tests, h)
+listed_is_scalar c h = rw (listed_is_small c h) refl
 
 -- the listed characters of the longest text at the front of a line are the front of the line
 pub front_of : (line text : List ℕ) (bytes count : ℕ) → text ≡ take (length text) line → StartsWithNoChar (drop (length text) line) → (h : ListsUpTo text (drop bytes text) bytes count) → EndsOrUnlisted (drop bytes text) → IsFront line h.characters (drop bytes text ++ drop (length text) line)

@@ -1,20 +1,20 @@
 -- Characters have one list of tokens, or one fault.
-use Rattle.std.proofs.Common.{◌≡◌, ◌++◌, ◌∷◌, [], List, Option, Some, None, refl, sym, ◌∙◌, ap, subst, arith, inl, inr, ◌⊎◌, length, ◌+◌, ◌<◌, ◌≤◌, ℕ, Bool, true, false, append_assoc}
-use Rattle.std.specs.Prelude.{IsTrue, ℤ, pos, ◌==◌, ◌||◌, map, if◌then◌else◌, encode_utf8_all}
+use Rattle.std.proofs.Common.{◌≡◌, ◌++◌, ◌∷◌, [], List, Option, Some, refl, sym, ◌∙◌, ap, subst, arith, inl, inr, ◌⊎◌, length, ◌+◌, ◌<◌, ◌≤◌, ℕ, Bool, true, false, append_assoc, eqb→eq}
+use Rattle.std.specs.Prelude.{IsTrue, ℤ, pos, map, encode_utf8_all}
 use Rattle.std.specs.Bool.{passes}
-use Rattle.std.proofs.Common.{eqb→eq}
-use Rattle.std.proofs.lemmas.Bool.Decides.{nat_tests}
-use Rattle.apl_array.specs.Array.{ArrayValue, number_array}
+use Rattle.apl_array.specs.Array.{ArrayValue, number_array, character_array}
 use Rattle.apl_tokens.specs.declared.token.Token.{Token}
 use Rattle.apl_tokens.specs.declared.token.Lexeme.{Lexeme}
 use Rattle.apl_tokens.specs.declared.token.Lexeme.TheVariants.{Constant, Name}
-use Rattle.apl_tokens.specs.Symbols.{is_digit, is_letter, is_name_character, is_blank, symbol_lexeme, symbol_lexemes, lexeme_in}
+use Rattle.apl_tokens.specs.Symbols.{is_digit, is_letter, is_name_character, is_blank, quote, is_quote, symbol_lexeme}
 use Rattle.apl_tokens.specs.Fronts.{AllPass}
-use Rattle.apl_tokens.specs.Lexis.{BeginsWithNo, decimal, AreDigits, IsNumeral, plain, negative, negated, AreBlanks, Numeral, AreNumerals, EndsNumerals, HasNoNextNumeral, AreInRange, most_elements, constant_shape, IsConstant, IsName, IsSymbol, IsToken, LexesUpTo, IsEnd, Lexes, BeginsWithNoToken, FirstOutOfRange, here, later, IsBeyondLimit, HasLexicalFault, HasLimitFault}
+use Rattle.apl_tokens.specs.Lexis.{BeginsWithNo, decimal, AreDigits, IsNumeral, plain, negative, negated, AreBlanks, Numeral, AreNumerals, EndsNumerals, HasNoNextNumeral, AreInRange, most_elements, constant_shape, IsNumberConstant, doubled, quoted, IsTextConstant, IsName, IsSymbol, IsToken, LexesUpTo, IsEnd, Lexes, BeginsWithNoToken, FirstOutOfRange, here, later, IsNumberBeyondLimit, IsTextBeyondLimit, IsBeyondLimit, HasLexicalFault, HasLimitFault}
 use Rattle.apl_tokens.proofs.Runs.{numeral_begins, all_blanks}
+use Rattle.apl_tokens.proofs.Quotes.{one_doubled}
+use Rattle.apl_tokens.proofs.Leads.{Lead, letter, figure, quotation, sign, Begins, lead_of, is_by_sign, numerals_begin, quote_begins, token_begins, one_lead, begins_no_blank, no_token_at_end, no_limit_at_end}
 
 -- the longest front of a class is one
-longest : (p : ℕ → Bool) (a b r q : List ℕ) → AllPass p a → AllPass p b → BeginsWithNo p r → BeginsWithNo p q → a ++ r ≡ b ++ q → (a ≡ b) × (r ≡ q)
+pub longest : (p : ℕ → Bool) (a b r q : List ℕ) → AllPass p a → AllPass p b → BeginsWithNo p r → BeginsWithNo p q → a ++ r ≡ b ++ q → (a ≡ b) × (r ≡ q)
 longest p [] [] r q ha hb hr hq e = (refl, e)
 longest p [] (c ∷ b) r q ha hb hr hq e =
     let bad : BeginsWithNo p (c ∷ (b ++ q)) = subst (BeginsWithNo p) e hr in
@@ -109,81 +109,6 @@ one_row p t u a b (n ∷ l ∷ ns) (m ∷ j ∷ ms) (f, g, r, split, is, place, 
     heads : (n m : Numeral) (ns ms : List Numeral) → n.0 ≡ m.0 → n.1 ≡ m.1 → ns ≡ ms → ◌≡◌ {A = List Numeral} (n ∷ ns) (m ∷ ms)
     heads n m ns ms x y z = rw (x, y, z) refl
 
--- the first character decides what kind of token stands here
-data Lead : Type 0 where
-  letter : Lead
-  figure : Lead
-  sign : Lead
-  nothing : Lead
-
-abbrev lead_by : Bool → Bool → Option Lexeme → Lead
-lead_by true d k = letter
-lead_by false true k = figure
-lead_by false false (Some k) = sign
-lead_by false false None = nothing
-
-abbrev lead : ℕ → Lead
-lead c = lead_by (is_letter c) (is_digit c || (c == 175)) (symbol_lexeme c)
-
-digit_lead : (c : ℕ) → IsTrue (is_digit c) → lead c ≡ figure
-digit_lead c h =
-    let no_letter : is_letter c ≡ false = grind (arith, nat_tests, h) in
-    rw (no_letter, h) refl
-
--- each symbol's lead is `sign`
-abbrev LeadBySign : List (ℕ × Lexeme) → Type 0
-LeadBySign [] = Unit {0}
-LeadBySign (row ∷ rows) = (lead row.0 ≡ sign) × LeadBySign rows
-
-signs_lead : (rows : List (ℕ × Lexeme)) (c : ℕ) (k : Lexeme) → LeadBySign rows → lexeme_in rows c ≡ Some k → lead c ≡ sign
-signs_lead [] c k h e = absurd cc
-signs_lead (row ∷ rows) c k h e = by_test (c == row.0) refl (signs_lead rows c k h.1) e
-  where
-    by_test : (b : Bool) → (c == row.0) ≡ b → (lexeme_in rows c ≡ Some k → lead c ≡ sign) → (if b then Some row.1 else lexeme_in rows c) ≡ Some k → lead c ≡ sign
-    by_test true t below e = ap lead (eqb→eq c row.0 (passes (c == row.0) t)) ∙ h.0
-    by_test false t below e = below e
-
-sign_of : (c : ℕ) (k : Lexeme) → symbol_lexeme c ≡ Some k → lead c ≡ sign
-sign_of c k e = signs_lead symbol_lexemes c k (refl, (refl, (refl, (refl, tt)))) e
-
--- a token's text begins with a character of its lexeme's lead
-abbrev lead_of : Lexeme → Lead
-lead_of (Constant v) = figure
-lead_of (Name n) = letter
-lead_of k = sign
-
-record Begins (text : List ℕ) (k : Lexeme) : Type 0 where
-  head : ℕ
-  tail : List ℕ
-  split : text ≡ head ∷ tail
-  kind : lead head ≡ lead_of k
-
-numeral_head : (t : List ℕ) (z : ℤ) → IsNumeral t z → (h : ℕ) × (tail : List ℕ) × (t ≡ h ∷ tail) × (lead h ≡ figure)
-numeral_head t z (plain [] h) = absurd h
-numeral_head t z (plain (d ∷ ds) h) = (d, ds, refl, digit_lead d h.0)
-numeral_head t z (negative ds h) = (175, ds, refl, refl)
-
-row_head : (p : ℕ) (t : List ℕ) (ns : List Numeral) → AreNumerals p t ns → (h : ℕ) × (tail : List ℕ) × (t ≡ h ∷ tail) × (lead h ≡ figure)
-row_head p t [] h = absurd h
-row_head p t (n ∷ []) h = numeral_head t n.1 h.0
-row_head p t (n ∷ m ∷ ns) (f, g, r, split, is, place, blank, more) =
-    let k = numeral_head f n.1 is in
-    (k.0, k.1 ++ (g ++ r), split ∙ ap (λ x. x ++ (g ++ r)) k.2, k.3)
-
-symbol_begins : (text : List ℕ) (k : Lexeme) → IsSymbol text k → lead_of k ≡ sign → Begins text k
-symbol_begins text k s is = record { head = s.character; tail = []; split = s.split; kind = sign_of s.character k s.is ∙ sym is }
-
-token_begins : (text after : List ℕ) (k : Lexeme) → IsToken text after k → Begins text k
-token_begins text after (Constant v) h = let k = row_head 0 text h.numerals h.spelled in record { head = k.0; tail = k.1; split = k.2; kind = k.3 }
-token_begins text after (Name n) h = record { head = h.first; tail = h.others; split = h.split; kind = rw h.letter refl }
-token_begins text after k h = symbol_begins text k h refl
-
--- a token that a sign leads is a symbol
-is_by_sign : (text after : List ℕ) (k : Lexeme) → lead_of k ≡ sign → IsToken text after k → IsSymbol text k
-is_by_sign text after (Constant v) l h = absurd cc
-is_by_sign text after (Name n) l h = absurd cc
-is_by_sign text after k l h = h
-
 one_symbol : (x y a b : List ℕ) (j k : Lexeme) → IsSymbol x j → IsSymbol y k → x ++ a ≡ y ++ b → (x ≡ y) × (a ≡ b) × (j ≡ k)
 one_symbol x y a b j k h i e =
     let whole : h.character ∷ a ≡ i.character ∷ b = ap (λ t. t ++ a) (sym h.split) ∙ e ∙ ap (λ t. t ++ b) i.split in
@@ -202,46 +127,44 @@ one_name x y a b m n h i e =
     let same = longest is_name_character x y a b px py h.longest i.longest e in
     (same.0, same.1, h.is ∙ ap encode_utf8_all same.0 ∙ sym i.is)
 
-one_constant : (x y a b : List ℕ) (v w : ArrayValue) → IsConstant x a v → IsConstant y b w → x ++ a ≡ y ++ b → (x ≡ y) × (a ≡ b) × (v ≡ w)
-one_constant x y a b v w h i e =
+one_number : (x y a b : List ℕ) (v w : ArrayValue) → IsNumberConstant x a v → IsNumberConstant y b w → x ++ a ≡ y ++ b → (x ≡ y) × (a ≡ b) × (v ≡ w)
+one_number x y a b v w h i e =
     let same = one_row 0 x y a b h.numerals i.numerals h.spelled i.spelled h.ends i.ends e in
     (same.0, same.2, h.is ∙ ap (λ (ns : List Numeral). number_array (constant_shape ns) (map (λ (n : Numeral). n.1) ns)) same.1 ∙ sym i.is)
 
-lead_same : (x y a b : List ℕ) (j k : Lexeme) → Begins x j → Begins y k → x ++ a ≡ y ++ b → lead_of j ≡ lead_of k
-lead_same x y a b j k h i e =
-    let whole : h.head ∷ (h.tail ++ a) ≡ i.head ∷ (i.tail ++ b) = ap (λ t. t ++ a) (sym h.split) ∙ e ∙ ap (λ t. t ++ b) i.split in
-    let heads : h.head ≡ i.head = cc in
-    sym h.kind ∙ ap lead heads ∙ i.kind
+one_quoted : (c d a b : List ℕ) → BeginsWithNo is_quote a → BeginsWithNo is_quote b → quoted c ++ a ≡ quoted d ++ b → (c ≡ d) × (a ≡ b)
+one_quoted c d a b p q e =
+    let tails : (doubled c ++ quote ∷ []) ++ a ≡ (doubled d ++ quote ∷ []) ++ b = cc in
+    one_doubled c d a b p q (sym (append_assoc (doubled c) (quote ∷ []) a) ∙ tails ∙ append_assoc (doubled d) (quote ∷ []) b)
 
-one_token : (x y a b : List ℕ) (j k : Lexeme) → IsToken x a j → IsToken y b k → lead_of j ≡ lead_of k → x ++ a ≡ y ++ b → (x ≡ y) × (a ≡ b) × (j ≡ k)
-one_token x y a b (Constant v) k h i l e = of_constant k i l
+one_text : (x y a b : List ℕ) (v w : ArrayValue) → IsTextConstant x a v → IsTextConstant y b w → x ++ a ≡ y ++ b → (x ≡ y) × (a ≡ b) × (v ≡ w)
+one_text x y a b v w h i e =
+    let same = one_quoted h.characters i.characters a b h.ends i.ends (ap (λ t. t ++ a) (sym h.spelled) ∙ e ∙ ap (λ t. t ++ b) i.spelled) in
+    (h.spelled ∙ ap quoted same.0 ∙ sym i.spelled, same.1, h.is ∙ ap (λ (cs : List ℕ). character_array (constant_shape cs) cs) same.0 ∙ sym i.is)
+
+one_token : (x y a b : List ℕ) (j k : Lexeme) → (h : IsToken x a j) → (i : IsToken y b k) → lead_of x a j h ≡ lead_of y b k i → x ++ a ≡ y ++ b → (x ≡ y) × (a ≡ b) × (j ≡ k)
+one_token x y a b (Constant v) k (inl h) i l e = of_number k i l
   where
-    of_constant : (k : Lexeme) → IsToken y b k → figure ≡ lead_of k → (x ≡ y) × (a ≡ b) × (Constant v ≡ k)
-    of_constant (Constant w) i l = let same = one_constant x y a b v w h i e in (same.0, same.1, ap Constant same.2)
-    of_constant (Name n) i l = absurd cc
-    of_constant k i l = absurd cc
+    of_number : (k : Lexeme) → (i : IsToken y b k) → figure ≡ lead_of y b k i → (x ≡ y) × (a ≡ b) × (Constant v ≡ k)
+    of_number (Constant w) (inl i) l = let same = one_number x y a b v w h i e in (same.0, same.1, ap Constant same.2)
+    of_number (Constant w) (inr i) l = absurd cc
+    of_number (Name n) i l = absurd cc
+    of_number k i l = absurd cc
+one_token x y a b (Constant v) k (inr h) i l e = of_text k i l
+  where
+    of_text : (k : Lexeme) → (i : IsToken y b k) → quotation ≡ lead_of y b k i → (x ≡ y) × (a ≡ b) × (Constant v ≡ k)
+    of_text (Constant w) (inl i) l = absurd cc
+    of_text (Constant w) (inr i) l = let same = one_text x y a b v w h i e in (same.0, same.1, ap Constant same.2)
+    of_text (Name n) i l = absurd cc
+    of_text k i l = absurd cc
 one_token x y a b (Name m) k h i l e = of_name k i l
   where
-    of_name : (k : Lexeme) → IsToken y b k → letter ≡ lead_of k → (x ≡ y) × (a ≡ b) × (Name m ≡ k)
-    of_name (Constant w) i l = absurd cc
+    of_name : (k : Lexeme) → (i : IsToken y b k) → letter ≡ lead_of y b k i → (x ≡ y) × (a ≡ b) × (Name m ≡ k)
+    of_name (Constant w) (inl i) l = absurd cc
+    of_name (Constant w) (inr i) l = absurd cc
     of_name (Name n) i l = let same = one_name x y a b m n h i e in (same.0, same.1, ap Name same.2)
     of_name k i l = absurd cc
-one_token x y a b j k h i l e = one_symbol x y a b j k h (is_by_sign y b k (sym l) i) e
-
-lead_blank : (c : ℕ) (k : Lexeme) → lead c ≡ lead_of k → is_blank c ≡ false
-lead_blank c k e = by_test (is_blank c) refl
-  where
-    no_kind : (k : Lexeme) → nothing ≡ lead_of k → ⊥
-    no_kind (Constant v) h = absurd cc
-    no_kind (Name n) h = absurd cc
-    no_kind k h = absurd cc
-
-    by_test : (b : Bool) → is_blank c ≡ b → is_blank c ≡ false
-    by_test false h = h
-    by_test true h = absurd (no_kind k (ap lead (sym (eqb→eq c 32 (passes (is_blank c) h))) ∙ e))
-
-begins_no_blank : (x a : List ℕ) (k : Lexeme) → Begins x k → BeginsWithNo is_blank (x ++ a)
-begins_no_blank x a k h = subst (λ (t : List ℕ). BeginsWithNo is_blank (t ++ a)) (sym h.split) (lead_blank h.head k h.kind)
+one_token x y a b j k h i l e = one_symbol x y a b j k h (is_by_sign y b k i (sym l)) e
 
 -- The tokens up to a place where none fits are one list, and the place is one.
 one_lexing : (c d e : ℕ) (s r q : List ℕ) (ts us : List Token) → LexesUpTo c s ts d r → LexesUpTo c s us e q → BeginsWithNoToken r → BeginsWithNoToken q → (ts ≡ us) × (d ≡ e) × (r ≡ q)
@@ -249,18 +172,14 @@ one_lexing c d e s r q [] [] (gap, split, blank, last, at) (gap', split', blank'
     let same = longest is_blank gap gap' r q blank blank' last last' (sym split ∙ split') in
     (refl, at ∙ ap (λ x. c + length x) same.0 ∙ sym at', same.1)
 one_lexing c d e s r q [] (u ∷ us) (gap, split, blank, last, at) (g, x, a, parts, blanks, col, is, more) hr hq =
-    let begins = token_begins x a u.lexeme is in
-    let same = longest is_blank gap g r (x ++ a) blank blanks last (begins_no_blank x a u.lexeme begins) (sym split ∙ parts) in
+    let same = longest is_blank gap g r (x ++ a) blank blanks last (begins_no_blank x a a u.lexeme is) (sym split ∙ parts) in
     absurd (hr x a u.lexeme same.1 is)
 one_lexing c d e s r q (t ∷ ts) [] (g, x, a, parts, blanks, col, is, more) (gap, split, blank, last, at) hr hq =
-    let begins = token_begins x a t.lexeme is in
-    let same = longest is_blank gap g q (x ++ a) blank blanks last (begins_no_blank x a t.lexeme begins) (sym split ∙ parts) in
+    let same = longest is_blank gap g q (x ++ a) blank blanks last (begins_no_blank x a a t.lexeme is) (sym split ∙ parts) in
     absurd (hq x a t.lexeme same.1 is)
 one_lexing c d e s r q (t ∷ ts) (u ∷ us) (g, x, a, parts, blanks, col, is, more) (g', x', a', parts', blanks', col', is', more') hr hq =
-    let begins = token_begins x a t.lexeme is in
-    let begins' = token_begins x' a' u.lexeme is' in
-    let gaps = longest is_blank g g' (x ++ a) (x' ++ a') blanks blanks' (begins_no_blank x a t.lexeme begins) (begins_no_blank x' a' u.lexeme begins') (sym parts ∙ parts') in
-    let same = one_token x x' a a' t.lexeme u.lexeme is is' (lead_same x x' a a' t.lexeme u.lexeme begins begins' gaps.1) gaps.1 in
+    let gaps = longest is_blank g g' (x ++ a) (x' ++ a') blanks blanks' (begins_no_blank x a a t.lexeme is) (begins_no_blank x' a' a' u.lexeme is') (sym parts ∙ parts') in
+    let same = one_token x x' a a' t.lexeme u.lexeme is is' (one_lead x x' a a' (lead_of x a t.lexeme is) (lead_of x' a' u.lexeme is') (token_begins x a t.lexeme is) (token_begins x' a' u.lexeme is') gaps.1) gaps.1 in
     let columns : t.column ≡ u.column = col ∙ ap (λ y. c + length y) gaps.0 ∙ sym col' in
     let place : u.column + length x' ≡ t.column + length x = places t.column u.column x x' columns same.0 in
     let rest = one_lexing (t.column + length x) d e a r q ts us more (subst (λ (y : List ℕ). LexesUpTo (t.column + length x) y us e q) (sym same.1) (subst (λ (n : ℕ). LexesUpTo n a' us e q) place more')) hr hq in
@@ -271,14 +190,6 @@ one_lexing c d e s r q (t ∷ ts) (u ∷ us) (g, x, a, parts, blanks, col, is, m
 
     tokens : (t u : Token) (ts us : List Token) → t.lexeme ≡ u.lexeme → t.column ≡ u.column → ts ≡ us → ◌≡◌ {A = List Token} (t ∷ ts) (u ∷ us)
     tokens t u ts us p q r = rw (p, q, r) refl
-
--- no token begins where the line ends
-no_token_at_end : (r : List ℕ) → IsEnd r → BeginsWithNoToken r
-no_token_at_end [] end x a k e is =
-    let begins = token_begins x a k is in
-    let none : [] ≡ begins.head ∷ (begins.tail ++ a) = e ∙ ap (λ t. t ++ a) begins.split in
-    absurd cc
-no_token_at_end (c ∷ cs) end x a k e is = end
 
 not_all_in_range : (ns : List Numeral) (place : ℕ) → FirstOutOfRange ns place → AreInRange ns → ⊥
 not_all_in_range [] place h k = elim h [ ]
@@ -296,25 +207,35 @@ too_many : (n : ℕ) → most_elements < n → n ≤ most_elements → ⊥
 too_many n h k = omega arith
 
 -- a constant beyond a limit is no token
-beyond_is_none : (r : List ℕ) (place : ℕ) → IsBeyondLimit r place → BeginsWithNoToken r
-beyond_is_none r place b x a (Constant v) e is =
+differs : (r t u x a : List ℕ) (l m : Lead) → r ≡ t ++ u → r ≡ x ++ a → Begins t l → Begins x m → (l ≡ m → ⊥) → ⊥
+differs r t u x a l m d e h i other = other (one_lead t x u a l m h i (sym d ∙ e))
+
+number_is_none : (r : List ℕ) (place : ℕ) → IsNumberBeyondLimit r place → BeginsWithNoToken r
+number_is_none r place b x a (Constant v) e (inl is) =
     let same = one_row 0 b.text x b.after a b.numerals is.numerals b.spelled is.spelled b.ends is.ends (sym b.split ∙ e) in
     by_limit is.numerals (sym same.1) is.few is.in_range b.which
   where
     by_limit : (ns : List Numeral) → ns ≡ b.numerals → length ns ≤ most_elements → AreInRange ns → ((most_elements < length b.numerals) × (place ≡ 0)) ⊎ ((length b.numerals ≤ most_elements) × FirstOutOfRange b.numerals place) → ⊥
     by_limit ns same few range (inl (many, at)) = too_many (length b.numerals) many (subst (λ (y : List Numeral). length y ≤ most_elements) same few)
     by_limit ns same few range (inr (some, first)) = not_all_in_range b.numerals place first (subst AreInRange same range)
-beyond_is_none r place b x a k e is = not_figure k (token_begins x a k is) (λ (l : lead_of k ≡ figure). absurd cc)
-  where
-    not_figure : (k : Lexeme) → Begins x k → (lead_of k ≡ figure → ⊥) → ⊥
-    not_figure k begins other =
-        let head = row_head 0 b.text b.numerals b.spelled in
-        let whole : head.0 ∷ (head.1 ++ b.after) ≡ begins.head ∷ (begins.tail ++ a) = ap (λ t. t ++ b.after) (sym head.2) ∙ sym b.split ∙ e ∙ ap (λ t. t ++ a) begins.split in
-        let same : head.0 ≡ begins.head = cc in
-        other (sym begins.kind ∙ ap lead (sym same) ∙ head.3)
+number_is_none r place b x a (Constant v) e (inr is) = differs r b.text b.after x a figure quotation b.split e (numerals_begin 0 b.text b.numerals b.spelled) (token_begins x a (Constant v) (inr is)) (λ l. absurd cc)
+number_is_none r place b x a (Name n) e is = differs r b.text b.after x a figure letter b.split e (numerals_begin 0 b.text b.numerals b.spelled) (token_begins x a (Name n) is) (λ l. absurd cc)
+number_is_none r place b x a k e is = differs r b.text b.after x a figure sign b.split e (numerals_begin 0 b.text b.numerals b.spelled) (token_begins x a k is) (λ l. absurd cc)
 
-one_limit : (r : List ℕ) (p q : ℕ) → IsBeyondLimit r p → IsBeyondLimit r q → p ≡ q
-one_limit r p q b d =
+text_is_none : (r : List ℕ) (place : ℕ) → IsTextBeyondLimit r place → BeginsWithNoToken r
+text_is_none r place b x a (Constant v) e (inl is) = differs r (quoted b.characters) b.after x a quotation figure b.split e (quote_begins (quoted b.characters) _ refl) (token_begins x a (Constant v) (inl is)) (λ l. absurd cc)
+text_is_none r place b x a (Constant v) e (inr is) =
+    let same = one_quoted b.characters is.characters b.after a b.ends is.ends (sym b.split ∙ e ∙ ap (λ t. t ++ a) is.spelled) in
+    too_many (length is.characters) (subst (λ (y : List ℕ). most_elements < length y) same.0 b.many) is.few
+text_is_none r place b x a (Name n) e is = differs r (quoted b.characters) b.after x a quotation letter b.split e (quote_begins (quoted b.characters) _ refl) (token_begins x a (Name n) is) (λ l. absurd cc)
+text_is_none r place b x a k e is = differs r (quoted b.characters) b.after x a quotation sign b.split e (quote_begins (quoted b.characters) _ refl) (token_begins x a k is) (λ l. absurd cc)
+
+beyond_is_none : (r : List ℕ) (place : ℕ) → IsBeyondLimit r place → BeginsWithNoToken r
+beyond_is_none r place (inl b) = number_is_none r place b
+beyond_is_none r place (inr b) = text_is_none r place b
+
+one_number_limit : (r : List ℕ) (p q : ℕ) → IsNumberBeyondLimit r p → IsNumberBeyondLimit r q → p ≡ q
+one_number_limit r p q b d =
     let same = one_row 0 b.text d.text b.after d.after b.numerals d.numerals b.spelled d.spelled b.ends d.ends (sym b.split ∙ d.split) in
     by_limits d.numerals (sym same.1) b.which d.which
   where
@@ -324,12 +245,14 @@ one_limit r p q b d =
     by_limits ns same (inr (few, first)) (inl (many, at)) = absurd (too_many (length b.numerals) (subst (λ (y : List Numeral). most_elements < length y) same many) few)
     by_limits ns same (inr (few, first)) (inr (few', first')) = one_first b.numerals p q first (subst (λ (y : List Numeral). FirstOutOfRange y q) same first')
 
-no_limit_at_end : (r : List ℕ) (place : ℕ) → IsEnd r → IsBeyondLimit r place → ⊥
-no_limit_at_end [] place end b =
-    let head = row_head 0 b.text b.numerals b.spelled in
-    let none : [] ≡ head.0 ∷ (head.1 ++ b.after) = b.split ∙ ap (λ t. t ++ b.after) head.2 in
-    absurd cc
-no_limit_at_end (c ∷ cs) place end b = end
+mixed_limits : (r : List ℕ) (p q : ℕ) → IsNumberBeyondLimit r p → IsTextBeyondLimit r q → ⊥
+mixed_limits r p q b d = differs r b.text b.after (quoted d.characters) d.after figure quotation b.split d.split (numerals_begin 0 b.text b.numerals b.spelled) (quote_begins (quoted d.characters) _ refl) (λ l. absurd cc)
+
+one_limit : (r : List ℕ) (p q : ℕ) → IsBeyondLimit r p → IsBeyondLimit r q → p ≡ q
+one_limit r p q (inl b) (inl d) = one_number_limit r p q b d
+one_limit r p q (inl b) (inr d) = absurd (mixed_limits r p q b d)
+one_limit r p q (inr b) (inl d) = absurd (mixed_limits r q p d b)
+one_limit r p q (inr b) (inr d) = b.first ∙ sym d.first
 
 pub Lexes-unique : (s : List ℕ) (ts us : List Token) → Lexes s ts → Lexes s us → ts ≡ us
 Lexes-unique s ts us (d, r, h, end) (e, q, k, end') = (one_lexing 0 d e s r q ts us h k (no_token_at_end r end) (no_token_at_end q end')).0

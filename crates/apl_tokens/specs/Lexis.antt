@@ -1,10 +1,10 @@
 -- The tokens of a line, as a relation between its characters and a list of tokens with columns.
-use Rattle.std.specs.Prelude.{◌≡◌, ◌⊎◌, ◌+◌, ◌-◌, ◌*◌, ◌<◌, ◌≤◌, ◌^◌, ℕ, zero, suc, ℤ, pos, negsuc, ◌≤ℤ◌, Bool, false, IsTrue, List, [], ◌∷◌, ◌++◌, Some, length, map, encode_utf8_all}
-use Rattle.apl_array.specs.Array.{ArrayValue, number_array}
+use Rattle.std.specs.Prelude.{◌≡◌, ◌⊎◌, ◌+◌, ◌-◌, ◌*◌, ◌<◌, ◌≤◌, ◌^◌, ℕ, zero, suc, ℤ, pos, negsuc, ◌≤ℤ◌, Bool, false, IsTrue, List, [], ◌∷◌, ◌++◌, Some, length, map, encode_utf8_all, if◌then◌else◌}
+use Rattle.apl_array.specs.Array.{ArrayValue, number_array, character_array}
 use Rattle.apl_tokens.specs.declared.token.Token.{Token}
 use Rattle.apl_tokens.specs.declared.token.Lexeme.{Lexeme}
 use Rattle.apl_tokens.specs.declared.token.Lexeme.TheVariants.{Constant, Name}
-use Rattle.apl_tokens.specs.Symbols.{is_digit, is_letter, is_name_character, is_blank, high_minus, symbol_lexeme}
+use Rattle.apl_tokens.specs.Symbols.{is_digit, is_letter, is_name_character, is_blank, high_minus, quote, is_quote, comment_mark, symbol_lexeme}
 use Rattle.apl_tokens.specs.Fronts.{AllPass}
 
 -- the characters don't begin with one that passes
@@ -81,14 +81,35 @@ abbrev pub constant_shape : {A : Type 0} → List A → List ℕ
 constant_shape (x ∷ []) = []
 constant_shape xs = length xs ∷ []
 
--- the text is a constant of this value, as long as can be before what comes after it
-pub record IsConstant (text after : List ℕ) (value : ArrayValue) : Type 0 where
+-- numerals, as many as stand there, are the constant of this value
+pub record IsNumberConstant (text after : List ℕ) (value : ArrayValue) : Type 0 where
   pub numerals : List Numeral
   pub spelled : AreNumerals 0 text numerals
   pub ends : EndsNumerals after
   pub in_range : AreInRange numerals
   pub few : length numerals ≤ most_elements
   pub is : value ≡ number_array (constant_shape numerals) (map (λ n. n.1) numerals)
+
+-- the characters with each quote doubled
+abbrev pub doubled : List ℕ → List ℕ
+doubled [] = []
+doubled (c ∷ cs) = if is_quote c then quote ∷ quote ∷ doubled cs else c ∷ doubled cs
+
+-- the spelling of characters between quotes
+abbrev pub quoted : List ℕ → List ℕ
+quoted characters = quote ∷ (doubled characters ++ quote ∷ [])
+
+-- characters between quotes, behind which no further quote stands, are the constant of this value
+pub record IsTextConstant (text after : List ℕ) (value : ArrayValue) : Type 0 where
+  pub characters : List ℕ
+  pub spelled : text ≡ quoted characters
+  pub ends : BeginsWithNo is_quote after
+  pub few : length characters ≤ most_elements
+  pub is : value ≡ character_array (constant_shape characters) characters
+
+-- the text is a constant of this value, as long as can be before what comes after it
+abbrev pub IsConstant : List ℕ → List ℕ → ArrayValue → Type 0
+IsConstant text after value = IsNumberConstant text after value ⊎ IsTextConstant text after value
 
 -- a letter, then letters, digits and low lines, as many as stand there
 pub record IsName (text after name : List ℕ) : Type 0 where
@@ -121,10 +142,10 @@ LexesUpTo c characters (t ∷ ts) d rest =
     (gap text after : List ℕ) × (characters ≡ gap ++ (text ++ after)) × AllPass is_blank gap × (t.column ≡ c + length gap)
     × IsToken text after t.lexeme × LexesUpTo (t.column + length text) after ts d rest
 
--- nothing is left
+-- nothing is left, or a comment
 abbrev pub IsEnd : List ℕ → Type 0
 IsEnd [] = Unit {0}
-IsEnd (c ∷ cs) = ⊥
+IsEnd (c ∷ cs) = c ≡ comment_mark
 
 -- blanks, token, blanks, token and so on, up to the end
 abbrev pub Lexes : List ℕ → List Token → Type 0
@@ -139,9 +160,9 @@ pub data FirstOutOfRange : List Numeral → ℕ → Type 0 where
   here : {n : Numeral} {ns : List Numeral} → (IsInRange n.1 → ⊥) → FirstOutOfRange (n ∷ ns) n.0
   later : {n : Numeral} {ns : List Numeral} {place : ℕ} → IsInRange n.1 → FirstOutOfRange ns place → FirstOutOfRange (n ∷ ns) place
 
--- Here begins a constant beyond a limit: of too many elements, at its first character, or else with a numeral out
--- of range, at the first of those.
-pub record IsBeyondLimit (rest : List ℕ) (place : ℕ) : Type 0 where
+-- Here begins a number constant beyond a limit: of too many elements, at its first character, or else with a
+-- numeral out of range, at the first of those.
+pub record IsNumberBeyondLimit (rest : List ℕ) (place : ℕ) : Type 0 where
   pub text : List ℕ
   pub after : List ℕ
   pub numerals : List Numeral
@@ -149,6 +170,19 @@ pub record IsBeyondLimit (rest : List ℕ) (place : ℕ) : Type 0 where
   pub spelled : AreNumerals 0 text numerals
   pub ends : EndsNumerals after
   pub which : ((most_elements < length numerals) × (place ≡ 0)) ⊎ ((length numerals ≤ most_elements) × FirstOutOfRange numerals place)
+
+-- here begins a text constant of too many characters
+pub record IsTextBeyondLimit (rest : List ℕ) (place : ℕ) : Type 0 where
+  pub characters : List ℕ
+  pub after : List ℕ
+  pub split : rest ≡ quoted characters ++ after
+  pub ends : BeginsWithNo is_quote after
+  pub many : most_elements < length characters
+  pub first : place ≡ 0
+
+-- here begins a constant beyond a limit, whose fault is at this place of it
+abbrev pub IsBeyondLimit : List ℕ → ℕ → Type 0
+IsBeyondLimit rest place = IsNumberBeyondLimit rest place ⊎ IsTextBeyondLimit rest place
 
 -- Tokens fit up to this column, which is not the end, and there none fits.
 pub record HasLexicalFault (characters : List ℕ) (column : ℕ) : Type 0 where

@@ -1,13 +1,13 @@
 -- What the lexer's own functions say of the front of a text. No contract of a public function cites this file.
-use Rattle.std.specs.Prelude.{◌≡◌, ◌⊎◌, ◌+◌, ◌<◌, ◌≤◌, ℕ, ℤ, Bool, IsTrue, List, [], ◌∷◌, ◌++◌, Option, Some, None, IfSome, length, take, drop, map, encode_utf8, encode_utf8_all}
+use Rattle.std.specs.Prelude.{◌≡◌, ◌⊎◌, ◌+◌, ◌<◌, ◌≤◌, ℕ, ℤ, Bool, IsTrue, List, [], ◌∷◌, ◌++◌, Option, Some, None, IfSome, length, take, drop, map, slice_index, encode_utf8, encode_utf8_all}
 use Rattle.apl_tokens.specs.declared.token.Lexeme.{Lexeme}
 use Rattle.apl_tokens.specs.declared.lexer.Class.{Class}
 use Rattle.apl_tokens.specs.declared.lexer.Class.TheVariants as class
 use Rattle.apl_tokens.specs.declared.lexer.LexicalStop.{LexicalStop}
 use Rattle.apl_tokens.specs.declared.lexer.LexicalStop.TheVariants as stop
-use Rattle.apl_tokens.specs.Symbols.{is_digit, is_name_character, is_blank, is_listed}
+use Rattle.apl_tokens.specs.Symbols.{is_digit, is_name_character, is_blank, quote, is_quote, is_listed}
 use Rattle.apl_tokens.specs.Fronts.{AllPass}
-use Rattle.apl_tokens.specs.Lexis.{BeginsWithNo, IsNumeral, Numeral, AreNumerals, IsInRange, AreInRange, FirstOutOfRange, IsToken, BeginsWithNoToken, IsBeyondLimit}
+use Rattle.apl_tokens.specs.Lexis.{BeginsWithNo, IsNumeral, Numeral, AreNumerals, IsInRange, AreInRange, FirstOutOfRange, doubled, IsToken, BeginsWithNoToken, IsBeyondLimit}
 
 -- a class of characters
 abbrev pub passes : Class → ℕ → Bool
@@ -65,6 +65,31 @@ abbrev pub held_more : List ℤ → Option ℕ → ℕ → Option ℤ → List �
 held_more values (Some first) place number = (values, Some first)
 held_more values None place None = (values, Some place)
 held_more values None place (Some z) = (values ++ z ∷ [], None)
+
+-- so many symbols spell the first character behind an opening quote
+pub record IsSpelling (text : List ℕ) (n : ℕ) : Type 0 where
+  pub within : n ≤ length text
+  pub some : 0 < n
+  pub is : take n text ≡ doubled (slice_index text 0 ∷ [])
+
+-- the first quote behind an opening quote closes
+abbrev pub BeginsWithClosingQuote : List ℕ → Type 0
+BeginsWithClosingQuote [] = ⊥
+BeginsWithClosingQuote (c ∷ cs) = (c ≡ quote) × BeginsWithNo is_quote cs
+
+-- a text constant of these characters has this length behind its opening quote
+pub record IsQuotation (text characters : List ℕ) (len : ℕ) : Type 0 where
+  pub within : len ≤ length text
+  pub spelled : take len text ≡ doubled characters ++ quote ∷ []
+  pub ends : BeginsWithNo is_quote (drop len text)
+
+-- no text constant behind this opening quote is closed
+abbrev pub HasNoQuotation : List ℕ → Type 0
+HasNoQuotation text = (characters after : List ℕ) → BeginsWithNo is_quote after → text ≡ doubled characters ++ (quote ∷ after) → ⊥
+
+abbrev pub BeginsWithQuote : List ℕ → Type 0
+BeginsWithQuote [] = ⊥
+BeginsWithQuote (c ∷ cs) = c ≡ quote
 
 -- a token of this length stands at the front of the text
 pub record IsTokenAt (text : List ℕ) (len : ℕ) (lexeme : Lexeme) : Type 0 where

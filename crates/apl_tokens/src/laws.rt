@@ -1,5 +1,5 @@
 // Laws of the definitions: a line has one front, and its characters one list of tokens or one fault.
-ghost use Rattle.std.specs.Prelude.{◌≡◌, ℕ, List};
+ghost use Rattle.std.specs.Prelude.{◌≡◌, ◌⊎◌, ℕ, List};
 ghost use Rattle.apl_tokens.specs.declared.token.Token.{Token};
 ghost use Rattle.apl_tokens.specs.Fronts.{IsFront};
 ghost use Rattle.apl_tokens.specs.Lexis.{Lexes, HasLexicalFault, HasLimitFault};
@@ -7,6 +7,16 @@ ghost use Rattle.apl_tokens.specs.Lexis.{Lexes, HasLexicalFault, HasLimitFault};
 /// The front of a line and what follows it are one.
 pub fn front_is_unique()
     ensures { (bytes c d r s : List ℕ) → IsFront bytes c r → IsFront bytes d s → (c ≡ d) × (r ≡ s) }
+{}
+
+/// Each line has a front.
+pub fn front_is_total()
+    ensures { (bytes : List ℕ) → (characters rest : List ℕ) × IsFront bytes characters rest }
+{}
+
+/// Characters have a list of tokens, a lexical fault, or a fault of a limit.
+pub fn lexing_is_total()
+    ensures { (characters : List ℕ) → ((ts : List Token) × Lexes characters ts) ⊎ (((c : ℕ) × HasLexicalFault characters c) ⊎ ((c : ℕ) × HasLimitFault characters c)) }
 {}
 
 /// Characters have one list of tokens, or a lexical fault at one column, or a fault of a limit at one column.

@@ -2,12 +2,14 @@
 ghost use Rattle.std.specs.Prelude.{if◌then◌else◌, ◌-◌, ◌≡◌, ◌⊎◌, ◌≤◌, ◌<◌, ◌+◌, ◌^◌, ◌∷◌, [], ◌++◌, ℕ, ℤ, pos, Bool, true, false, List, IsTrue, IfSome, IfNone, IfOk, IfErr, length, take, drop, encode_utf8_all, string_bytes};
 ghost use Rattle.apl_tokens.specs.Symbols.{is_digit, is_letter, is_name_character};
 ghost use Rattle.apl_tokens.specs.Fronts.{AllPass};
-ghost use Rattle.apl_array.specs.Array.{number_array};
+ghost use Rattle.apl_array.specs.Array.{number_array, character_array};
 ghost use Rattle.apl_tokens.specs.Lexis.{BeginsWithNo, decimal, negated, HasNoNextNumeral, AreBlanks, EndsNumerals, constant_shape, Lexes};
 ghost use Rattle.apl_tokens.specs.Stops.{IsLexicalStopOf};
-ghost use Rattle.apl_tokens.specs.Scans.{passes, IsHeldAs, IsNumeralAt, HasNoNumeral, held_more, IsRow, IsTokenAt, IsStopAt};
+ghost use Rattle.apl_tokens.specs.Scans.{passes, IsHeldAs, IsNumeralAt, HasNoNumeral, held_more, IsRow, IsSpelling, BeginsWithClosingQuote, IsQuotation, HasNoQuotation, BeginsWithQuote, IsTokenAt, IsStopAt};
 
-use crate::symbols::{is_blank, is_digit, is_letter, is_name_character, symbol_lexeme};
+use crate::symbols::{
+    is_blank, is_comment_mark, is_digit, is_letter, is_name_character, is_quote, symbol_lexeme,
+};
 use crate::token::{Lexeme, Name, Token};
 use apl_array::{Array, MOST_ELEMENTS, Shape};
 use std::alloc::{AllocError, AllocFailed, Global};
@@ -236,7 +238,7 @@ fn number_array(alloc: Global, numbers: Vec<i64>) -> Array
 }
 
 /// The number constant at the front of a text that begins at this column. Its first numeral is handed in.
-fn constant_at(
+fn number_constant_at(
     alloc: Global,
     text: &[char],
     first: Numeral,
@@ -259,6 +261,79 @@ fn constant_at(
     Ok(Scanned {
         lexeme: Lexeme::Constant(number_array(alloc, row.values)),
         length: row.length,
+    })
+}
+
+/// The characters of a text constant, and its length behind the opening quote.
+#[derive(Drop)]
+struct Quotation {
+    characters: Vec<char>,
+    length: usize,
+}
+
+/// How many symbols spell the first character behind an opening quote: none for the quote that closes.
+fn spelling_length(text: &[char]) -> Option<usize>
+    requires { 0 < length text.now }
+    ensures found { IfSome result (λ n. IsSpelling text.now n) }
+    ensures none { IfNone result (BeginsWithClosingQuote text.now) }
+{
+    if !is_quote(text[0]) {
+        Some(1)
+    } else if 1 < text.len() && is_quote(text[1]) {
+        Some(2)
+    } else {
+        None
+    }
+}
+
+/// The text constant whose opening quote stands before this text, if it is closed.
+fn quotation_at(alloc: Global, text: &[char]) -> Result<Option<Quotation>, AllocError>
+    ensures closed { IfOk result (λ found. IfSome found (λ q. IsQuotation text.now q.characters.items q.length)) }
+    ensures unclosed { IfOk result (λ found. IfNone found (HasNoQuotation text.now)) }
+{
+    let mut characters = Vec::new(alloc);
+    let mut length = 0;
+    while length < text.len() {
+        let Some(n) = spelling_length(&text[length..]) else {
+            return Ok(Some(Quotation {
+                characters,
+                length: length + 1,
+            }));
+        };
+        characters.push(text[length])?;
+        length += n;
+    }
+    Ok(None)
+}
+
+/// The scalar or vector of these characters.
+fn character_array(alloc: Global, characters: Vec<char>) -> Array
+    requires few { length characters.items ≤ MOST_ELEMENTS }
+    ensures { result ≡ character_array (constant_shape characters.items) characters.items }
+{
+    let lengths = [characters.len()];
+    let lengths: &[usize] = if characters.len() == 1 { &[] } else { &lengths };
+    let Ok(shape) = Shape::new(alloc, lengths) else {
+        unreachable!()
+    };
+    Array::chars(shape, characters)
+}
+
+/// The text constant at the front of a text that begins at this column, with a quote.
+fn text_constant_at(alloc: Global, text: &[char], column: usize) -> Result<Scanned, LexicalStop>
+    requires { BeginsWithQuote text.now }
+    ensures token { IfOk result (λ t. IsTokenAt text.now t.length t.lexeme) }
+    ensures stop { IfErr result (IsStopAt text.now column) }
+{
+    let Some(quotation) = quotation_at(alloc, &text[1..])? else {
+        return Err(LexicalStop::Syntax { column });
+    };
+    if quotation.characters.len() > MOST_ELEMENTS {
+        return Err(LexicalStop::Limit { column });
+    }
+    Ok(Scanned {
+        lexeme: Lexeme::Constant(character_array(alloc, quotation.characters)),
+        length: quotation.length + 1,
     })
 }
 
@@ -289,8 +364,11 @@ fn token_at(alloc: Global, text: &[char], column: usize) -> Result<Scanned, Lexi
             length,
         });
     }
+    if is_quote(first) {
+        return text_constant_at(alloc, text, column);
+    }
     if let Some(numeral) = numeral_at(text) {
-        return constant_at(alloc, text, numeral, column);
+        return number_constant_at(alloc, text, numeral, column);
     }
     match symbol_lexeme(first) {
         Some(lexeme) => Ok(Scanned { lexeme, length: 1 }),
@@ -310,7 +388,7 @@ pub fn tokens(alloc: Global, characters: &[char]) -> Result<Vec<Token>, LexicalS
 {
     let mut tokens = Vec::new(alloc);
     let mut column = run_length(characters, Class::Blank);
-    while column < characters.len() {
+    while column < characters.len() && !is_comment_mark(characters[column]) {
         let token = token_at(alloc, &characters[column..], column)?;
         let lexeme = token.lexeme;
         tokens.push(Token { lexeme, column })?;

@@ -1,6 +1,6 @@
 // The listed symbols, and the tokens of one symbol.
-ghost use Rattle.std.specs.Prelude.{◌≡◌};
-ghost use Rattle.apl_tokens.specs.Symbols.{is_digit, is_letter, is_name_character, is_blank, is_listed, symbol_lexeme};
+ghost use Rattle.std.specs.Prelude.{◌≡◌, ◌==◌};
+ghost use Rattle.apl_tokens.specs.Symbols.{is_digit, is_letter, is_name_character, is_blank, is_quote, comment_mark, is_listed_ascii, is_listed, symbol_lexeme};
 
 use crate::token::{Glyph, Lexeme};
 
@@ -10,10 +10,11 @@ pub(crate) fn is_digit(c: char) -> bool
     '0' <= c && c <= '9'
 }
 
+/// Whether this is `A` to `Z`, `a` to `z`, `∆` or `⍙`.
 pub(crate) fn is_letter(c: char) -> bool
     ensures { result ≡ is_letter c }
 {
-    ('A' <= c && c <= 'Z') || ('a' <= c && c <= 'z')
+    ('A' <= c && c <= 'Z') || ('a' <= c && c <= 'z') || c == '∆' || c == '⍙'
 }
 
 pub(crate) fn is_name_character(c: char) -> bool
@@ -28,11 +29,39 @@ pub(crate) fn is_blank(c: char) -> bool
     c == ' '
 }
 
-/// Whether this is a blank, a digit, a letter, or one of `_ ¯ + - × ←`.
+pub(crate) fn is_quote(c: char) -> bool
+    ensures { result ≡ is_quote c }
+{
+    c == '\''
+}
+
+/// Whether this begins a comment.
+pub(crate) fn is_comment_mark(c: char) -> bool
+    ensures { result ≡ (c == comment_mark) }
+{
+    c == '⍝'
+}
+
+/// The listed symbols that are not ASCII.
+const NON_ASCII_SYMBOLS: [char; 3] = ['¯', '×', '←'];
+
+fn is_listed_ascii(c: char) -> bool
+    ensures { result ≡ is_listed_ascii c }
+{
+    ('A' <= c && c <= 'Z')
+        || ('a' <= c && c <= 'z')
+        || is_digit(c)
+        || c == ' '
+        || c == '_'
+        || c == '+'
+        || c == '-'
+}
+
+/// Whether this is a blank, a digit, `A` to `Z`, `a` to `z`, or one of `_ ¯ + - × ←`.
 pub(crate) fn is_listed(c: char) -> bool
     ensures { result ≡ is_listed c }
 {
-    is_name_character(c) || is_blank(c) || c == '¯' || c == '+' || c == '-' || c == '×' || c == '←'
+    is_listed_ascii(c) || NON_ASCII_SYMBOLS.contains(&c)
 }
 
 /// The token that this symbol is by itself.
@@ -43,7 +72,48 @@ pub(crate) fn symbol_lexeme(c: char) -> Option<Lexeme>
         '+' => Some(Lexeme::Function(Glyph::Plus)),
         '-' => Some(Lexeme::Function(Glyph::Minus)),
         '×' => Some(Lexeme::Function(Glyph::Times)),
+        '÷' => Some(Lexeme::Function(Glyph::Divide)),
+        '|' => Some(Lexeme::Function(Glyph::Stile)),
+        '*' => Some(Lexeme::Function(Glyph::Star)),
+        '!' => Some(Lexeme::Function(Glyph::Bang)),
+        '⌊' => Some(Lexeme::Function(Glyph::Floor)),
+        '⌈' => Some(Lexeme::Function(Glyph::Ceiling)),
+        '∧' => Some(Lexeme::Function(Glyph::And)),
+        '∨' => Some(Lexeme::Function(Glyph::Or)),
+        '⍲' => Some(Lexeme::Function(Glyph::Nand)),
+        '⍱' => Some(Lexeme::Function(Glyph::Nor)),
+        '<' => Some(Lexeme::Function(Glyph::Less)),
+        '≤' => Some(Lexeme::Function(Glyph::LessOrEqual)),
+        '=' => Some(Lexeme::Function(Glyph::Equal)),
+        '≥' => Some(Lexeme::Function(Glyph::GreaterOrEqual)),
+        '>' => Some(Lexeme::Function(Glyph::Greater)),
+        '≠' => Some(Lexeme::Function(Glyph::NotEqual)),
+        '~' => Some(Lexeme::Function(Glyph::Tilde)),
+        '⍴' => Some(Lexeme::Function(Glyph::Rho)),
+        ',' => Some(Lexeme::Function(Glyph::Comma)),
+        '⍳' => Some(Lexeme::Function(Glyph::Iota)),
+        '∊' => Some(Lexeme::Function(Glyph::Epsilon)),
+        '↑' => Some(Lexeme::Function(Glyph::UpArrow)),
+        '↓' => Some(Lexeme::Function(Glyph::DownArrow)),
+        '⌽' => Some(Lexeme::Function(Glyph::CircleStile)),
+        '⊖' => Some(Lexeme::Function(Glyph::CircleBar)),
+        '⍉' => Some(Lexeme::Function(Glyph::Transpose)),
+        '⍋' => Some(Lexeme::Function(Glyph::GradeUp)),
+        '⍒' => Some(Lexeme::Function(Glyph::GradeDown)),
+        '/' => Some(Lexeme::Function(Glyph::Slash)),
+        '⌿' => Some(Lexeme::Function(Glyph::SlashBar)),
+        '\\' => Some(Lexeme::Function(Glyph::Backslash)),
+        '⍀' => Some(Lexeme::Function(Glyph::BackslashBar)),
+        '⊥' => Some(Lexeme::Function(Glyph::DownTack)),
+        '⊤' => Some(Lexeme::Function(Glyph::UpTack)),
+        '.' => Some(Lexeme::Dot),
+        '∘' => Some(Lexeme::Jot),
         '←' => Some(Lexeme::Arrow),
+        '(' => Some(Lexeme::OpenParen),
+        ')' => Some(Lexeme::CloseParen),
+        '[' => Some(Lexeme::OpenBracket),
+        ']' => Some(Lexeme::CloseBracket),
+        ';' => Some(Lexeme::Semicolon),
         _ => None,
     }
 }

@@ -1,6 +1,7 @@
 //! Fronts and tokens of lines, as text: each token with its column, or the stop.
 use crate::{
-    FrontStop, Lexeme, LexicalStop, Token, front, front_is_unique, lexing_is_unique, tokens,
+    FrontStop, Lexeme, LexicalStop, Token, front, front_is_total, front_is_unique, lexing_is_total,
+    lexing_is_unique, tokens,
 };
 use apl_array::Array;
 use std::alloc::{AllocError, Global};
@@ -47,7 +48,9 @@ fn described(alloc: Global, line: &[u8]) -> Result<String, AllocError> {
 
 #[test]
 fn tokens_of_lines(rt: HostRuntime) -> Result<(), Fail> {
+    front_is_total();
     front_is_unique();
+    lexing_is_total();
     lexing_is_unique();
     let cases = [
         ("", ""),

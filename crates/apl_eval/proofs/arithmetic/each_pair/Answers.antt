@@ -1,6 +1,6 @@
 use Rattle.std.proofs.Common.{◌≡◌, ℤ, refl, Option, Some, None, rules, ◌++◌, ◌∷◌, []}
 use Rattle.apl_eval.specs.Pairs.{if_in_range}
-use Rattle.apl_eval.proofs.PairLemmas.{HasResults, HasResults-more, is_fault, are_results}
+use Rattle.apl_eval.proofs.PairLemmas.{HasResults-more, is_fault, are_results}
 use Rattle.apl_eval.proofs.arithmetic.each_pair.Goals as goal
 
 pub places-init : goal.places-init

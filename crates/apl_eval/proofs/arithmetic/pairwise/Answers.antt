@@ -1,8 +1,8 @@
-use Rattle.std.proofs.Common.{rules, ◌≡◌, ◌<◌, refl, sym, ◌∙◌, ap, subst, arith, inl, inr, Ok, Err}
-use Rattle.apl_array.specs.declared.array.Kind.TheVariants.{Number, Character}
+use Rattle.std.proofs.Common.{rules, ◌≡◌, ◌<◌, sym, ◌∙◌, ap, arith, inl, inr, Ok}
+use Rattle.apl_array.specs.declared.array.Kind.TheVariants.{Character}
 use Rattle.apl_array.specs.Shape.{count_of}
 use Rattle.apl_eval.specs.Arithmetic.{extended_shape, shaped, repeated}
-use Rattle.apl_eval.specs.Pairs.{FitsPlaces, number_results}
+use Rattle.apl_eval.specs.Pairs.{number_results}
 use Rattle.apl_eval.specs.Refusals.{IsRefusalOf}
 use Rattle.apl_eval.proofs.Extended.{left_numbers_fit, right_numbers_fit, length-results, is_character, pairwise-numbers, pairwise-characters, shaped-refused}
 use Rattle.apl_eval.proofs.arithmetic.pairwise.Goals as goal

@@ -1,10 +1,9 @@
-use Rattle.std.proofs.Common.{rules, ◌≡◌, ◌∷◌, refl, sym, ◌∙◌, ap, length, take, ◌-◌}
+use Rattle.std.proofs.Common.{◌≡◌, ◌∷◌, sym, ◌∙◌, ap, length, take, ◌-◌}
 use Rattle.std.specs.FinMap.{insert}
-use Rattle.apl_array.specs.Array.{ArrayValue}
 use Rattle.apl_eval.specs.Workspace.{value_of}
 use Rattle.apl_eval.specs.Arithmetic.{dyadic_result}
 use Rattle.apl_eval.specs.Meaning.{done, found, judged}
-use Rattle.apl_eval.specs.Steps.{stack_of, staged_in, waiting, step}
+use Rattle.apl_eval.specs.Steps.{stack_of, staged_in, waiting}
 use Rattle.apl_eval.proofs.StackLemmas.{stack_of-push, stack_of-last, staged_in-insert}
 use Rattle.apl_eval.proofs.statement.carry_out.Goals as goal
 

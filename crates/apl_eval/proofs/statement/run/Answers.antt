@@ -1,7 +1,7 @@
-use Rattle.std.proofs.Common.{rules, ◌≡◌, ◌<◌, ◌≤◌, refl, sym, ◌∙◌, ap, subst, arith, length, get_or, [], Global}
+use Rattle.std.proofs.Common.{rules, ◌≡◌, refl, ◌∙◌, ap, [], Global}
 use Rattle.apl_eval.specs.Steps.{stack_of, staged_in}
 use Rattle.apl_eval.proofs.StackLemmas.{stack_of-push, staged_in-empty}
-use Rattle.apl_eval.proofs.StepLemmas.{ComesTo, is_possible, ComesTo-more, stops_with, one_left, means}
+use Rattle.apl_eval.proofs.StepLemmas.{is_possible, stops_with, one_left, means}
 use Rattle.apl_eval.proofs.statement.run.Goals as goal
 
 pub operations-init : goal.operations-init

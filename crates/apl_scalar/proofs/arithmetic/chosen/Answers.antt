@@ -1,4 +1,4 @@
-use Rattle.std.proofs.Common.{◌≤◌, pos, ap, ◌∙◌, arith}
+use Rattle.std.proofs.Common.{pos, ap, ◌∙◌, arith}
 use Rattle.apl_scalar.specs.Scalar.{exact}
 use Rattle.apl_scalar.proofs.Counting.{binomial-turned}
 use Rattle.apl_scalar.proofs.arithmetic.chosen.Goals as goal

@@ -1,4 +1,4 @@
-use Rattle.std.proofs.Common.{◌≡◌, ◌<◌, ◌≤◌, pos, negsuc, Ok, ◌≤ℤ◌, ◌<ℤ◌, FitsSigned, w64, sym, ap, ◌∙◌, arith}
+use Rattle.std.proofs.Common.{◌≤◌, pos, Ok, ◌≤ℤ◌, ◌<ℤ◌, FitsSigned, w64, sym, ap, ◌∙◌, arith}
 use Rattle.std.specs.Prelude.{unsigned_abs}
 use Rattle.std.proofs.lemmas.Int.{ints, to_z-of_z}
 use Rattle.apl_scalar.proofs.Powers.{power_of_bit, minus_one, minus_one_is, large_power_past}

@@ -1,4 +1,4 @@
-use Rattle.std.proofs.Common.{◌≡◌, ◌+◌, ◌*◌, ◌<◌, ◌≤◌, arith, ap, ◌∙◌}
+use Rattle.std.proofs.Common.{◌≡◌, ◌+◌, ◌*◌, arith, ap, ◌∙◌}
 use Rattle.apl_scalar.specs.Arithmetic.{factorial}
 use Rattle.apl_scalar.proofs.Counting.{factorial_next, factorial_within}
 use Rattle.apl_scalar.proofs.arithmetic.product_up_to.Goals as goal

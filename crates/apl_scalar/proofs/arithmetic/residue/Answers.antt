@@ -1,5 +1,4 @@
-use Rattle.std.proofs.Common.{◌≡◌, ℤ, pos, ◌+ℤ◌, ◌<ℤ◌, ◌≤ℤ◌, to_z, of_z, w64, FitsSigned, refl, sym, ap, ◌∙◌, arith, rules}
-use Rattle.std.specs.Int.{int_rem_euclid}
+use Rattle.std.proofs.Common.{◌≡◌, pos, ◌+ℤ◌, ◌<ℤ◌, ◌≤ℤ◌, w64, FitsSigned, refl, sym, ap, ◌∙◌, arith}
 use Rattle.std.proofs.lemmas.Int.{ints, to_z-of_z}
 use Rattle.apl_scalar.specs.Arithmetic.{residue}
 use Rattle.apl_scalar.proofs.Residues.{residue_pos, residue_zero, residue_neg, rem_natural}

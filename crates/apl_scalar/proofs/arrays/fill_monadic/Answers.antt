@@ -1,9 +1,5 @@
-use Rattle.std.proofs.Common.{◌≡◌, ◌<◌, ℕ, pos, length, get_or, sym, ap, ◌∙◌, subst, arith, rules}
-use Rattle.std.proofs.lemmas.List.{length-map}
-use Rattle.apl_array.specs.Shape.{count_of, index_at}
+use Rattle.std.proofs.Common.{◌≡◌, length, rules}
 use Rattle.apl_array.specs.Array.{number_array}
-use Rattle.apl_scalar.specs.Scalar.{monadic_number}
-use Rattle.apl_scalar.specs.Monadic.{monadic_element}
 use Rattle.apl_scalar.proofs.Places.{IfOk-same, IfErr-same}
 use Rattle.apl_scalar.proofs.Sources.{monadic_place, count_of_numbers}
 use Rattle.apl_scalar.proofs.arrays.fill_monadic.Goals as goal

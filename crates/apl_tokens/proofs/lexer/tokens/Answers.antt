@@ -1,4 +1,4 @@
-use Rattle.std.proofs.Common.{◌-◌, ◌+◌, take, drop, length, arith, length-take, length-drop}
+use Rattle.std.proofs.Common.{◌-◌, ◌+◌, take, drop, length, sym, ◌∙◌, arith, length-take, length-drop}
 use Rattle.apl_tokens.specs.Stops.{IsLexicalStopOf}
 use Rattle.apl_tokens.proofs.Runs.{rest_of}
 use Rattle.apl_tokens.proofs.Stopped.{err_is}
@@ -19,7 +19,8 @@ returns-in_err-token-clause-stop c =
     let column = c.loop-column.column in
     let stop = c.in_err-token.field-0.0 in
     err_is c.from_residual.result stop (IsLexicalStopOf cs) c.from_residual.ensures.1
-    (stop_of cs c.loop-column.tokens.items column (take (length cs - column) (drop column cs)) stop (rest_of cs column) c.loop-column-test.true c.loop-column.invariant.before c.in_err-token.ensures.stop)
+    (stop_of cs c.loop-column.tokens.items column c.index-characters-column.result (take (length cs - column) (drop column cs)) stop (rest_of cs column) c.loop-column-test.true c.index-characters-column.is
+    (sym c.is_comment_mark.ensures ∙ c.if-not-is_comment_mark.true) c.loop-column.invariant.before c.in_err-token.ensures.stop)
 
 pub loop-column-preserved : goal.loop-column-preserved
 loop-column-preserved c =

@@ -1,5 +1,3 @@
-use Rattle.std.proofs.Common.{Some, None, ◌≡◌, MatchOption}
-use Rattle.std.specs.FinMap.{get}
 use Rattle.apl_eval.proofs.NameLemmas.{found_value}
 use Rattle.apl_eval.proofs.names.Names.get.Goals as goal
 

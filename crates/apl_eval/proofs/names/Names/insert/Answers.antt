@@ -1,4 +1,3 @@
-use Rattle.std.proofs.Common.{◌≡◌, ◌∙◌, ap, sym}
 use Rattle.apl_eval.proofs.NameLemmas.{names_in-updates}
 use Rattle.apl_eval.proofs.names.Names.insert.Goals as goal
 

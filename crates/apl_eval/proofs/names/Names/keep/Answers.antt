@@ -1,7 +1,7 @@
-use Rattle.std.proofs.Common.{◌≡◌, ◌<◌, ◌∙◌, refl, sym, ap, arith, rules, Ok, Err, Some, subst, IsOk}
+use Rattle.std.proofs.Common.{◌≡◌, ◌<◌, arith, rules, IsOk}
 use Rattle.std.specs.HashMap.{spare}
-use Rattle.apl_eval.specs.Names.{overlaid, names_in}
-use Rattle.apl_eval.proofs.NameLemmas.{Keeps, Keeps-start, Keeps-more, Keeps-all, names_in-reordered}
+use Rattle.apl_eval.specs.Names.{names_in}
+use Rattle.apl_eval.proofs.NameLemmas.{Keeps-start, Keeps-more, Keeps-all, names_in-reordered}
 use Rattle.apl_eval.proofs.names.Names.keep.Goals as goal
 
 pub staged-init : goal.staged-init

@@ -1,4 +1,4 @@
-use Rattle.std.proofs.Common.{◌≡◌, ◌<◌, not, sym, ap, ◌∙◌, arith, rules}
+use Rattle.std.proofs.Common.{◌≡◌, not, sym, ◌∙◌, arith, rules}
 use Rattle.apl_array.specs.Array.{IsArray, number_array}
 use Rattle.apl_scalar.proofs.Sources.{dyadic_place, element_of_operand, operand_whole, operand_one, not_not}
 use Rattle.apl_scalar.proofs.kernels.ElementPairs.numbers.Goals as goal

@@ -3,7 +3,7 @@ use Rattle.apl_tokens.specs.declared.lexer.LexicalStop.TheVariants.{Memory}
 use Rattle.apl_tokens.specs.Scans.{IsStopAt}
 use Rattle.apl_tokens.proofs.Stopped.{err_is}
 use Rattle.apl_tokens.proofs.OneToken.{beyond_count}
-use Rattle.apl_tokens.proofs.lexer.constant_at.Goals as goal
+use Rattle.apl_tokens.proofs.lexer.number_constant_at.Goals as goal
 
 pub returns-in_err-row-clause-stop : goal.returns-in_err-row-clause-stop
 returns-in_err-row-clause-stop c = err_is c.from_residual.result Memory (IsStopAt c.args.text.now c.args.column) c.from_residual.ensures.1 tt

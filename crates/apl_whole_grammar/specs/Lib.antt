@@ -1,0 +1,5 @@
+pub mod Functions
+pub mod Tree
+pub mod Caret
+pub mod Stops
+pub mod Automaton

@@ -1,0 +1,12 @@
+//! Programs from tokens: the grammar, and the column of a grammar fault.
+#![tactic(auto)]
+
+mod functions;
+mod program;
+mod reader;
+mod statement;
+#[cfg(test)]
+mod tests;
+
+pub use program::{Brackets, Columns, Form, Operation, Program};
+pub use statement::{GrammarStop, one_caret, one_reading, one_tree, program_of};
