@@ -3,3 +3,4 @@ pub mod Extended
 pub mod NameLemmas
 pub mod StepLemmas
 pub mod StackLemmas
+pub mod Endings

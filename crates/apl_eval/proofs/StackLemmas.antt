@@ -1,18 +1,22 @@
 -- The stack that a vector holds, and the workspace with staged assignments.
-use Rattle.std.proofs.Common.{◌≡◌, ◌<◌, ◌-◌, ℕ, suc, List, [], ◌∷◌, ◌++◌, length, take, drop, get_or, map, sym, ◌∙◌, ap, arith, drop-cons}
+use Rattle.std.proofs.Common.{◌≡◌, ◌<◌, ◌-◌, ℕ, suc, List, [], ◌∷◌, ◌++◌, length, take, drop, get_or, map, Option, sym, ◌∙◌, ap, arith, drop-cons}
 use Rattle.std.proofs.lemmas.List.{drop_all, take-append-drop, reverse-append}
+use Rattle.std.specs.Prelude.{option_map}
 use Rattle.std.specs.declared.rc.Rc.{Rc}
 use Rattle.apl_array.specs.Array.{ArrayValue}
 use Rattle.apl_eval.specs.Workspace.{NameValues, WorkspaceValue, with_names, assigned}
-use Rattle.apl_eval.specs.Steps.{stack_of, staged_in}
+use Rattle.apl_eval.specs.Steps.{Item, stack_of, staged_in}
 use Rattle.apl_eval.proofs.NameLemmas.{overlaid-empty, overlaid-insert}
 use Rattle.std.specs.FinMap.{empty, insert}
 
-pub stack_of-push : {Z : Type 0} (xs : List (Rc ArrayValue Z)) (x : Rc ArrayValue Z) → stack_of (xs ++ x ∷ []) ≡ x.value ∷ stack_of xs
-stack_of-push xs x = ap (map (λ r. r.value)) (reverse-append xs (x ∷ []))
+abbrev pub item_of : {Z : Type 0} → Option (Rc ArrayValue Z) → Item
+item_of = option_map (λ r. r.value)
+
+pub stack_of-push : {Z : Type 0} (xs : List (Option (Rc ArrayValue Z))) (x : Option (Rc ArrayValue Z)) → stack_of (xs ++ x ∷ []) ≡ item_of x ∷ stack_of xs
+stack_of-push xs x = ap (map item_of) (reverse-append xs (x ∷ []))
 
 -- the last item is on top
-pub stack_of-last : {Z : Type 0} (xs : List (Rc ArrayValue Z)) (x : Rc ArrayValue Z) → 0 < length xs → x ≡ get_or xs (length xs - 1) x → stack_of xs ≡ x.value ∷ stack_of (take (length xs - 1) xs)
+pub stack_of-last : {Z : Type 0} (xs : List (Option (Rc ArrayValue Z))) (x : Option (Rc ArrayValue Z)) → 0 < length xs → x ≡ get_or xs (length xs - 1) x → stack_of xs ≡ item_of x ∷ stack_of (take (length xs - 1) xs)
 stack_of-last xs x some is =
     let n = length xs - 1 in
     let inside : n < length xs = omega arith in

@@ -1,49 +1,110 @@
 -- The operations of a tree, carried out one after another, come to the tree's meaning.
-use Rattle.std.proofs.Common.{◌≡◌, ◌≢◌, ◌+◌, ◌<◌, ◌≤◌, ℕ, List, [], ◌∷◌, ◌++◌, length, drop, get_or, refl, sym, ◌∙◌, ap, append_assoc, drop-cons, add-one, Err}
+use Rattle.std.proofs.Common.{◌≡◌, ◌≢◌, ◌+◌, ◌<◌, ◌≤◌, ℕ, List, [], ◌∷◌, ◌++◌, length, drop, get_or, refl, sym, ◌∙◌, ap, subst, append_assoc, drop-cons, add-one, Option, Some, None, Err}
 use Rattle.std.proofs.lemmas.List.{append-nil, drop_all}
 use Rattle.apl_array.specs.Array.{ArrayValue}
-use Rattle.apl_tokens.specs.declared.token.Glyph.{Glyph}
 use Rattle.apl_grammar.specs.declared.program.Operation.{Operation}
 use Rattle.apl_grammar.specs.declared.program.Operation.TheVariants as op
-use Rattle.apl_grammar.specs.Tree.{Operand, constant, name, Expr, value, dyadic, assign, operation, operations, IsProgram}
+use Rattle.apl_grammar.specs.declared.program.Form.{Form}
+use Rattle.apl_grammar.specs.declared.program.Form.TheVariants.{Plain, Reduce, Inner, Outer}
+use Rattle.apl_grammar.specs.Tree.{Expr, value, dyadic, monadic, assign, assign_at, Operand, constant, name, group, index, Slots, last, more, Slot, nothing, given, Axis, none, along, brackets, axis_brackets, semicolons, operations, operand_operations, list_operations, slot_operations, axis_operations, IsProgram}
 use Rattle.apl_print.specs.declared.reports.Report.{Report}
-use Rattle.apl_eval.specs.Workspace.{WorkspaceValue, assigned}
-use Rattle.apl_eval.specs.Arithmetic.{dyadic_result}
-use Rattle.apl_eval.specs.Meaning.{Outcome, done, failed, then, judged, mean_operand, mean}
-use Rattle.apl_eval.specs.Steps.{waiting, ended, stuck, onto, step, go_on, steps, IsOutcome, IsState}
+use Rattle.apl_print.specs.declared.reports.Report.TheVariants.{Syntax}
+use Rattle.apl_eval.specs.Workspace.{WorkspaceValue}
+use Rattle.apl_eval.specs.Functions.{caret_column, dyadic_result}
+use Rattle.apl_eval.specs.Meaning.{Outcome, done, failed, then, judged, mean, mean_operand, mean_slots, mean_slot, mean_axis}
+use Rattle.apl_eval.specs.Steps.{Item, State, HasValue, leaves, waiting, ended, stuck, onto, step, go_on, steps, IsOutcome, IsState}
 use Rattle.apl_eval.specs.declared.statement.EvalStop.{EvalStop}
 use Rattle.apl_eval.specs.declared.statement.EvalStop.TheVariants.{Error, Memory}
 
-step-operand : (o : Operand) (below : List ArrayValue) (w : WorkspaceValue) → step (operation o) below w ≡ onto below (mean_operand o w)
-step-operand (constant c v) below w = refl
-step-operand (name c n) below w = refl
+-- What an outcome leaves goes on as what comes next does, if it does so after each value.
+after : {V U : Type 0} (m : Outcome V) (before : V → List Item) (behind : U → List Item) (next : V → WorkspaceValue → Outcome U) (here there : List Item → WorkspaceValue → State)
+    → ((v : V) (u : WorkspaceValue) → here (before v) u ≡ go_on (leaves behind (next v u)) there)
+    → go_on (leaves before m) here ≡ go_on (leaves behind (then m next)) there
+after (done v u) before behind next here there h = h v u
+after (failed report column u) before behind next here there h = refl
 
-after_operand : (c : ℕ) (f : Glyph) (rest : List Operation) (below : List ArrayValue) (b : ArrayValue) (m : Outcome)
-    → go_on (onto (b ∷ below) m) (steps (op.Dyadic c f ∷ rest)) ≡ go_on (onto below (then m (λ a x. judged (dyadic_result f a b) c x))) (steps rest)
-after_operand c f rest below b (done a w) = refl
-after_operand c f rest below b (failed report d w) = refl
+after_axis : {U : Type 0} (m : Outcome ArrayValue) (before : ArrayValue → List Item) (behind : U → List Item) (next : Option ArrayValue → WorkspaceValue → Outcome U) (here there : List Item → WorkspaceValue → State)
+    → ((v : ArrayValue) (u : WorkspaceValue) → here (before v) u ≡ go_on (leaves behind (next (Some v) u)) there)
+    → go_on (leaves before m) here ≡ go_on (leaves behind (then (then m (λ v u. done (Some v) u)) next)) there
+after_axis (done v u) before behind next here there h = h v u
+after_axis (failed report column u) before behind next here there h = refl
 
-after_expression : (o : Operand) (c : ℕ) (f : Glyph) (rest : List Operation) (below : List ArrayValue) (m : Outcome)
-    → go_on (onto below m) (steps (operation o ∷ op.Dyadic c f ∷ rest)) ≡ go_on (onto below (then m (λ b u. then (mean_operand o u) (λ a x. judged (dyadic_result f a b) c x)))) (steps rest)
-after_expression o c f rest below (failed report d w) = refl
-after_expression o c f rest below (done b u) =
-    ap (λ s. go_on s (steps (op.Dyadic c f ∷ rest))) (step-operand o (b ∷ below) u) ∙ after_operand c f rest below b (mean_operand o u)
+abbrev axis_on : List Item → Option ArrayValue → List Item
+axis_on below None = below
+axis_on below (Some v) = Some v ∷ below
 
-after_assignment : (c : ℕ) (n : List ℕ) (arrow : ℕ) (rest : List Operation) (below : List ArrayValue) (m : Outcome)
-    → go_on (onto below m) (steps (op.Assign c n arrow ∷ rest)) ≡ go_on (onto below (then m (λ b u. done b (assigned n b u)))) (steps rest)
-after_assignment c n arrow rest below (failed report d w) = refl
-after_assignment c n arrow rest below (done b u) = refl
+along_axis : (f : Form) (x l r : ArrayValue) → dyadic_result f (Some x) l r ≡ Err Syntax
+along_axis (Plain column glyph) x l r = refl
+along_axis (Reduce column function slash_column slash_glyph) x l r = refl
+along_axis (Inner left_column left dot right_column right) x l r = refl
+along_axis (Outer jot dot column function) x l r = refl
 
-steps-operations : (e : Expr) (rest : List Operation) (below : List ArrayValue) (w : WorkspaceValue) → steps (operations e ++ rest) below w ≡ go_on (onto below (mean e w)) (steps rest)
-steps-operations (value o) rest below w = ap (λ s. go_on s (steps rest)) (step-operand o below w)
-steps-operations (dyadic o c f e) rest below w =
-    let regrouped : (operations e ++ operation o ∷ op.Dyadic c f ∷ []) ++ rest ≡ operations e ++ operation o ∷ op.Dyadic c f ∷ rest = simp append_assoc in
-    ap (λ os. steps os below w) regrouped ∙ steps-operations e (operation o ∷ op.Dyadic c f ∷ rest) below w ∙ after_expression o c f rest below (mean e w)
-steps-operations (assign c n arrow e) rest below w =
-    let regrouped : (operations e ++ op.Assign c n arrow ∷ []) ++ rest ≡ operations e ++ op.Assign c n arrow ∷ rest = simp append_assoc in
-    ap (λ os. steps os below w) regrouped ∙ steps-operations e (op.Assign c n arrow ∷ rest) below w ∙ after_assignment c n arrow rest below (mean e w)
+mutual
+  steps-operations : (e : Expr) (rest : List Operation) (below : List Item) (w : WorkspaceValue) → steps (operations e ++ rest) below w ≡ go_on (onto below (mean e w)) (steps rest)
+  steps-operations (value o) rest below w = steps-operand o rest below w
+  steps-operations (dyadic o f none e) rest below w =
+      let last_one : Operation = op.Dyadic f None in
+      let regrouped : (operations e ++ (operand_operations o ++ last_one ∷ [])) ++ rest ≡ operations e ++ (operand_operations o ++ last_one ∷ rest) = simp append_assoc in
+      ap (λ os. steps os below w) regrouped
+      ∙ steps-operations e (operand_operations o ++ last_one ∷ rest) below w
+      ∙ after (mean e w) _ _ _ _ _ (λ b u. steps-operand o (last_one ∷ rest) (Some b ∷ below) u ∙ after (mean_operand o u) _ _ _ _ _ (λ a x. refl))
+  steps-operations (dyadic o f (along l x r) e) rest below w =
+      let last_one : Operation = op.Dyadic f (Some (brackets l r)) in
+      let regrouped : (operations e ++ (operations x ++ (operand_operations o ++ last_one ∷ []))) ++ rest ≡ operations e ++ (operations x ++ (operand_operations o ++ last_one ∷ rest)) = simp append_assoc in
+      ap (λ os. steps os below w) regrouped
+      ∙ steps-operations e (operations x ++ (operand_operations o ++ last_one ∷ rest)) below w
+      ∙ after (mean e w) _ _ _ _ _ (λ b u.
+      steps-operations x (operand_operations o ++ last_one ∷ rest) (Some b ∷ below) u
+      ∙ after_axis (mean x u) _ _ _ _ _ (λ v t.
+      steps-operand o (last_one ∷ rest) (Some v ∷ Some b ∷ below) t
+      ∙ after (mean_operand o t) _ _ _ _ _ (λ a s. ap (λ m. go_on (onto below (judged m (caret_column f) s)) (steps rest)) (sym (along_axis f v a b)))))
+  steps-operations (monadic f a e) rest below w =
+      let last_one : Operation = op.Monadic f (axis_brackets a) in
+      let regrouped : (operations e ++ (axis_operations a ++ last_one ∷ [])) ++ rest ≡ operations e ++ (axis_operations a ++ last_one ∷ rest) = simp append_assoc in
+      ap (λ os. steps os below w) regrouped
+      ∙ steps-operations e (axis_operations a ++ last_one ∷ rest) below w
+      ∙ after (mean e w) _ _ _ _ _ (λ b u. steps-axis a (last_one ∷ rest) (Some b ∷ below) u ∙ after (mean_axis a u) _ _ _ _ _ (λ x v. refl))
+  steps-operations (assign c n r e) rest below w =
+      ap (λ os. steps os below w) (append_assoc (operations e) (op.Assign c n r ∷ []) rest)
+      ∙ steps-operations e (op.Assign c n r ∷ rest) below w
+      ∙ after (mean e w) _ _ _ _ _ (λ b u. refl)
+  steps-operations (assign_at c n l s r a e) rest below w =
+      let last_one : Operation = op.AssignAt c n (semicolons s) (brackets l r) a in
+      let regrouped : (operations e ++ (list_operations s ++ last_one ∷ [])) ++ rest ≡ operations e ++ (list_operations s ++ last_one ∷ rest) = simp append_assoc in
+      ap (λ os. steps os below w) regrouped
+      ∙ steps-operations e (list_operations s ++ last_one ∷ rest) below w
+      ∙ after (mean e w) _ _ _ _ _ (λ b u. steps-slots s (last_one ∷ rest) (Some b ∷ below) u ∙ after (mean_slots s u) _ _ _ _ _ (λ xs v. refl))
 
-onto-nothing : (m : Outcome) → go_on (onto [] m) (steps []) ≡ onto [] m
+  steps-operand : (o : Operand) (rest : List Operation) (below : List Item) (w : WorkspaceValue) → steps (operand_operations o ++ rest) below w ≡ go_on (onto below (mean_operand o w)) (steps rest)
+  steps-operand (constant c v) rest below w = refl
+  steps-operand (name c n) rest below w = refl
+  steps-operand (group l e r) rest below w =
+      ap (λ os. steps os below w) (append_assoc (operations e) (op.Group (brackets l r) ∷ []) rest)
+      ∙ steps-operations e (op.Group (brackets l r) ∷ rest) below w
+  steps-operand (index o l s r) rest below w =
+      let last_one : Operation = op.Index (semicolons s) (brackets l r) in
+      let regrouped : (list_operations s ++ (operand_operations o ++ last_one ∷ [])) ++ rest ≡ list_operations s ++ (operand_operations o ++ last_one ∷ rest) = simp append_assoc in
+      ap (λ os. steps os below w) regrouped
+      ∙ steps-slots s (operand_operations o ++ last_one ∷ rest) below w
+      ∙ after (mean_slots s w) _ _ _ _ _ (λ xs u. steps-operand o (last_one ∷ rest) (xs ++ below) u ∙ after (mean_operand o u) _ _ _ _ _ (λ a v. refl))
+
+  -- the first slot is on top
+  steps-slots : (s : Slots) (rest : List Operation) (below : List Item) (w : WorkspaceValue) → steps (list_operations s ++ rest) below w ≡ go_on (leaves (λ xs. xs ++ below) (mean_slots s w)) (steps rest)
+  steps-slots (last s) rest below w = steps-slot s rest below w ∙ after (mean_slot s w) _ _ _ _ _ (λ x u. refl)
+  steps-slots (more s c ss) rest below w =
+      ap (λ os. steps os below w) (append_assoc (list_operations ss) (slot_operations s) rest)
+      ∙ steps-slots ss (slot_operations s ++ rest) below w
+      ∙ after (mean_slots ss w) _ _ _ _ _ (λ xs u. steps-slot s rest (xs ++ below) u ∙ after (mean_slot s u) _ _ _ _ _ (λ x v. refl))
+
+  steps-slot : (s : Slot) (rest : List Operation) (below : List Item) (w : WorkspaceValue) → steps (slot_operations s ++ rest) below w ≡ go_on (leaves (λ x. x ∷ below) (mean_slot s w)) (steps rest)
+  steps-slot nothing rest below w = refl
+  steps-slot (given e) rest below w = steps-operations e rest below w ∙ after (mean e w) _ _ _ _ _ (λ v u. refl)
+
+  steps-axis : (a : Axis) (rest : List Operation) (below : List Item) (w : WorkspaceValue) → steps (axis_operations a ++ rest) below w ≡ go_on (leaves (axis_on below) (mean_axis a w)) (steps rest)
+  steps-axis none rest below w = refl
+  steps-axis (along l e r) rest below w = steps-operations e rest below w ∙ after (mean e w) _ _ _ _ _ (λ v u. refl)
+
+onto-nothing : (m : Outcome ArrayValue) → go_on (onto [] m) (steps []) ≡ onto [] m
 onto-nothing (done v w) = refl
 onto-nothing (failed report c w) = refl
 
@@ -51,27 +112,27 @@ onto-nothing (failed report c w) = refl
 pub steps-program : (e : Expr) (w : WorkspaceValue) → steps (operations e) [] w ≡ onto [] (mean e w)
 steps-program e w = ap (λ os. steps os [] w) (sym (append-nil (operations e))) ∙ steps-operations e [] [] w ∙ onto-nothing (mean e w)
 
-not_stuck : (m : Outcome) → onto [] m ≢ stuck
+not_stuck : (m : Outcome ArrayValue) → onto [] m ≢ stuck
 not_stuck (done v w) e = absurd cc
 not_stuck (failed report c w) e = absurd cc
 
-fails : (m : Outcome) (report : Report) (c : ℕ) (u : WorkspaceValue) → onto [] m ≡ ended report c u → m ≡ failed report c u
+fails : (m : Outcome ArrayValue) (report : Report) (c : ℕ) (u : WorkspaceValue) → onto [] m ≡ ended report c u → m ≡ failed report c u
 fails (done v w) report c u e = absurd cc
 fails (failed r d w) report c u e = cc
 
-not_empty : (m : Outcome) (w : WorkspaceValue) → onto [] m ≢ waiting [] w
-not_empty (done v u) w e = absurd cc
-not_empty (failed r d u) w e = absurd cc
+has_value : (m : Outcome ArrayValue) (items : List Item) (w : WorkspaceValue) → onto [] m ≡ waiting items w → HasValue items
+has_value (done v u) items w e = let is : Some v ∷ [] ≡ items = cc in subst HasValue is tt
+has_value (failed r d u) items w e = absurd cc
 
-only : (m : Outcome) (v : ArrayValue) (below : List ArrayValue) (w : WorkspaceValue) → onto [] m ≡ waiting (v ∷ below) w → m ≡ done v w
+only : (m : Outcome ArrayValue) (v : ArrayValue) (below : List Item) (w : WorkspaceValue) → onto [] m ≡ waiting (Some v ∷ below) w → m ≡ done v w
 only (done x u) v below w e = cc
 only (failed r d u) v below w e = absurd cc
 
 -- what the loop keeps: what is left of the operations comes to the same state
-pub record ComesTo (ops : List Operation) (start : WorkspaceValue) (place : ℕ) (values : List ArrayValue) (w : WorkspaceValue) : Type 0 where
+pub record ComesTo (ops : List Operation) (start : WorkspaceValue) (place : ℕ) (values : List Item) (w : WorkspaceValue) : Type 0 where
   pub left : steps (drop place ops) values w ≡ steps ops [] start
 
-module _ (ops : List Operation) (start : WorkspaceValue) (place : ℕ) (values : List ArrayValue) (w : WorkspaceValue) (o : Operation) where
+module _ (ops : List Operation) (start : WorkspaceValue) (place : ℕ) (values : List Item) (w : WorkspaceValue) (o : Operation) where
   here : place < length ops → o ≡ get_or ops place o → steps (drop place ops) values w ≡ go_on (step o values w) (steps (drop (place + 1) ops))
   here inside is = ap (λ os. steps os values w) (drop-cons ops place o inside) ∙ (λ i. go_on (step (sym is i) values w) (steps (drop (sym (add-one place) i) ops)))
 
@@ -80,7 +141,7 @@ module _ (ops : List Operation) (start : WorkspaceValue) (place : ℕ) (values :
       let whole : steps ops [] start ≡ onto [] (mean program.0 start) = ap (λ os. steps os [] start) (sym program.2) ∙ steps-program program.0 start in
       not_stuck (mean program.0 start) (sym whole ∙ sym h.left ∙ here inside is ∙ ap (λ s. go_on s (steps (drop (place + 1) ops))) e)
 
-  pub ComesTo-more : place < length ops → o ≡ get_or ops place o → ComesTo ops start place values w → (next : List ArrayValue) (u : WorkspaceValue) → step o values w ≡ waiting next u → ComesTo ops start (place + 1) next u
+  pub ComesTo-more : place < length ops → o ≡ get_or ops place o → ComesTo ops start place values w → (next : List Item) (u : WorkspaceValue) → step o values w ≡ waiting next u → ComesTo ops start (place + 1) next u
   ComesTo-more inside is h next u e = record { left = sym (ap (λ s. go_on s (steps (drop (place + 1) ops))) e) ∙ sym (here inside is) ∙ h.left }
 
   pub ends_with : (e : Expr) → operations e ≡ ops → place < length ops → o ≡ get_or ops place o → ComesTo ops start place values w → (report : Report) (c : ℕ) (u : WorkspaceValue) → step o values w ≡ ended report c u → mean e start ≡ failed report c u
@@ -88,17 +149,17 @@ module _ (ops : List Operation) (start : WorkspaceValue) (place : ℕ) (values :
       fails (mean e start) report c u
       (sym (ap (λ os. steps os [] start) (sym program) ∙ steps-program e start) ∙ sym h.left ∙ here inside is ∙ ap (λ s. go_on s (steps (drop (place + 1) ops))) fault)
 
-  pub stops_with : (T Z : Type 0) (e : Expr) → operations e ≡ ops → place < length ops → o ≡ get_or ops place o → ComesTo ops start place values w → (next : List ArrayValue) (u : WorkspaceValue) (stop : EvalStop) → IsState {T = T} (step o values w) next u (Err stop) → IsOutcome {Z = Z} (mean e start) u (Err stop)
+  pub stops_with : (T Z : Type 0) (e : Expr) → operations e ≡ ops → place < length ops → o ≡ get_or ops place o → ComesTo ops start place values w → (next : List Item) (u : WorkspaceValue) (stop : EvalStop) → IsState {T = T} (step o values w) next u (Err stop) → IsOutcome {Z = Z} (mean e start) u (Err stop)
   stops_with T Z e program inside is h next u Memory fault = tt
   stops_with T Z e program inside is h next u (Error report column) fault = ends_with e program inside is h report column u fault
 
-module _ (ops : List Operation) (start : WorkspaceValue) (place : ℕ) (values : List ArrayValue) (w : WorkspaceValue) where
+module _ (ops : List Operation) (start : WorkspaceValue) (place : ℕ) (values : List Item) (w : WorkspaceValue) where
   at_end : length ops ≤ place → ComesTo ops start place values w → (e : Expr) → operations e ≡ ops → onto [] (mean e start) ≡ waiting values w
   at_end past h e program =
       sym (steps-program e start) ∙ ap (λ os. steps os [] start) program ∙ sym h.left ∙ ap (λ os. steps os values w) (drop_all place ops past)
 
-  pub one_left : length ops ≤ place → ComesTo ops start place values w → IsProgram ops → values ≢ []
-  one_left past h program none = not_empty (mean program.0 start) w (at_end past h program.0 program.2 ∙ ap (λ vs. waiting vs w) none)
+  pub one_left : length ops ≤ place → ComesTo ops start place values w → IsProgram ops → HasValue values
+  one_left past h program = has_value (mean program.0 start) values w (at_end past h program.0 program.2)
 
-  pub means : length ops ≤ place → ComesTo ops start place values w → (e : Expr) → operations e ≡ ops → (v : ArrayValue) (below : List ArrayValue) → values ≡ v ∷ below → mean e start ≡ done v w
+  pub means : length ops ≤ place → ComesTo ops start place values w → (e : Expr) → operations e ≡ ops → (v : ArrayValue) (below : List Item) → values ≡ Some v ∷ below → mean e start ≡ done v w
   means past h e program v below is = only (mean e start) v below w (at_end past h e program ∙ ap (λ vs. waiting vs w) is)

@@ -11,7 +11,7 @@ use Rattle.apl_tokens.specs.declared.token.Glyph.TheVariants.{Plus, Minus, Times
 use Rattle.apl_print.specs.declared.reports.Report.{Report}
 use Rattle.apl_print.specs.declared.reports.Report.TheVariants.{Syntax, Rank, Length, Domain, Limit}
 
--- the function over all whole numbers, where it is one of those that are evaluated so far
+-- the function over all whole numbers, where it is one of those that are built so far
 abbrev pub exact_function : Glyph → Option (ℤ → ℤ → ℤ)
 exact_function Plus = Some (λ x y. x +ℤ y)
 exact_function Minus = Some (λ x y. x -ℤ y)
@@ -76,11 +76,8 @@ pairwise f a b (Ok shape) =
     shaped shape (all_or_first (zip_with (pair_result f) (repeated (count_of shape) a.ravel) (repeated (count_of shape) b.ravel)))
 pairwise f a b (Err fault) = Err fault
 
+-- The result of a function of two arrays: its array of numbers, or the fault. Shapes are judged first, and of elements the
+-- fault at the least place is the answer. A function that is not built so far is Syntax.
 abbrev pub applied : Option (ℤ → ℤ → ℤ) → ArrayValue → ArrayValue → Result ArrayValue Report
 applied (Some f) a b = pairwise f a b (extended_shape a.shape b.shape)
 applied None a b = Err Syntax
-
--- The result of a function of two arrays: its array of numbers, or the fault. Shapes are judged first, and of elements the
--- fault at the least place is the answer. A function that is not evaluated so far is Syntax.
-abbrev pub dyadic_result : Glyph → ArrayValue → ArrayValue → Result ArrayValue Report
-dyadic_result f a b = applied (exact_function f) a b

@@ -1,5 +1,6 @@
 pub mod Workspace
 pub mod Arithmetic
+pub mod Functions
 pub mod Meaning
 pub mod Evaluates
 pub mod Refusals

@@ -1,6 +1,6 @@
 //! Functions of two arrays.
 ghost use Rattle.std.specs.Prelude.{◌≡◌, ◌<◌, ◌⊎◌, ℕ, ℤ, ◌+ℤ◌, ◌-ℤ◌, ◌*ℤ◌, length, slice_index_or, pos, MatchResult, Ok, Err};
-ghost use Rattle.apl_eval.specs.Arithmetic.{extended_shape, repeated, pairwise as pairwise_result, dyadic_result};
+ghost use Rattle.apl_eval.specs.Arithmetic.{extended_shape, repeated, pairwise as pairwise_result, applied, exact_function};
 ghost use Rattle.apl_eval.specs.Pairs.{if_in_range, number_results, FitsPlaces};
 ghost use Rattle.apl_eval.specs.Refusals.{Answers};
 
@@ -176,7 +176,7 @@ pub(crate) fn dyadic(
     left: &Array,
     right: &Array,
 ) -> Result<Array, Refusal>
-    ensures { Answers (dyadic_result function left.now right.now) (λ a. a) result }
+    ensures { Answers (applied (exact_function function) left.now right.now) (λ a. a) result }
 {
     match function {
         Glyph::Plus => pairwise::<Sum>(alloc, left, right),

@@ -2,7 +2,9 @@
 #![tactic(auto)]
 
 mod arithmetic;
+mod functions;
 mod names;
+mod stack;
 mod statement;
 mod workspace;
 

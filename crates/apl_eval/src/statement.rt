@@ -1,20 +1,25 @@
 //! Statements evaluated in a workspace.
 ghost use Rattle.std.specs.Prelude.{◌≡◌, ◌≢◌, ◌≤◌, Some, None, MatchOption, IfOk};
 ghost use Rattle.std.specs.FinMap.{empty};
+ghost use Rattle.apl_array.specs.Array.{ArrayValue};
 ghost use Rattle.apl_grammar.specs.Tree.{Expr, operations};
+ghost use Rattle.apl_print.specs.declared.reports.Report.TheVariants.{Syntax};
+ghost use Rattle.apl_eval.specs.declared.statement.EvalStop.TheVariants.{Error};
 ghost use Rattle.apl_eval.specs.Workspace.{WorkspaceValue, value_of};
-ghost use Rattle.apl_eval.specs.Arithmetic.{dyadic_result};
+ghost use Rattle.apl_eval.specs.Functions.{caret_column, dyadic_result};
 ghost use Rattle.apl_eval.specs.Meaning.{Outcome, done, found, judged, mean, is_assignment};
 ghost use Rattle.apl_eval.specs.Evaluates.{Evaluates, IsShownAs};
-ghost use Rattle.apl_eval.specs.Steps.{step, stuck, onto, stack_of, staged_in, IsOutcome, IsState};
+ghost use Rattle.apl_eval.specs.Steps.{step, stuck, onto, staged_in, IsOutcome, IsState};
 
-use super::arithmetic::{Refusal, dyadic};
+use super::arithmetic::Refusal;
+use super::functions::{caret_column, dyadic};
 use super::names::Names;
+use super::stack::Stack;
 use super::workspace::Workspace;
 use apl_array::Array;
-use apl_grammar::{Operation, Program};
+use apl_grammar::{Form, Operation, Program};
 use apl_print::{Report, print};
-use apl_tokens::Glyph;
+use apl_tokens::Constant;
 use std::alloc::{AllocError, AllocFailed, Global};
 use std::rc::Rc;
 
@@ -58,10 +63,10 @@ impl<T: Drop> From<AllocFailed<T>> for EvalStop {
 }
 
 /// The value of a constant.
-fn constant_value(alloc: Global, constant: &Array) -> Result<Rc<Array>, EvalStop>
+fn constant_value(constant: &Constant) -> Result<Rc<Array>, EvalStop>
     ensures { (w : WorkspaceValue) → IsOutcome (done constant.now w) w result }
 {
-    Ok(Rc::new(alloc, constant.copy(alloc)?)?)
+    Ok(constant.array().clone()?)
 }
 
 /// The value of a name: the one that the line gave it, or else the workspace's.
@@ -92,30 +97,42 @@ fn name_value(
     }
 }
 
-/// The result of a function at this column.
+/// The result of a function of two arrays, or its fault at its caret.
 fn result_value(
     alloc: Global,
-    column: usize,
-    function: Glyph,
+    form: Form,
     left: &Array,
     right: &Array,
 ) -> Result<Rc<Array>, EvalStop>
-    ensures { (w : WorkspaceValue) → IsOutcome (judged (dyadic_result function left.now right.now) column w) w result }
+    ensures { (w : WorkspaceValue) → IsOutcome (judged (dyadic_result form None left.now right.now) (caret_column form) w) w result }
 {
-    match dyadic(alloc, function, left, right) {
+    match dyadic(alloc, form, left, right) {
         Ok(value) => Ok(Rc::new(alloc, value)?),
-        Err(Refusal::Fault(report)) => Err(EvalStop::Error { report, column }),
+        Err(Refusal::Fault(report)) => Err(EvalStop::Error {
+            report,
+            column: caret_column(form),
+        }),
         Err(Refusal::Memory) => Err(EvalStop::Memory),
     }
 }
 
-/// Puts a value on the stack, or hands on why there is none.
-fn put(stack: &mut Vec<Rc<Array>>, value: Result<Rc<Array>, EvalStop>) -> Result<(), EvalStop>
-    ensures { (outcome : Outcome) → (w : WorkspaceValue) → IsOutcome outcome w value → IsState (onto (stack_of stack.old.items) outcome) (stack_of stack.new.items) w result }
+/// The answer of an operation that is not built so far.
+fn not_built(column: usize) -> EvalStop
+    ensures { result ≡ Error Syntax column }
+{
+    EvalStop::Error {
+        report: Report::Syntax,
+        column,
+    }
+}
+
+/// Puts a value on the stack, if there is one.
+fn put(stack: &mut Stack, value: Result<Rc<Array>, EvalStop>) -> Result<(), EvalStop>
+    ensures { (outcome : Outcome ArrayValue) → (w : WorkspaceValue) → IsOutcome outcome w value → IsState (onto stack.old outcome) stack.new w result }
 {
     match value {
         Ok(value) => {
-            stack.push(value)?;
+            stack.push_value(value)?;
             Ok(())
         }
         Err(stop) => Err(stop),
@@ -127,33 +144,34 @@ fn carry_out(
     alloc: Global,
     workspace: &Workspace,
     staged: &mut Names,
-    stack: &mut Vec<Rc<Array>>,
+    stack: &mut Stack,
     operation: &Operation,
 ) -> Result<(), EvalStop>
-    requires { step operation.now (stack_of stack.old.items) (staged_in staged.old workspace.now) ≢ stuck }
-    ensures { IsState (step operation.now (stack_of stack.old.items) (staged_in staged.old workspace.now)) (stack_of stack.new.items) (staged_in staged.new workspace.now) result }
+    requires { step operation.now stack.old (staged_in staged.old workspace.now) ≢ stuck }
+    ensures { IsState (step operation.now stack.old (staged_in staged.old workspace.now)) stack.new (staged_in staged.new workspace.now) result }
 {
     match operation {
-        Operation::Constant(_, constant) => put(stack, constant_value(alloc, constant)),
+        Operation::Constant(_, constant) => put(stack, constant_value(constant)),
         Operation::Name(column, name) => {
             put(stack, name_value(workspace, staged, *column, name.as_str()))
         }
-        Operation::Dyadic(column, function) => {
-            let (Some(left), Some(right)) = (stack.pop(), stack.pop()) else {
-                unreachable!()
-            };
-            put(
-                stack,
-                result_value(alloc, *column, *function, &left, &right),
-            )
-        }
+        Operation::Group(_) => Ok(()),
+        Operation::EmptySlot => Ok(stack.push_empty_slot()?),
         Operation::Assign(_, name, _) => {
-            let Some(value) = stack.last() else {
-                unreachable!()
-            };
-            staged.insert(alloc, name.as_str(), value.clone()?)?;
+            let value = stack.top_value().clone()?;
+            staged.insert(alloc, name.as_str(), value)?;
             Ok(())
         }
+        Operation::Dyadic(form, None) => {
+            let left = stack.pop_value();
+            let right = stack.pop_value();
+            put(stack, result_value(alloc, *form, &left, &right))
+        }
+        Operation::Dyadic(form, Some(_)) | Operation::Monadic(form, _) => {
+            Err(not_built(caret_column(*form)))
+        }
+        Operation::Index(_, brackets) => Err(not_built(brackets.left)),
+        Operation::AssignAt { arrow, .. } => Err(not_built(*arrow)),
     }
 }
 
@@ -167,24 +185,24 @@ fn run(
     requires { staged.old ≡ empty }
     ensures { (tree : Expr) → operations tree ≡ program.now → IsOutcome (mean tree workspace.now) (staged_in staged.new workspace.now) result }
 {
-    let mut stack = Vec::new(alloc);
+    let mut stack = Stack::new(alloc);
     'operations: for operation in program.operations() {
         match carry_out(alloc, workspace, staged, &mut stack, operation) {
             Ok(()) => {}
             Err(stop) => return Err(stop),
         }
     }
-    match stack.pop() {
-        Some(value) => Ok(value),
-        None => unreachable!(),
-    }
+    Ok(stack.pop_value())
 }
 
 /// Whether the statement is an assignment.
 fn is_assignment_program(program: &Program) -> bool
     ensures { (tree : Expr) → operations tree ≡ program.now → result ≡ is_assignment tree }
 {
-    matches!(program.operations().last(), Some(Operation::Assign(..)))
+    matches!(
+        program.operations().last(),
+        Some(Operation::Assign(..) | Operation::AssignAt { .. })
+    )
 }
 
 /// What the statement shows, where this is its value.
@@ -202,7 +220,8 @@ fn text_of(alloc: Global, program: &Program, value: &Array, width: u8) -> Result
 /// Evaluates a statement in a workspace.
 ///
 /// An assignment shows nothing, and another statement the text of its value, printed at the workspace's width. After a fault the
-/// assignments made before it are kept. After want of memory the workspace is as it was.
+/// assignments made before it are kept. What is not built so far is a syntax error, once its operands have values. After want of
+/// memory the workspace is as it was.
 pub fn eval(workspace: &mut Workspace, alloc: Global, program: &Program) -> Result<Shown, EvalStop>
     ensures { (tree : Expr) → operations tree ≡ program.now → Evaluates tree workspace.old workspace.new result }
 {

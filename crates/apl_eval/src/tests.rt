@@ -3,21 +3,10 @@ use crate::{EvalStop, Shown, Workspace, eval};
 use apl_array::{Array, Origin, Shape};
 use apl_grammar::program_of;
 use apl_print::Report;
-use apl_tokens::{Glyph, Lexeme, Name, Token};
+use apl_tokens::{Constant, Glyph, Lexeme, Name, Token};
 use std::alloc::{AllocError, Global};
 use std::process::Abort;
-
-#[derive(Clone, Copy)]
-enum Piece {
-    Number(i64),
-    Numbers(&'static [i64]),
-    Characters(&'static [char]),
-    Named(&'static str),
-    Glyph(Glyph),
-    Arrow,
-}
-
-use Piece::{Arrow, Characters, Named, Number, Numbers};
+use std::test::Fail;
 
 /// What an evaluation is to answer.
 #[derive(Clone, Copy)]
@@ -28,54 +17,76 @@ enum Answer {
 }
 
 use Answer::{Nothing, Stops, Text};
+use Report::{Domain, Length, Limit, Syntax, Value};
 
-const PLUS: Piece = Piece::Glyph(Glyph::Plus);
+/// The shape of a constant of so many elements: a single one has no axis.
+fn shape_of(alloc: Global, count: usize) -> Option<Shape> {
+    if count == 1 {
+        Shape::new(alloc, &[]).ok()
+    } else {
+        Shape::new(alloc, &[count]).ok()
+    }
+}
 
-const MINUS: Piece = Piece::Glyph(Glyph::Minus);
-
-const TIMES: Piece = Piece::Glyph(Glyph::Times);
-
-fn constant(alloc: Global, piece: Piece) -> Result<Option<Array>, AllocError> {
-    match piece {
-        Number(number) => {
-            let Ok(shape) = Shape::new(alloc, &[]) else {
-                return Ok(None);
-            };
-            Ok(Some(Array::ints(shape, vec![in alloc; number]?)))
+/// Numbers between blanks, or quoted characters.
+fn constant(alloc: Global, text: &str) -> Result<Option<Lexeme>, AllocError> {
+    if let Some(quoted) = text.strip_prefix('\'') {
+        let mut characters: Vec<char> = quoted.chars().collect(alloc)?;
+        characters.pop();
+        return match shape_of(alloc, characters.len()) {
+            Some(shape) if shape.count() == characters.len() => {
+                Ok(Some(Lexeme::Constant(Constant::new(alloc, Array::chars(shape, characters))?)))
+            }
+            _ => Ok(None),
+        };
+    }
+    let mut numbers = Vec::new(alloc);
+    for numeral in text.split(' ') {
+        if let Ok(number) = numeral.parse::<i64>() {
+            numbers.push(number)?;
         }
-        Numbers(numbers) => {
-            let Ok(shape) = Shape::new(alloc, &[numbers.len()]) else {
-                return Ok(None);
-            };
-            Ok(Some(Array::ints(shape, Vec::from_slice(alloc, numbers)?)))
-        }
-        Characters(characters) => {
-            let Ok(shape) = Shape::new(alloc, &[characters.len()]) else {
-                return Ok(None);
-            };
-            Ok(Some(Array::chars(shape, Vec::from_slice(alloc, characters)?)))
+    }
+    match shape_of(alloc, numbers.len()) {
+        Some(shape) if shape.count() == numbers.len() => {
+            Ok(Some(Lexeme::Constant(Constant::new(alloc, Array::ints(shape, numbers))?)))
         }
         _ => Ok(None),
     }
 }
 
-fn lexeme(alloc: Global, piece: Piece) -> Result<Lexeme, AllocError> {
-    match piece {
-        Named(name) => Ok(Lexeme::Name(Name::new(String::from_str(alloc, name)?))),
-        Piece::Glyph(glyph) => Ok(Lexeme::Function(glyph)),
-        Arrow => Ok(Lexeme::Arrow),
-        _ => match constant(alloc, piece)? {
-            Some(value) => Ok(Lexeme::Constant(value)),
-            None => Err(AllocError),
-        },
-    }
+/// The lexeme that a text spells.
+fn lexeme_of(alloc: Global, text: &str) -> Result<Option<Lexeme>, AllocError> {
+    let lexeme = match text {
+        "+" => Lexeme::Function(Glyph::Plus),
+        "-" => Lexeme::Function(Glyph::Minus),
+        "×" => Lexeme::Function(Glyph::Times),
+        "÷" => Lexeme::Function(Glyph::Divide),
+        "⍴" => Lexeme::Function(Glyph::Rho),
+        "⌽" => Lexeme::Function(Glyph::CircleStile),
+        "/" => Lexeme::Function(Glyph::Slash),
+        "." => Lexeme::Dot,
+        "∘" => Lexeme::Jot,
+        "←" => Lexeme::Arrow,
+        "(" => Lexeme::OpenParen,
+        ")" => Lexeme::CloseParen,
+        "[" => Lexeme::OpenBracket,
+        "]" => Lexeme::CloseBracket,
+        ";" => Lexeme::Semicolon,
+        "A" | "B" | "C" | "D" | "Q" => Lexeme::Name(Name::new(String::from_str(alloc, text)?)),
+        _ => return constant(alloc, text),
+    };
+    Ok(Some(lexeme))
 }
 
-fn tokens(alloc: Global, line: &[(usize, Piece)]) -> Result<Vec<Token>, AllocError> {
+/// The tokens of a line, which bars part.
+fn tokens_of(alloc: Global, line: &str) -> Result<Vec<Token>, AllocError> {
     let mut tokens = Vec::new(alloc);
-    for &(column, piece) in line {
-        let lexeme = lexeme(alloc, piece)?;
-        tokens.push(Token { lexeme, column })?;
+    let mut column: usize = 0;
+    for text in line.split('|') {
+        if let Some(lexeme) = lexeme_of(alloc, text)? {
+            tokens.push(Token { lexeme, column })?;
+        }
+        column = column.saturating_add(text.chars().count());
     }
     Ok(tokens)
 }
@@ -85,162 +96,79 @@ fn check(
     rt: &impl Abort,
     workspace: &mut Workspace,
     alloc: Global,
-    line: &[(usize, Piece)],
+    line: &str,
     answer: Answer,
-) {
-    let tokens = tokens(alloc, line).expect(rt, "tokens");
+) -> Result<(), Fail> {
+    let tokens = tokens_of(alloc, line)?;
     assert!(rt; !tokens.is_empty());
     let program = program_of(alloc, tokens).expect(rt, "a statement");
     match (eval(workspace, alloc, &program), answer) {
         (Ok(Shown::Silent), Nothing) => {}
-        (Ok(Shown::Text(text)), Text(wanted)) => assert_eq!(rt; text.as_str(), wanted),
+        (Ok(Shown::Text(text)), Text(wanted)) => assert_eq!(rt; text.as_str(), wanted, "of {line}"),
         (Err(stop), Stops(report, column)) => {
-            assert_eq!(rt; stop, EvalStop::Error { report, column });
+            assert_eq!(rt; stop, EvalStop::Error { report, column }, "of {line}");
         }
-        _ => assert!(rt; false, "another kind of answer"),
+        _ => assert!(rt; false, "another kind of answer to {line}"),
     }
+    Ok(())
 }
 
 #[test]
-fn values(rt: HostRuntime) {
+fn statements(rt: HostRuntime) -> Result<(), Fail> {
+    let rows = [
+        // values
+        ("2|+|3 4 5", Text("5 6 7\n")),
+        ("10|-|4|-|3", Text("9\n")),
+        ("(|10|-|4|)|-|3", Text("3\n")),
+        ("2 3|×|5 7", Text("10 21\n")),
+        ("''|+|1", Text("\n")),
+        // assignments
+        ("A|+|A|←|3", Text("6\n")),
+        ("A", Text("3\n")),
+        ("(|A|←|4|)", Text("4\n")),
+        ("A|←|4 5", Nothing),
+        ("B|←|Q|+|C|←|7", Stops(Value, 2)),
+        ("C", Text("7\n")),
+        ("B", Stops(Value, 0)),
+        // faults
+        ("1 2|+|1 2 3", Stops(Length, 3)),
+        ("9223372036854775807|+|1", Stops(Limit, 19)),
+        ("1|-|'A'", Stops(Domain, 1)),
+        ("''|+|1 2", Stops(Length, 2)),
+        ("'AB'|+|1 2 3", Stops(Length, 4)),
+        // what is not built
+        ("⍴|3", Stops(Syntax, 0)),
+        ("+|3", Stops(Syntax, 0)),
+        ("1|∘|.|+|2", Stops(Syntax, 2)),
+        ("1|+|.|×|2", Stops(Syntax, 2)),
+        ("+|/|1 2", Stops(Syntax, 1)),
+        ("⌽|[|9|]|1 2", Stops(Syntax, 0)),
+        ("1|⌽|[|9|]|1 2", Stops(Syntax, 1)),
+        ("1 2|[|1|]", Stops(Syntax, 3)),
+        ("A|[|;|]", Stops(Syntax, 1)),
+        ("Q|[|1|]|←|2", Stops(Syntax, 4)),
+        // operands come first
+        ("⍴|B", Stops(Value, 1)),
+        ("1|÷|B", Stops(Value, 2)),
+        ("⌽|[|B|]|1 2", Stops(Value, 2)),
+        ("B|[|1|]", Stops(Value, 0)),
+        ("Q|[|B|]|←|2", Stops(Value, 2)),
+        ("Q|[|1|]|←|B", Stops(Value, 5)),
+        ("B|⍴|A|←|3", Stops(Value, 0)),
+        ("A", Text("3\n")),
+        ("Q|[|D|;|D|←|2|]", Stops(Value, 0)),
+        ("D", Text("2\n")),
+    ];
     let alloc = rt.alloc();
     let mut workspace = Workspace::new(alloc);
-    check(
-        &rt,
-        &mut workspace,
-        alloc,
-        &[(0, Number(2)), (1, PLUS), (2, Numbers(&[3, 4, 5]))],
-        Text("5 6 7\n"),
-    );
-    check(
-        &rt,
-        &mut workspace,
-        alloc,
-        &[
-            (0, Number(10)),
-            (2, MINUS),
-            (3, Number(4)),
-            (4, MINUS),
-            (5, Number(3)),
-        ],
-        Text("9\n"),
-    );
-    check(
-        &rt,
-        &mut workspace,
-        alloc,
-        &[(0, Numbers(&[2, -3])), (4, TIMES), (5, Numbers(&[-5, 7]))],
-        Text("¯10 ¯21\n"),
-    );
-    check(
-        &rt,
-        &mut workspace,
-        alloc,
-        &[(0, Characters(&[])), (2, PLUS), (3, Number(1))],
-        Text("\n"),
-    );
+    for (line, answer) in rows {
+        check(&rt, &mut workspace, alloc, line, answer)?;
+    }
+    Ok(())
 }
 
 #[test]
-fn assignments(rt: HostRuntime) {
-    let alloc = rt.alloc();
-    let mut workspace = Workspace::new(alloc);
-    check(
-        &rt,
-        &mut workspace,
-        alloc,
-        &[
-            (0, Named("A")),
-            (1, PLUS),
-            (2, Named("A")),
-            (3, Arrow),
-            (4, Number(3)),
-        ],
-        Text("6\n"),
-    );
-    check(&rt, &mut workspace, alloc, &[(0, Named("A"))], Text("3\n"));
-    check(
-        &rt,
-        &mut workspace,
-        alloc,
-        &[(0, Named("A")), (1, Arrow), (2, Numbers(&[4, 5]))],
-        Nothing,
-    );
-    let count = workspace.value("A").map(|value| value.shape().count());
-    assert_eq!(rt; count, Some(2));
-    assert!(rt; workspace.value("B").is_none());
-}
-
-/// C is given a value before Q is found to have none.
-#[test]
-fn assignments_before_a_fault(rt: HostRuntime) {
-    let alloc = rt.alloc();
-    let mut workspace = Workspace::new(alloc);
-    check(
-        &rt,
-        &mut workspace,
-        alloc,
-        &[
-            (0, Named("B")),
-            (1, Arrow),
-            (2, Named("Q")),
-            (3, PLUS),
-            (4, Named("C")),
-            (5, Arrow),
-            (6, Number(7)),
-        ],
-        Stops(Report::Value, 2),
-    );
-    check(&rt, &mut workspace, alloc, &[(0, Named("C"))], Text("7\n"));
-    check(
-        &rt,
-        &mut workspace,
-        alloc,
-        &[(0, Named("B"))],
-        Stops(Report::Value, 0),
-    );
-}
-
-#[test]
-fn faults(rt: HostRuntime) {
-    let alloc = rt.alloc();
-    let mut workspace = Workspace::new(alloc);
-    check(
-        &rt,
-        &mut workspace,
-        alloc,
-        &[(0, Numbers(&[1, 2])), (3, PLUS), (4, Numbers(&[1, 2, 3]))],
-        Stops(Report::Length, 3),
-    );
-    check(
-        &rt,
-        &mut workspace,
-        alloc,
-        &[(0, Number(i64::MAX)), (19, PLUS), (20, Number(1))],
-        Stops(Report::Limit, 19),
-    );
-    check(
-        &rt,
-        &mut workspace,
-        alloc,
-        &[(0, Number(1)), (1, MINUS), (2, Characters(&['A']))],
-        Stops(Report::Domain, 1),
-    );
-    check(
-        &rt,
-        &mut workspace,
-        alloc,
-        &[
-            (0, Characters(&['A', 'B'])),
-            (4, PLUS),
-            (5, Numbers(&[1, 2, 3])),
-        ],
-        Stops(Report::Length, 4),
-    );
-}
-
-#[test]
-fn settings(rt: HostRuntime) {
+fn settings(rt: HostRuntime) -> Result<(), Fail> {
     let alloc = rt.alloc();
     let mut workspace = Workspace::new(alloc);
     assert_eq!(rt; workspace.width(), 120);
@@ -251,19 +179,16 @@ fn settings(rt: HostRuntime) {
         &rt,
         &mut workspace,
         alloc,
-        &[(0, Numbers(&[1, 2, 3, 4, 5, 6, 7, 8, 9, 10, 11, 12, 13, 14]))],
+        "1 2 3 4 5 6 7 8 9 10 11 12 13 14",
         Text("1 2 3 4 5 6 7 8 9 10 11 12 13\n      14\n"),
-    );
-    check(
-        &rt,
-        &mut workspace,
-        alloc,
-        &[(0, Named("A")), (1, Arrow), (2, Number(5))],
-        Nothing,
-    );
+    )?;
+    check(&rt, &mut workspace, alloc, "A|←|4 5", Nothing)?;
+    let count = workspace.value("A").map(|value| value.shape().count());
+    assert_eq!(rt; count, Some(2));
     assert_eq!(rt; workspace.origin(), Origin::Zero);
     workspace.clear();
     assert!(rt; workspace.value("A").is_none());
     assert_eq!(rt; workspace.width(), 120);
     assert_eq!(rt; workspace.origin(), Origin::One);
+    Ok(())
 }

@@ -1,3 +1,13 @@
+pub mod Partial
+pub mod Complete
+pub mod Sound
+pub mod Viable
+pub mod Operations
+pub mod Emitted
+pub mod HasRead
+pub mod Held
+pub mod Follows
+pub mod Answered
+pub mod Examples
 pub mod Carets
-pub mod Reading
-pub mod Trees
+pub mod Total

@@ -1,3 +1,4 @@
+pub mod Functions
 pub mod Tree
 pub mod Caret
 pub mod Stops

@@ -1,61 +1,153 @@
 -- The grammar as trees: the tokens that a tree spells, and its operations in the order of evaluation.
-use Rattle.std.specs.Prelude.{◌≡◌, ℕ, Bool, true, false, IsTrue, List, [], ◌∷◌, ◌++◌}
+use Rattle.std.specs.Prelude.{◌≡◌, ℕ, Bool, IsTrue, List, [], ◌∷◌, ◌++◌, Option, Some, None, is_some}
 use Rattle.apl_array.specs.Array.{ArrayValue}
 use Rattle.apl_tokens.specs.declared.token.Token.{Token}
 use Rattle.apl_tokens.specs.declared.token.Lexeme.{Lexeme}
 use Rattle.apl_tokens.specs.declared.token.Lexeme.TheVariants as lexeme
-use Rattle.apl_tokens.specs.declared.token.Glyph.{Glyph}
-use Rattle.apl_tokens.specs.declared.token.Glyph.TheVariants as glyph
+use Rattle.apl_grammar.specs.declared.program.Form.{Form}
+use Rattle.apl_grammar.specs.declared.program.Form.TheVariants.{Plain, Reduce, Inner, Outer}
+use Rattle.apl_grammar.specs.declared.program.Brackets.{Brackets}
 use Rattle.apl_grammar.specs.declared.program.Operation.{Operation}
 use Rattle.apl_grammar.specs.declared.program.Operation.TheVariants as op
+use Rattle.apl_grammar.specs.Functions.{may_be_monadic, may_be_dyadic}
 
--- operand = constant | name
-pub data Operand : Type 0 where
-  constant : (column : ℕ) → ArrayValue → Operand
-  name : (column : ℕ) → (text : List ℕ) → Operand
+-- Leaves hold the columns of their tokens.
+mutual
+  -- expr = operand | operand function expr | function expr | name ← expr | name [ list ] ← expr
+  pub data Expr : Type 0 where
+    value : Operand → Expr
+    dyadic : Operand → Form → Axis → Expr → Expr
+    monadic : Form → Axis → Expr → Expr
+    assign : (column : ℕ) → (text : List ℕ) → (arrow : ℕ) → Expr → Expr
+    assign_at : (column : ℕ) → (text : List ℕ) → (left : ℕ) → Slots → (right : ℕ) → (arrow : ℕ) → Expr → Expr
 
--- expr = operand | operand function expr | name ← expr
-pub data Expr : Type 0 where
-  value : Operand → Expr
-  dyadic : Operand → (column : ℕ) → Glyph → Expr → Expr
-  assign : (column : ℕ) → (text : List ℕ) → (arrow : ℕ) → Expr → Expr
+  -- operand = constant | name | ( expr ) | operand [ list ]
+  pub data Operand : Type 0 where
+    constant : (column : ℕ) → ArrayValue → Operand
+    name : (column : ℕ) → (text : List ℕ) → Operand
+    group : (left : ℕ) → Expr → (right : ℕ) → Operand
+    index : Operand → (left : ℕ) → Slots → (right : ℕ) → Operand
 
--- the functions that stand between two operands: + - ×
-abbrev pub is_dyadic : Glyph → Bool
-is_dyadic glyph.Plus = true
-is_dyadic glyph.Minus = true
-is_dyadic glyph.Times = true
-is_dyadic _ = false
+  -- list = slot | slot ; list
+  pub data Slots : Type 0 where
+    last : Slot → Slots
+    more : Slot → (semicolon : ℕ) → Slots → Slots
+
+  -- slot = nothing | expr
+  pub data Slot : Type 0 where
+    nothing : Slot
+    given : Expr → Slot
+
+  -- perhaps [ expr ]
+  pub data Axis : Type 0 where
+    none : Axis
+    along : (left : ℕ) → Expr → (right : ℕ) → Axis
+
+abbrev pub brackets : ℕ → ℕ → Brackets
+brackets l r = record { left = l; right = r }
+
+abbrev pub axis_brackets : Axis → Option Brackets
+axis_brackets none = None
+axis_brackets (along l e r) = Some (brackets l r)
+
+abbrev pub has_axis : Axis → Bool
+has_axis a = is_some (axis_brackets a)
 
 -- each function of the tree is in the grammar
-abbrev pub IsTree : Expr → Type 0
-IsTree (value o) = Unit {0}
-IsTree (dyadic o c f e) = IsTrue (is_dyadic f) × IsTree e
-IsTree (assign c n a e) = IsTree e
+abbrev mutual
+  pub IsTree : Expr → Type 0
+  IsTree (value o) = IsOperand o
+  IsTree (dyadic o f a e) = IsOperand o × IsTrue (may_be_dyadic f (has_axis a)) × IsAxis a × IsTree e
+  IsTree (monadic f a e) = IsTrue (may_be_monadic f (has_axis a)) × IsAxis a × IsTree e
+  IsTree (assign c n r e) = IsTree e
+  IsTree (assign_at c n o s d r e) = IsList s × IsTree e
+
+  pub IsOperand : Operand → Type 0
+  IsOperand (constant c v) = Unit {0}
+  IsOperand (name c n) = Unit {0}
+  IsOperand (group o e c) = IsTree e
+  IsOperand (index x o s c) = IsOperand x × IsList s
+
+  pub IsList : Slots → Type 0
+  IsList (last s) = IsSlot s
+  IsList (more s c ss) = IsSlot s × IsList ss
+
+  pub IsSlot : Slot → Type 0
+  IsSlot nothing = Unit {0}
+  IsSlot (given e) = IsTree e
+
+  pub IsAxis : Axis → Type 0
+  IsAxis none = Unit {0}
+  IsAxis (along o e c) = IsTree e
 
 abbrev pub token_at : ℕ → Lexeme → Token
 token_at c l = record { lexeme = l; column = c }
 
-abbrev pub spells_operand : Operand → Token
-spells_operand (constant c v) = token_at c (lexeme.Constant v)
-spells_operand (name c n) = token_at c (lexeme.Name n)
+abbrev pub spells_form : Form → List Token
+spells_form (Plain c g) = token_at c (lexeme.Function g) ∷ []
+spells_form (Reduce c f s g) = token_at c (lexeme.Function f) ∷ token_at s (lexeme.Function g) ∷ []
+spells_form (Inner c f d e g) = token_at c (lexeme.Function f) ∷ token_at d lexeme.Dot ∷ token_at e (lexeme.Function g) ∷ []
+spells_form (Outer j d c g) = token_at j lexeme.Jot ∷ token_at d lexeme.Dot ∷ token_at c (lexeme.Function g) ∷ []
 
 -- the tokens of a tree, in order
-abbrev pub spells : Expr → List Token
-spells (value o) = spells_operand o ∷ []
-spells (dyadic o c f e) = spells_operand o ∷ token_at c (lexeme.Function f) ∷ spells e
-spells (assign c n a e) = token_at c (lexeme.Name n) ∷ token_at a lexeme.Arrow ∷ spells e
+abbrev mutual
+  pub spells : Expr → List Token
+  spells (value o) = spells_operand o
+  spells (dyadic o f a e) = spells_operand o ++ (spells_form f ++ (spells_axis a ++ spells e))
+  spells (monadic f a e) = spells_form f ++ (spells_axis a ++ spells e)
+  spells (assign c n r e) = token_at c (lexeme.Name n) ∷ token_at r lexeme.Arrow ∷ spells e
+  spells (assign_at c n o s d r e) = token_at c (lexeme.Name n) ∷ token_at o lexeme.OpenBracket ∷ spells_list s ++ token_at d lexeme.CloseBracket ∷ token_at r lexeme.Arrow ∷ spells e
 
-abbrev pub operation : Operand → Operation
-operation (constant c v) = op.Constant c v
-operation (name c n) = op.Name c n
+  pub spells_operand : Operand → List Token
+  spells_operand (constant c v) = token_at c (lexeme.Constant v) ∷ []
+  spells_operand (name c n) = token_at c (lexeme.Name n) ∷ []
+  spells_operand (group o e c) = token_at o lexeme.OpenParen ∷ spells e ++ token_at c lexeme.CloseParen ∷ []
+  spells_operand (index x o s c) = spells_operand x ++ (token_at o lexeme.OpenBracket ∷ (spells_list s ++ token_at c lexeme.CloseBracket ∷ []))
 
--- The operations of a tree in the order of evaluation, each after its operands: the expression on the right, the
--- operand, the function.
-abbrev pub operations : Expr → List Operation
-operations (value o) = operation o ∷ []
-operations (dyadic o c f e) = operations e ++ operation o ∷ op.Dyadic c f ∷ []
-operations (assign c n a e) = operations e ++ op.Assign c n a ∷ []
+  pub spells_list : Slots → List Token
+  spells_list (last s) = spells_slot s
+  spells_list (more s c ss) = spells_slot s ++ token_at c lexeme.Semicolon ∷ spells_list ss
+
+  pub spells_slot : Slot → List Token
+  spells_slot nothing = []
+  spells_slot (given e) = spells e
+
+  pub spells_axis : Axis → List Token
+  spells_axis none = []
+  spells_axis (along o e c) = token_at o lexeme.OpenBracket ∷ spells e ++ token_at c lexeme.CloseBracket ∷ []
+
+-- the columns of a list's semicolons, from right to left
+abbrev pub semicolons : Slots → List ℕ
+semicolons (last s) = []
+semicolons (more s c ss) = semicolons ss ++ c ∷ []
+
+-- The operations of a tree in the order of evaluation, each after its operands: the expression on the right, then
+-- the axis, then the operand, then the function; the slots of a list from the last to the first, then the array.
+abbrev mutual
+  pub operations : Expr → List Operation
+  operations (value o) = operand_operations o
+  operations (dyadic o f a e) = operations e ++ (axis_operations a ++ (operand_operations o ++ op.Dyadic f (axis_brackets a) ∷ []))
+  operations (monadic f a e) = operations e ++ (axis_operations a ++ op.Monadic f (axis_brackets a) ∷ [])
+  operations (assign c n r e) = operations e ++ op.Assign c n r ∷ []
+  operations (assign_at c n o s d r e) = operations e ++ (list_operations s ++ op.AssignAt c n (semicolons s) (brackets o d) r ∷ [])
+
+  pub operand_operations : Operand → List Operation
+  operand_operations (constant c v) = op.Constant c v ∷ []
+  operand_operations (name c n) = op.Name c n ∷ []
+  operand_operations (group o e c) = operations e ++ op.Group (brackets o c) ∷ []
+  operand_operations (index x o s c) = list_operations s ++ (operand_operations x ++ op.Index (semicolons s) (brackets o c) ∷ [])
+
+  pub list_operations : Slots → List Operation
+  list_operations (last s) = slot_operations s
+  list_operations (more s c ss) = list_operations ss ++ slot_operations s
+
+  pub slot_operations : Slot → List Operation
+  slot_operations nothing = op.EmptySlot ∷ []
+  slot_operations (given e) = operations e
+
+  pub axis_operations : Axis → List Operation
+  axis_operations none = []
+  axis_operations (along o e c) = operations e
 
 -- the operations of some tree
 abbrev pub IsProgram : List Operation → Type 0

@@ -1,12 +1,12 @@
 //! Programs from tokens: the grammar, and the column of a grammar fault.
 #![tactic(auto)]
 
+mod functions;
 mod program;
 mod reader;
 mod statement;
-
-pub use program::{Operation, Program};
-pub use statement::{GrammarStop, one_caret, one_reading, one_tree, program_of};
-
 #[cfg(test)]
 mod tests;
+
+pub use program::{Brackets, Columns, Form, Operation, Program};
+pub use statement::{GrammarStop, one_caret, one_reading, one_tree, program_of, tree_or_caret};

@@ -1,37 +1,62 @@
 //! From tokens to operations, in one pass from the right.
-ghost use Rattle.std.specs.Prelude.{◌≡◌, ◌<◌, ℕ, Some, None, IfOk, IfErr, vec_len};
-ghost use Rattle.apl_grammar.specs.Tree.{is_dyadic};
-ghost use Rattle.apl_grammar.specs.Automaton.{step, with_operand, with_name, with_function, run, IsRefusedBy};
-ghost use Rattle.apl_grammar.specs.declared.reader.State.TheVariants.{Whole};
+ghost use Rattle.std.specs.Prelude.{◌≡◌, ◌<◌, ◌++◌, ◌∷◌, [], List, Option, Some, None, reverse, IfOk, IfErr, IfSome, OnOk, option_and_then, vec_len};
+ghost use Rattle.apl_grammar.specs.Automaton.{Machine, machine, completed, with_dyadic, with_index, waiting, with_operand, with_name, settled, applied, filled, with_function, with_dot, with_jot, with_arrow, closed_group, with_open_paren, with_close_paren, with_close_bracket, with_slot, parted, with_semicolon, closed_list, with_open_bracket, step, emitted, finished, run, IsRefusedBy, stack_of, held};
+ghost use Rattle.apl_grammar.specs.declared.program.Operation.{Operation};
+ghost use Rattle.apl_grammar.specs.declared.reader.State.TheVariants.{Whole, Wanted};
 
-use super::program::Operation;
+use super::functions::{is_scalar, may_be_dyadic, may_be_monadic, reduces, takes_axis};
+use super::program::{Brackets, Columns, Form, Operation};
+use super::statement::GrammarStop;
 use apl_tokens::{Glyph, Lexeme, Name, Token};
 use std::alloc::{AllocError, AllocFailed, Global};
 
-/// What was read so far, seen from its left end.
+/// A monadic function before a bracket: its operation has a place if the bracket holds an axis, and if it holds an index
+/// the function is dyadic.
 #[derive(Clone, Copy, Drop)]
+pub(crate) struct Pending {
+    form: Form,
+    axis: Option<Brackets>,
+    place: usize,
+}
+
+/// What was read inside the innermost open bracket, seen from its left end.
+#[derive(Drop)]
 pub(crate) enum State {
-    /// Nothing.
-    Start,
+    /// An operand is wanted, or nothing was read.
+    Wanted,
     /// An expression.
     Whole,
-    /// A function and an expression, which want an operand.
-    Pending(usize, Glyph),
-    /// An arrow and an expression, which want a name.
-    Arrow(usize),
+    /// An expression that begins with a function. Its operation is not emitted yet: it may still be dyadic.
+    Monadic(Form, Option<Brackets>),
+    /// A dot and a function, with their columns, before an expression.
+    Dotted(usize, usize, Glyph),
+    /// An arrow before an expression.
+    Arrowed(usize),
+    /// An axis or an index before an expression.
+    Beside(Brackets, Option<Pending>),
+    /// The slots of an indexed assignment and its arrow before an expression.
+    Named(Columns, Brackets, usize),
+}
+
+/// What the reader comes back to.
+#[derive(Drop)]
+pub(crate) enum Entry {
+    /// An operation that waits for its operand.
+    Waiting(Operation),
+    /// The parenthesis on the right of an operand.
+    Group(usize),
+    /// The bracket on the right of an index, and the semicolons so far.
+    Slice(usize, Columns),
+    /// The bracket on the right of an axis or an index.
+    Either(usize, Option<Pending>),
+    /// The bracket on the right of an indexed assignment's slots, the semicolons so far, and the arrow.
+    Store(usize, Columns, usize),
 }
 
 /// Why a token is not taken.
 #[derive(Drop)]
 pub(crate) enum Refusal {
     Syntax,
-    Memory,
-}
-
-/// Why tokens are no program: the column of the fault, or want of memory.
-#[derive(Drop)]
-pub(crate) enum ParseStop {
-    Syntax(usize),
     Memory,
 }
 
@@ -57,93 +82,464 @@ impl<T: Drop> From<AllocFailed<T>> for Refusal {
     }
 }
 
-/// Whether the function may stand between two operands.
-fn is_dyadic_function(glyph: Glyph) -> bool
-    ensures { result ≡ is_dyadic glyph }
-{
-    matches!(glyph, Glyph::Plus | Glyph::Minus | Glyph::Times)
+/// The operations emitted so far, with places kept among them, and what waits to the left of what was read.
+#[derive(Drop)]
+pub(crate) struct Reader {
+    alloc: Global,
+    operations: Vec<Option<Operation>>,
+    entries: Vec<Entry>,
 }
 
-fn take_operand(
-    operations: &mut Vec<Operation>,
-    state: State,
-    operand: Operation,
-) -> Result<State, Refusal>
-    ensures ok { IfOk result (λ s. with_operand operations.old.items state operand ≡ Some (operations.new.items, s)) }
-    ensures err { result ≡ Err Refusal.Syntax → with_operand operations.old.items state operand ≡ None }
-{
-    match state {
-        State::Start => {
-            operations.push(operand)?;
-            Ok(State::Whole)
+impl Reader {
+    fn emit(&mut self, operation: Operation) -> Result<(), Refusal>
+        ensures ok { OnOk result (self.new.operations.items ≡ self.old.operations.items ++ Some operation ∷ []) }
+        ensures entries { self.new.entries ≡ self.old.entries }
+        ensures err { result ≡ Err Refusal.Syntax → ⊥ }
+    {
+        self.operations.push(Some(operation))?;
+        Ok(())
+    }
+
+    /// The operation that waits for the operand which has just ended.
+    fn pop_waiting(&mut self) -> Option<Operation>
+        ensures some { IfSome result (λ o. stack_of self.old ≡ Entry.Waiting o ∷ stack_of self.new) }
+        ensures none { result ≡ None → (os : List (Option Operation)) → completed os (stack_of self.old) ≡ machine os (stack_of self.new) Whole }
+        ensures operations { self.new.operations ≡ self.old.operations }
+    {
+        match self.entries.last() {
+            Some(Entry::Waiting(_)) => match self.entries.pop() {
+                Some(Entry::Waiting(operation)) => Some(operation),
+                _ => None,
+            },
+            _ => None,
         }
-        State::Pending(column, function) => {
-            operations.push(operand)?;
-            operations.push(Operation::Dyadic(column, function))?;
-            Ok(State::Whole)
+    }
+
+    /// The operand's last operation, and those that waited for it.
+    fn complete(&mut self, operand: Operation) -> Result<State, Refusal>
+        ensures ok { IfOk result (λ s. completed (self.old.operations.items ++ Some operand ∷ []) (stack_of self.old) ≡ held self.new s) }
+        ensures err { result ≡ Err Refusal.Syntax → ⊥ }
+    {
+        self.emit(operand)?;
+        while let Some(waiting) = self.pop_waiting() {
+            self.emit(waiting)?;
         }
-        _ => Err(Refusal::Syntax),
+        Ok(State::Whole)
+    }
+
+    /// Makes the function wait for its left argument.
+    fn push_dyadic(&mut self, form: Form, axis: Option<Brackets>) -> Result<(), Refusal>
+        ensures ok { OnOk result (with_dyadic form axis (stack_of self.old) ≡ Some (stack_of self.new)) }
+        ensures err { result ≡ Err Refusal.Syntax → with_dyadic form axis (stack_of self.old) ≡ None }
+        ensures operations { self.new.operations ≡ self.old.operations }
+    {
+        if !may_be_dyadic(form, axis.is_some()) {
+            return Err(Refusal::Syntax);
+        }
+        self.entries
+            .push(Entry::Waiting(Operation::Dyadic(form, axis)))?;
+        Ok(())
+    }
+
+    /// Makes an index of one slot wait for its array.
+    fn push_index(&mut self, brackets: Brackets) -> Result<(), Refusal>
+        ensures ok { OnOk result (stack_of self.new ≡ with_index brackets (stack_of self.old)) }
+        ensures err { result ≡ Err Refusal.Syntax → ⊥ }
+        ensures operations { self.new.operations ≡ self.old.operations }
+    {
+        let semicolons = Columns::new(self.alloc);
+        self.entries
+            .push(Entry::Waiting(Operation::Index(semicolons, brackets)))?;
+        Ok(())
+    }
+
+    /// An operand ends here: what wants it waits for it.
+    fn want_operand(&mut self, state: State) -> Result<(), Refusal>
+        ensures ok { OnOk result (waiting state (stack_of self.old) ≡ Some (stack_of self.new)) }
+        ensures err { result ≡ Err Refusal.Syntax → waiting state (stack_of self.old) ≡ None }
+        ensures operations { self.new.operations ≡ self.old.operations }
+    {
+        match state {
+            State::Wanted => Ok(()),
+            State::Monadic(form, axis) => self.push_dyadic(form, axis),
+            State::Beside(brackets, Some(pending)) => {
+                self.push_dyadic(pending.form, pending.axis)?;
+                self.push_index(brackets)
+            }
+            _ => Err(Refusal::Syntax),
+        }
+    }
+
+    fn take_operand(&mut self, state: State, operand: Operation) -> Result<State, Refusal>
+        ensures ok { IfOk result (λ s. with_operand self.old.operations.items (stack_of self.old) state operand ≡ Some (held self.new s)) }
+        ensures err { result ≡ Err Refusal.Syntax → with_operand self.old.operations.items (stack_of self.old) state operand ≡ None }
+    {
+        self.want_operand(state)?;
+        self.complete(operand)
+    }
+
+    fn take_name(&mut self, state: State, column: usize, name: Name) -> Result<State, Refusal>
+        ensures ok { IfOk result (λ s. with_name self.old.operations.items (stack_of self.old) state column name ≡ Some (held self.new s)) }
+        ensures err { result ≡ Err Refusal.Syntax → with_name self.old.operations.items (stack_of self.old) state column name ≡ None }
+    {
+        match state {
+            State::Arrowed(arrow) => self.emit(Operation::Assign(column, name, arrow))?,
+            State::Named(semicolons, brackets, arrow) => self.emit(Operation::AssignAt {
+                column,
+                name,
+                semicolons,
+                brackets,
+                arrow,
+            })?,
+            _ => return self.take_operand(state, Operation::Name(column, name)),
+        }
+        Ok(State::Whole)
+    }
+
+    /// An expression ends here: a function that begins it is monadic.
+    fn settle(&mut self, state: State) -> Result<(), Refusal>
+        ensures ok { OnOk result (settled self.old.operations.items state ≡ Some self.new.operations.items) }
+        ensures err { result ≡ Err Refusal.Syntax → settled self.old.operations.items state ≡ None }
+        ensures entries { self.new.entries ≡ self.old.entries }
+    {
+        match state {
+            State::Whole => Ok(()),
+            State::Monadic(form, axis) => self.emit(Operation::Monadic(form, axis)),
+            _ => Err(Refusal::Syntax),
+        }
+    }
+
+    /// A function before an expression.
+    fn apply(&mut self, form: Form, axis: Option<Brackets>) -> Result<State, Refusal>
+        ensures ok { IfOk result (λ s. applied form axis self.old.operations.items (stack_of self.old) ≡ held self.new s) }
+        ensures err { result ≡ Err Refusal.Syntax → ⊥ }
+    {
+        if may_be_monadic(form, axis.is_some()) {
+            return Ok(State::Monadic(form, axis));
+        }
+        self.entries
+            .push(Entry::Waiting(Operation::Dyadic(form, axis)))?;
+        Ok(State::Wanted)
+    }
+
+    /// The function before the axis is monadic.
+    fn fill(&mut self, pending: Option<Pending>)
+        ensures operations { self.new.operations.items ≡ filled self.old.operations.items pending }
+        ensures entries { self.new.entries ≡ self.old.entries }
+    {
+        if let Some(pending) = pending {
+            if let Some(place) = self.operations.get_mut(pending.place) {
+                *place = Some(Operation::Monadic(pending.form, pending.axis));
+            }
+        }
+    }
+
+    /// Pushes an entry to whose left an operand is wanted.
+    fn push_entry(&mut self, entry: Entry) -> Result<State, Refusal>
+        ensures ok { IfOk result (λ s. (s ≡ Wanted) × (stack_of self.new ≡ entry ∷ stack_of self.old)) }
+        ensures err { result ≡ Err Refusal.Syntax → ⊥ }
+        ensures operations { self.new.operations ≡ self.old.operations }
+    {
+        self.entries.push(entry)?;
+        Ok(State::Wanted)
+    }
+
+    /// A function on the left of a slash that waits for its operand.
+    fn take_reduced(&mut self, column: usize, glyph: Glyph) -> Result<State, Refusal>
+        ensures ok { IfOk result (λ s. with_function self.old.operations.items (stack_of self.old) Wanted column glyph ≡ Some (held self.new s)) }
+        ensures err { result ≡ Err Refusal.Syntax → with_function self.old.operations.items (stack_of self.old) Wanted column glyph ≡ None }
+    {
+        let Some(Entry::Waiting(Operation::Dyadic(form, axis))) = self.entries.pop() else {
+            return Err(Refusal::Syntax);
+        };
+        match form {
+            Form::Plain {
+                column: slash_column,
+                glyph: slash,
+            } if is_scalar(glyph) && reduces(slash) => {
+                let form = Form::Reduce {
+                    column,
+                    function: glyph,
+                    slash_column,
+                    slash,
+                };
+                Ok(State::Monadic(form, axis))
+            }
+            _ => Err(Refusal::Syntax),
+        }
+    }
+
+    fn take_function(&mut self, state: State, column: usize, glyph: Glyph) -> Result<State, Refusal>
+        ensures ok { IfOk result (λ s. with_function self.old.operations.items (stack_of self.old) state column glyph ≡ Some (held self.new s)) }
+        ensures err { result ≡ Err Refusal.Syntax → with_function self.old.operations.items (stack_of self.old) state column glyph ≡ None }
+    {
+        match state {
+            State::Beside(brackets, pending) => {
+                if !takes_axis(glyph) {
+                    return Err(Refusal::Syntax);
+                }
+                self.fill(pending);
+                self.apply(Form::Plain { column, glyph }, Some(brackets))
+            }
+            State::Dotted(dot, right_column, right) => {
+                if !is_scalar(glyph) {
+                    return Err(Refusal::Syntax);
+                }
+                let form = Form::Inner {
+                    left_column: column,
+                    left: glyph,
+                    dot,
+                    right_column,
+                    right,
+                };
+                self.push_entry(Entry::Waiting(Operation::Dyadic(form, None)))
+            }
+            State::Wanted => self.take_reduced(column, glyph),
+            _ => {
+                self.settle(state)?;
+                self.apply(Form::Plain { column, glyph }, None)
+            }
+        }
+    }
+
+    fn take_dot(&mut self, state: State, dot: usize) -> Result<State, Refusal>
+        ensures ok { IfOk result (λ s. with_dot self.old.operations.items (stack_of self.old) state dot ≡ Some (held self.new s)) }
+        ensures err { result ≡ Err Refusal.Syntax → with_dot self.old.operations.items (stack_of self.old) state dot ≡ None }
+    {
+        match state {
+            State::Monadic(Form::Plain { column, glyph }, None) if is_scalar(glyph) => {
+                Ok(State::Dotted(dot, column, glyph))
+            }
+            State::Wanted => match self.entries.pop() {
+                Some(Entry::Waiting(Operation::Dyadic(Form::Plain { column, glyph }, None)))
+                    if is_scalar(glyph) => { Ok(State::Dotted(dot, column, glyph)) }
+                _ => Err(Refusal::Syntax),
+            },
+            _ => Err(Refusal::Syntax),
+        }
+    }
+
+    fn take_jot(&mut self, state: State, jot: usize) -> Result<State, Refusal>
+        ensures ok { IfOk result (λ s. with_jot self.old.operations.items (stack_of self.old) state jot ≡ Some (held self.new s)) }
+        ensures err { result ≡ Err Refusal.Syntax → with_jot self.old.operations.items (stack_of self.old) state jot ≡ None }
+    {
+        match state {
+            State::Dotted(dot, column, function) => {
+                let form = Form::Outer {
+                    jot,
+                    dot,
+                    column,
+                    function,
+                };
+                self.push_entry(Entry::Waiting(Operation::Dyadic(form, None)))
+            }
+            _ => Err(Refusal::Syntax),
+        }
+    }
+
+    fn take_arrow(&mut self, state: State, arrow: usize) -> Result<State, Refusal>
+        ensures ok { IfOk result (λ s. with_arrow self.old.operations.items (stack_of self.old) state arrow ≡ Some (held self.new s)) }
+        ensures err { result ≡ Err Refusal.Syntax → with_arrow self.old.operations.items (stack_of self.old) state arrow ≡ None }
+    {
+        self.settle(state)?;
+        Ok(State::Arrowed(arrow))
+    }
+
+    fn take_open_paren(&mut self, state: State, left: usize) -> Result<State, Refusal>
+        ensures ok { IfOk result (λ s. with_open_paren self.old.operations.items (stack_of self.old) state left ≡ Some (held self.new s)) }
+        ensures err { result ≡ Err Refusal.Syntax → with_open_paren self.old.operations.items (stack_of self.old) state left ≡ None }
+    {
+        self.settle(state)?;
+        match self.entries.pop() {
+            Some(Entry::Group(right)) => self.complete(Operation::Group(Brackets { left, right })),
+            _ => Err(Refusal::Syntax),
+        }
+    }
+
+    fn take_close_paren(&mut self, state: State, right: usize) -> Result<State, Refusal>
+        ensures ok { IfOk result (λ s. with_close_paren self.old.operations.items (stack_of self.old) state right ≡ Some (held self.new s)) }
+        ensures err { result ≡ Err Refusal.Syntax → with_close_paren self.old.operations.items (stack_of self.old) state right ≡ None }
+    {
+        self.want_operand(state)?;
+        self.push_entry(Entry::Group(right))
+    }
+
+    fn take_close_bracket(&mut self, state: State, right: usize) -> Result<State, Refusal>
+        ensures ok { IfOk result (λ s. with_close_bracket self.old.operations.items (stack_of self.old) state right ≡ Some (held self.new s)) }
+        ensures err { result ≡ Err Refusal.Syntax → with_close_bracket self.old.operations.items (stack_of self.old) state right ≡ None }
+    {
+        match state {
+            State::Whole => self.push_entry(Entry::Either(right, None)),
+            State::Monadic(form, axis) => {
+                let place = self.operations.len();
+                self.operations.push(None)?;
+                self.push_entry(Entry::Either(right, Some(Pending { form, axis, place })))
+            }
+            State::Arrowed(arrow) => {
+                let semicolons = Columns::new(self.alloc);
+                self.push_entry(Entry::Store(right, semicolons, arrow))
+            }
+            _ => {
+                self.want_operand(state)?;
+                let semicolons = Columns::new(self.alloc);
+                self.push_entry(Entry::Slice(right, semicolons))
+            }
+        }
+    }
+
+    /// A slot ends here.
+    fn end_slot(&mut self, state: State) -> Result<(), Refusal>
+        ensures ok { OnOk result (with_slot self.old.operations.items state ≡ Some self.new.operations.items) }
+        ensures err { result ≡ Err Refusal.Syntax → with_slot self.old.operations.items state ≡ None }
+        ensures entries { self.new.entries ≡ self.old.entries }
+    {
+        match state {
+            State::Wanted => self.emit(Operation::EmptySlot),
+            _ => self.settle(state),
+        }
+    }
+
+    /// One more semicolon of the list in the innermost brackets.
+    fn part_slots(&mut self, column: usize) -> Result<State, Refusal>
+        ensures ok { IfOk result (λ s. parted column self.old.operations.items (stack_of self.old) ≡ Some (held self.new s)) }
+        ensures err { result ≡ Err Refusal.Syntax → parted column self.old.operations.items (stack_of self.old) ≡ None }
+    {
+        match self.entries.pop() {
+            Some(Entry::Slice(right, mut semicolons)) => {
+                semicolons.push(column)?;
+                self.push_entry(Entry::Slice(right, semicolons))
+            }
+            Some(Entry::Store(right, mut semicolons, arrow)) => {
+                semicolons.push(column)?;
+                self.push_entry(Entry::Store(right, semicolons, arrow))
+            }
+            Some(Entry::Either(right, Some(pending))) => {
+                self.push_dyadic(pending.form, pending.axis)?;
+                let mut semicolons = Columns::new(self.alloc);
+                semicolons.push(column)?;
+                self.push_entry(Entry::Slice(right, semicolons))
+            }
+            _ => Err(Refusal::Syntax),
+        }
+    }
+
+    fn take_semicolon(&mut self, state: State, column: usize) -> Result<State, Refusal>
+        ensures ok { IfOk result (λ s. with_semicolon self.old.operations.items (stack_of self.old) state column ≡ Some (held self.new s)) }
+        ensures err { result ≡ Err Refusal.Syntax → with_semicolon self.old.operations.items (stack_of self.old) state column ≡ None }
+    {
+        self.end_slot(state)?;
+        self.part_slots(column)
+    }
+
+    /// The bracket on the left of the innermost list; whether its first slot is empty.
+    fn close_list(&mut self, is_empty: bool, left: usize) -> Result<State, Refusal>
+        ensures ok { IfOk result (λ s. closed_list is_empty left self.old.operations.items (stack_of self.old) ≡ Some (held self.new s)) }
+        ensures err { result ≡ Err Refusal.Syntax → closed_list is_empty left self.old.operations.items (stack_of self.old) ≡ None }
+    {
+        match self.entries.pop() {
+            Some(Entry::Slice(right, semicolons)) => {
+                let brackets = Brackets { left, right };
+                self.push_entry(Entry::Waiting(Operation::Index(semicolons, brackets)))
+            }
+            Some(Entry::Store(right, semicolons, arrow)) => {
+                Ok(State::Named(semicolons, Brackets { left, right }, arrow))
+            }
+            Some(Entry::Either(right, pending)) if !is_empty => {
+                Ok(State::Beside(Brackets { left, right }, pending))
+            }
+            Some(Entry::Either(right, Some(pending))) => {
+                self.push_dyadic(pending.form, pending.axis)?;
+                self.push_index(Brackets { left, right })?;
+                Ok(State::Wanted)
+            }
+            _ => Err(Refusal::Syntax),
+        }
+    }
+
+    fn take_open_bracket(&mut self, state: State, left: usize) -> Result<State, Refusal>
+        ensures ok { IfOk result (λ s. with_open_bracket self.old.operations.items (stack_of self.old) state left ≡ Some (held self.new s)) }
+        ensures err { result ≡ Err Refusal.Syntax → with_open_bracket self.old.operations.items (stack_of self.old) state left ≡ None }
+    {
+        let is_empty = matches!(state, State::Wanted);
+        self.end_slot(state)?;
+        self.close_list(is_empty, left)
+    }
+
+    fn take(&mut self, state: State, token: Token) -> Result<State, Refusal>
+        ensures ok { IfOk result (λ s. step token (held self.old state) ≡ Some (held self.new s)) }
+        ensures err { result ≡ Err Refusal.Syntax → step token (held self.old state) ≡ None }
+    {
+        let column = token.column;
+        match token.lexeme {
+            Lexeme::Constant(value) => self.take_operand(state, Operation::Constant(column, value)),
+            Lexeme::Name(name) => self.take_name(state, column, name),
+            Lexeme::Function(glyph) => self.take_function(state, column, glyph),
+            Lexeme::Dot => self.take_dot(state, column),
+            Lexeme::Jot => self.take_jot(state, column),
+            Lexeme::Arrow => self.take_arrow(state, column),
+            Lexeme::OpenParen => self.take_open_paren(state, column),
+            Lexeme::CloseParen => self.take_close_paren(state, column),
+            Lexeme::OpenBracket => self.take_open_bracket(state, column),
+            Lexeme::CloseBracket => self.take_close_bracket(state, column),
+            Lexeme::Semicolon => self.take_semicolon(state, column),
+        }
+    }
+
+    /// The operations of a whole statement.
+    fn finish(mut self, state: State) -> Result<Vec<Operation>, Refusal>
+        ensures ok { IfOk result (λ operations. finished (held self state) ≡ Some operations.items) }
+        ensures err { result ≡ Err Refusal.Syntax → finished (held self state) ≡ None }
+    {
+        self.settle(state)?;
+        if !self.entries.is_empty() {
+            return Err(Refusal::Syntax);
+        }
+        let operations = without_empty(self.alloc, self.operations)?;
+        Ok(operations)
     }
 }
 
-fn take_name(
-    operations: &mut Vec<Operation>,
-    state: State,
-    column: usize,
-    name: Name,
-) -> Result<State, Refusal>
-    ensures ok { IfOk result (λ s. with_name operations.old.items state column name ≡ Some (operations.new.items, s)) }
-    ensures err { result ≡ Err Refusal.Syntax → with_name operations.old.items state column name ≡ None }
+/// The operations without the empty places.
+fn without_empty(
+    alloc: Global,
+    places: Vec<Option<Operation>>,
+) -> Result<Vec<Operation>, AllocError>
+    ensures { IfOk result (λ operations. operations.items ≡ emitted places.items) }
 {
-    match state {
-        State::Arrow(arrow) => {
-            operations.push(Operation::Assign(column, name, arrow))?;
-            Ok(State::Whole)
+    let mut operations = Vec::new(alloc);
+    for place in places {
+        if let Some(operation) = place {
+            operations.push(operation)?;
         }
-        _ => take_operand(operations, state, Operation::Name(column, name)),
     }
+    Ok(operations)
 }
 
-fn take(operations: &mut Vec<Operation>, state: State, token: Token) -> Result<State, Refusal>
-    ensures ok { IfOk result (λ s. step token (operations.old.items, state) ≡ Some (operations.new.items, s)) }
-    ensures err { result ≡ Err Refusal.Syntax → step token (operations.old.items, state) ≡ None }
-{
-    let column = token.column;
-    match (token.lexeme, state) {
-        (Lexeme::Constant(value), _) => take_operand(
-            operations,
-            state,
-            Operation::Constant(column, value),
-        ),
-        (Lexeme::Name(name), _) => take_name(operations, state, column, name),
-        (Lexeme::Function(glyph), State::Whole) if is_dyadic_function(glyph) => {
-            Ok(State::Pending(column, glyph))
-        }
-        (Lexeme::Arrow, State::Whole) => Ok(State::Arrow(column)),
-        _ => Err(Refusal::Syntax),
-    }
-}
-
-/// The operations of the tokens, or the column of the fault.
-pub(crate) fn parse(alloc: Global, tokens: Vec<Token>) -> Result<Vec<Operation>, ParseStop>
+/// The operations of the tokens, or why they are no statement.
+pub(crate) fn parse(alloc: Global, tokens: Vec<Token>) -> Result<Vec<Operation>, GrammarStop>
     requires { 0 < vec_len tokens }
-    ensures ok { IfOk result (λ operations. run tokens.items ≡ Some (operations.items, Whole)) }
+    ensures ok { IfOk result (λ operations. option_and_then finished (run tokens.items) ≡ Some operations.items) }
     ensures err { IfErr result (IsRefusedBy tokens.items) }
 {
     let mut rest = tokens;
-    let mut operations = Vec::new(alloc);
-    let mut state = State::Start;
+    let mut reader = Reader {
+        alloc,
+        operations: Vec::new(alloc),
+        entries: Vec::new(alloc),
+    };
+    let mut state = State::Wanted;
     let mut first = 0;
     while let Some(token) = rest.pop() {
         first = token.column;
-        state = match take(&mut operations, state, token) {
+        state = match reader.take(state, token) {
             Ok(next) => next,
-            Err(Refusal::Memory) => return Err(ParseStop::Memory),
-            Err(Refusal::Syntax) => return Err(ParseStop::Syntax(first)),
+            Err(Refusal::Syntax) => return Err(GrammarStop::Syntax { column: first }),
+            Err(Refusal::Memory) => return Err(GrammarStop::Memory),
         };
     }
-    match state {
-        State::Whole => Ok(operations),
-        _ => Err(ParseStop::Syntax(first)),
+    match reader.finish(state) {
+        Ok(operations) => Ok(operations),
+        Err(Refusal::Syntax) => Err(GrammarStop::Syntax { column: first }),
+        Err(Refusal::Memory) => Err(GrammarStop::Memory),
     }
 }

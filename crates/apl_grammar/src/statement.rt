@@ -1,12 +1,12 @@
 //! The program of a statement.
-ghost use Rattle.std.specs.Prelude.{◌≡◌, ◌<◌, ℕ, List, IfOk, IfErr, vec_len};
+ghost use Rattle.std.specs.Prelude.{◌≡◌, ◌⊎◌, ◌<◌, ◌∷◌, ℕ, List, IfOk, IfErr, vec_len};
 ghost use Rattle.apl_tokens.specs.declared.token.Token.{Token};
 ghost use Rattle.apl_grammar.specs.Tree.{Expr, IsTree, IsProgramOf, operations, spells};
-ghost use Rattle.apl_grammar.specs.Caret.{IsCaret};
+ghost use Rattle.apl_grammar.specs.Caret.{IsCaret, HasNoTree};
 ghost use Rattle.apl_grammar.specs.Stops.{IsStopOf};
 
 use super::program::Program;
-use super::reader::{ParseStop, parse};
+use super::reader::parse;
 use apl_tokens::Token;
 use std::alloc::Global;
 
@@ -27,8 +27,7 @@ pub fn program_of(alloc: Global, tokens: Vec<Token>) -> Result<Program, GrammarS
 {
     match parse(alloc, tokens) {
         Ok(operations) => Ok(Program::new(operations)),
-        Err(ParseStop::Syntax(column)) => Err(GrammarStop::Syntax { column }),
-        Err(ParseStop::Memory) => Err(GrammarStop::Memory),
+        Err(stop) => Err(stop),
     }
 }
 
@@ -45,4 +44,9 @@ pub fn one_tree()
 /// Tokens have one caret at most.
 pub fn one_caret()
     ensures { (tokens : List Token) (c d : ℕ) → IsCaret tokens c → IsCaret tokens d → c ≡ d }
+{}
+
+/// One or more tokens have a tree or a caret.
+pub fn tree_or_caret()
+    ensures { (first : Token) (others : List Token) → ((e : Expr) × IsTree e × (spells e ≡ first ∷ others)) ⊎ ((column : ℕ) × IsCaret (first ∷ others) column × HasNoTree (first ∷ others)) }
 {}

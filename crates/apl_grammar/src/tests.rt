@@ -1,95 +1,248 @@
-//! Programs and carets of short statements.
-use crate::{GrammarStop, Operation, Program, program_of};
+//! Carets and operations of statements.
+use crate::{
+    Form, GrammarStop, Operation, one_caret, one_reading, one_tree, program_of, tree_or_caret,
+};
 use apl_array::{Array, Shape};
-use apl_tokens::{Glyph, Lexeme, Name, Token};
+use apl_tokens::{Constant, Glyph, Lexeme, Name, Token};
 use std::alloc::{AllocError, Global};
 use std::test::Fail;
 
-/// One token for each character: a digit is a constant, a letter a name.
-fn token_of(alloc: Global, symbol: char, column: usize) -> Result<Token, AllocError> {
-    let lexeme = match symbol {
+fn one(alloc: Global) -> Result<Option<Lexeme>, AllocError> {
+    let Ok(shape) = Shape::new(alloc, &[]) else {
+        return Ok(None);
+    };
+    let numbers = vec![in alloc; 1]?;
+    Ok(Some(Lexeme::Constant(Constant::new(alloc, Array::ints(shape, numbers))?)))
+}
+
+/// The lexeme that a character stands for: a digit for any constant, a letter for a name, a blank for none.
+fn lexeme_of(alloc: Global, character: char) -> Result<Option<Lexeme>, AllocError> {
+    let lexeme = match character {
+        '0'..='9' => return one(alloc),
+        'A'..='Z' => Lexeme::Name(Name::new(String::from_str(alloc, "A")?)),
         '+' => Lexeme::Function(Glyph::Plus),
-        '-' => Lexeme::Function(Glyph::Minus),
         '×' => Lexeme::Function(Glyph::Times),
-        '÷' => Lexeme::Function(Glyph::Divide),
+        '*' => Lexeme::Function(Glyph::Star),
+        '<' => Lexeme::Function(Glyph::Less),
+        '~' => Lexeme::Function(Glyph::Tilde),
+        '⍋' => Lexeme::Function(Glyph::GradeUp),
+        '⍴' => Lexeme::Function(Glyph::Rho),
+        '⌽' => Lexeme::Function(Glyph::CircleStile),
+        ',' => Lexeme::Function(Glyph::Comma),
+        '↑' => Lexeme::Function(Glyph::UpArrow),
+        '/' => Lexeme::Function(Glyph::Slash),
+        '\\' => Lexeme::Function(Glyph::Backslash),
+        '.' => Lexeme::Dot,
+        '∘' => Lexeme::Jot,
         '←' => Lexeme::Arrow,
         '(' => Lexeme::OpenParen,
-        '0'..='9' => constant(alloc)?,
-        _ => Lexeme::Name(Name::new(symbol.to_string(alloc)?)),
+        ')' => Lexeme::CloseParen,
+        '[' => Lexeme::OpenBracket,
+        ']' => Lexeme::CloseBracket,
+        ';' => Lexeme::Semicolon,
+        _ => return Ok(None),
     };
-    Ok(Token { lexeme, column })
+    Ok(Some(lexeme))
 }
 
-fn constant(alloc: Global) -> Result<Lexeme, AllocError> {
-    let Ok(shape) = Shape::new(alloc, &[]) else {
-        return Ok(Lexeme::Dot);
-    };
-    let numbers = vec![in alloc; 7]?;
-    if shape.count() != numbers.len() {
-        return Ok(Lexeme::Dot);
-    }
-    Ok(Lexeme::Constant(Array::ints(shape, numbers)))
-}
-
-fn tokens(alloc: Global, text: &str) -> Result<Vec<Token>, AllocError> {
+/// The tokens that the characters stand for, each at its column.
+fn tokens_of(alloc: Global, characters: &[char]) -> Result<Vec<Token>, AllocError> {
     let mut tokens = Vec::new(alloc);
-    for (column, symbol) in text.chars().enumerate() {
-        tokens.push(token_of(alloc, symbol, column)?)?;
+    for (column, character) in characters.iter().enumerate() {
+        if let Some(lexeme) = lexeme_of(alloc, *character)? {
+            tokens.push(Token { lexeme, column })?;
+        }
     }
     Ok(tokens)
 }
 
-/// The operations as a text: a letter for the kind, then the columns.
-fn listed(alloc: Global, program: &Program) -> Result<String, AllocError> {
-    let mut text = String::new(alloc);
-    for operation in program.operations() {
-        match operation {
-            Operation::Constant(column, _) => write!(text, "c{column} ")?,
-            Operation::Name(column, name) => {
-                let name = name.as_str();
-                write!(text, "{name}{column} ")?
-            }
-            Operation::Dyadic(column, _) => write!(text, "f{column} ")?,
-            Operation::Assign(column, name, arrow) => {
-                let name = name.as_str();
-                write!(text, "{name}{column}←{arrow} ")?
-            }
-        }
-    }
-    Ok(text)
-}
-
-fn program(alloc: Global, text: &str) -> Result<String, Fail> {
-    let tokens = tokens(alloc, text)?;
+/// The column of the caret, or none where the tokens are a statement.
+fn caret_of(alloc: Global, characters: &[char]) -> Result<Option<usize>, Fail> {
+    let tokens = tokens_of(alloc, characters)?;
     if tokens.is_empty() {
-        return Ok(String::new(alloc));
+        return Ok(None);
     }
     match program_of(alloc, tokens) {
-        Ok(program) => Ok(listed(alloc, &program)?),
-        Err(GrammarStop::Syntax { column }) => Ok(format!(in alloc; "syntax {column}")?),
-        Err(GrammarStop::Memory) => Ok(String::from_str(alloc, "memory")?),
+        Ok(_) => Ok(None),
+        Err(GrammarStop::Syntax { column }) => Ok(Some(column)),
+        Err(GrammarStop::Memory) => Err(Fail::from(AllocError)),
     }
-}
-
-#[test]
-fn operations_go_from_right_to_left(rt: HostRuntime) -> Result<(), Fail> {
-    let alloc = rt.alloc();
-    assert_eq!(rt; program(alloc, "7-4-3")?.as_str(), "c4 c2 f3 c0 f1 ");
-    assert_eq!(rt; program(alloc, "A+A←3")?.as_str(), "c4 A2←3 A0 f1 ");
-    assert_eq!(rt; program(alloc, "B")?.as_str(), "B0 ");
-    Ok(())
 }
 
 #[test]
 fn carets(rt: HostRuntime) -> Result<(), Fail> {
+    let rows = [
+        ("3+", 1),
+        ("(1+2", 0),
+        ("1)", 0),
+        ("2+<3", 1),
+        ("3←4", 0),
+        ("A+/B", 0),
+        ("1;2", 1),
+        ("+\\1", 0),
+        ("  1)", 2),
+        (" ←3", 1),
+        ("A←", 1),
+        ("A[1", 1),
+        ("[1]", 0),
+        ("()", 0),
+        ("A[1;2", 3),
+        ("1  ;3", 3),
+        ("(A)←3", 2),
+        ("(A)[1]←3", 2),
+        ("A[1][2]←3", 3),
+        ("A∘+B", 1),
+        ("A+.B", 2),
+        ("A∘.⍴B", 2),
+        ("∘.+B", 0),
+        ("A+[1]B", 1),
+        (",[1]B", 0),
+        ("⍋[1]B", 0),
+        ("~/B", 0),
+        ("⍴/B", 0),
+        ("/B", 0),
+        ("A⌽[1;2]B", 4),
+        ("A⌽[]B", 2),
+        ("1+2)", 0),
+        ("(1)2", 2),
+        ("A B", 0),
+        ("A+.×/B", 2),
+        ("1  ←3", 0),
+        ("A[(1]", 2),
+    ];
     let alloc = rt.alloc();
-    assert_eq!(rt; program(alloc, "3+")?.as_str(), "syntax 1");
-    assert_eq!(rt; program(alloc, "+3")?.as_str(), "syntax 0");
-    assert_eq!(rt; program(alloc, "3←4")?.as_str(), "syntax 0");
-    assert_eq!(rt; program(alloc, "A←")?.as_str(), "syntax 1");
-    assert_eq!(rt; program(alloc, "A1")?.as_str(), "syntax 0");
-    assert_eq!(rt; program(alloc, "2+12")?.as_str(), "syntax 2");
-    assert_eq!(rt; program(alloc, "2÷3")?.as_str(), "syntax 1");
-    assert_eq!(rt; program(alloc, "2+(")?.as_str(), "syntax 2");
+    for (text, column) in rows {
+        let characters: Vec<char> = text.chars().collect(alloc)?;
+        assert_eq!(rt; caret_of(alloc, &characters)?, Some(column), "of {text}");
+    }
     Ok(())
+}
+
+/// The column by which a report of the operation's fault would name it; none for an empty slot.
+fn column_of(operation: &Operation) -> Option<usize> {
+    match operation {
+        Operation::Constant(column, _) | Operation::Name(column, _) => Some(*column),
+        Operation::Group(brackets) | Operation::Index(_, brackets) => Some(brackets.left),
+        Operation::EmptySlot => None,
+        Operation::Assign(column, _, _) => Some(*column),
+        Operation::AssignAt { arrow, .. } => Some(*arrow),
+        Operation::Monadic(form, _) | Operation::Dyadic(form, _) => match form {
+            Form::Plain { column, .. } => Some(*column),
+            Form::Reduce { slash_column, .. } => Some(*slash_column),
+            Form::Inner { dot, .. } | Form::Outer { dot, .. } => Some(*dot),
+        },
+    }
+}
+
+/// The columns of the program's operations, in the order of evaluation.
+fn columns_of(alloc: Global, text: &str) -> Result<Vec<Option<usize>>, Fail> {
+    let characters: Vec<char> = text.chars().collect(alloc)?;
+    let tokens = tokens_of(alloc, &characters)?;
+    let mut columns = Vec::new(alloc);
+    if tokens.is_empty() {
+        return Ok(columns);
+    }
+    if let Ok(program) = program_of(alloc, tokens) {
+        for operation in program.operations() {
+            columns.push(column_of(operation))?;
+        }
+    }
+    Ok(columns)
+}
+
+#[test]
+fn order_of_evaluation(rt: HostRuntime) -> Result<(), Fail> {
+    let alloc = rt.alloc();
+    // the expression, the axis, the operand, the function
+    assert_eq!(rt;
+        columns_of(alloc, "A,[1]+B")?.as_slice(),
+        [Some(6), Some(5), Some(3), Some(0), Some(1)].as_slice()
+    );
+    // the slots, the array, the index, and then the function
+    assert_eq!(rt;
+        columns_of(alloc, "A[1]+B")?.as_slice(),
+        [Some(5), Some(2), Some(0), Some(1), Some(4)].as_slice()
+    );
+    // the slots from the last to the first
+    assert_eq!(rt;
+        columns_of(alloc, "A[1;;2]")?.as_slice(),
+        [Some(5), None, Some(2), Some(0), Some(1)].as_slice()
+    );
+    // the expression, the slots, the name
+    assert_eq!(rt;
+        columns_of(alloc, "A[1;]←2")?.as_slice(),
+        [Some(6), None, Some(2), Some(5)].as_slice()
+    );
+    assert_eq!(rt;
+        columns_of(alloc, "(A∘.×B)+.×C←+/D")?.as_slice(),
+        [
+            Some(14),
+            Some(13),
+            Some(10),
+            Some(5),
+            Some(1),
+            Some(3),
+            Some(0),
+            Some(8)
+        ]
+        .as_slice()
+    );
+    Ok(())
+}
+
+/// As many times the front, then the middle, then as many times the back.
+fn nested(
+    alloc: Global,
+    depth: usize,
+    front: &str,
+    middle: &str,
+    back: &str,
+) -> Result<Vec<char>, AllocError> {
+    let mut characters = Vec::new(alloc);
+    for _ in 0..depth {
+        for character in front.chars() {
+            characters.push(character)?;
+        }
+    }
+    for character in middle.chars() {
+        characters.push(character)?;
+    }
+    for _ in 0..depth {
+        for character in back.chars() {
+            characters.push(character)?;
+        }
+    }
+    Ok(characters)
+}
+
+#[test]
+fn ten_thousand_brackets(rt: HostRuntime) -> Result<(), Fail> {
+    let rows = [
+        ("(", "1", ")", None),
+        ("(", "1", "", Some(9999)),
+        ("", "1", ")", Some(0)),
+        ("A[", "1", "]", None),
+        ("A[", "1", "", Some(19999)),
+        ("", "1", "]", Some(0)),
+        ("A,[", "1", "]+B", None),
+        ("(A[", "1", "])", None),
+    ];
+    let alloc = rt.alloc();
+    for (front, middle, back, caret) in rows {
+        let characters = nested(alloc, 10000, front, middle, back)?;
+        assert_eq!(rt;
+            caret_of(alloc, &characters)?,
+            caret,
+            "of {front}{middle}{back}"
+        );
+    }
+    Ok(())
+}
+
+#[test]
+fn laws() {
+    one_caret();
+    one_reading();
+    one_tree();
+    tree_or_caret();
 }

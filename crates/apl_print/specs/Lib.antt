@@ -2,6 +2,7 @@ pub mod Failures
 pub mod Layout
 pub mod Put
 pub mod Reported
+pub mod Replied
 pub mod Row
 pub mod Shown
 pub mod SinkValues

@@ -2,6 +2,7 @@
 #![tactic(auto)]
 
 mod memory;
+mod replies;
 mod reporting;
 mod reports;
 mod rows;
@@ -10,7 +11,8 @@ mod streams;
 mod values;
 
 pub use memory::MemorySink;
-pub use reporting::report;
+pub use replies::Reply;
+pub use reporting::{reply, report};
 pub use reports::Report;
 pub use sinks::{Sink, SinkFault, put_all};
 pub use streams::Out;

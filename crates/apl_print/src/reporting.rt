@@ -1,12 +1,16 @@
-//! Writing a report.
+//! Writing reports and replies.
 ghost use Rattle.std.specs.Prelude.{◌≡◌, ℕ, ◌∷◌, Some};
 ghost use Rattle.apl_print.specs.Failures.{CountsFailure};
 ghost use Rattle.apl_print.specs.Put.{Writes};
 ghost use Rattle.apl_print.specs.Reported.{reported, caret_line};
+ghost use Rattle.apl_print.specs.Replied.{replied};
+ghost use Rattle.apl_print.specs.declared.replies.Reply.TheVariants.{Was};
 ghost use Rattle.apl_print.specs.Text.{blanks, line_feed};
 
+use super::replies::Reply;
 use super::reports::Report;
 use super::sinks::{Sink, SinkFault, put_all};
+use itoa::Buffer;
 
 /// A run of blanks, of which slices are put.
 static BLANKS: [u8; 64] = [b' '; 64];
@@ -52,4 +56,26 @@ fn put_blanks<S: Sink>(sink: &mut S, count: usize) -> Result<(), SinkFault>
         rest -= n;
     }
     Ok(())
+}
+
+/// Puts a reply, as a line. It takes no memory. After a fault the sink has taken a beginning of the line.
+pub fn reply<S: Sink>(sink: &mut S, reply: Reply) -> Result<(), SinkFault>
+    ensures writes { Writes (S.taken sink.old) (S.taken sink.new) (replied reply) result }
+    ensures failures { CountsFailure (S.failures sink.old) (S.failures sink.new) result }
+{
+    match reply {
+        Reply::Was(setting) => put_was(sink, setting),
+        Reply::Clear => put_all(sink, b"CLEAR WS\n"),
+        Reply::Incorrect => put_all(sink, b"INCORRECT COMMAND\n"),
+    }
+}
+
+/// Puts what a setting was.
+fn put_was<S: Sink>(sink: &mut S, setting: u8) -> Result<(), SinkFault>
+    ensures writes { Writes (S.taken sink.old) (S.taken sink.new) (replied (Was setting)) result }
+    ensures failures { CountsFailure (S.failures sink.old) (S.failures sink.new) result }
+{
+    put_all(sink, b"WAS ")?;
+    put_all(sink, Buffer::new().format(setting).as_bytes())?;
+    put_all(sink, b"\n")
 }

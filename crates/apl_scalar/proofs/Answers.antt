@@ -1,50 +1,129 @@
--- Outcomes determine the answer.
-use Rattle.std.proofs.Common.{◌≡◌, ℕ, List, Result, Ok, Err, refl, sym, ap, ◌∙◌, subst, ⊎_elim}
-use Rattle.std.specs.Prelude.{IsOk, is_ok}
-use Rattle.std.proofs.lemmas.Bool.{cases_order, false≢true}
+-- The answer by each index list and by the least place.
+use Rattle.std.proofs.Common.{◌≡◌, ◌↔◌, ℕ, pos, ◌<◌, List, length, map, Result, Ok, Err, get_or, refl, sym, ap, ◌∙◌, subst, arith}
+use Rattle.std.specs.Prelude.{IsOk}
 use Rattle.apl_array.specs.declared.array.Elem.{Elem}
+use Rattle.apl_array.specs.declared.array.Elem.TheVariants.{Int}
 use Rattle.apl_array.specs.declared.array.Kind.{Kind}
-use Rattle.apl_array.specs.Shape.{IsIndexOf, place_of, index_at}
-use Rattle.apl_array.specs.Array.{ArrayValue, IsArray, element_at}
-use Rattle.apl_array.proofs.Shapes.{index_at-place_of}
-use Rattle.apl_array.proofs.Arrays.{equal_from_elements}
+use Rattle.apl_array.specs.Shape.{IsIndexOf, count_of, place_of, index_at}
+use Rattle.apl_array.specs.Array.{ArrayValue, IsArray, element_in}
+use Rattle.apl_array.proofs.Shapes.{place_of-bound, index_at-place_of, place_of-index_at, IsIndexOf-index_at}
 use Rattle.apl_pool.specs.declared.kernel.Fault.{Fault}
-use Rattle.apl_scalar.specs.Pointwise.{IsArrayOf, IsLeastFaultOf}
+use Rattle.apl_pool.specs.declared.kernel.Fault.TheVariants.{Domain, Limit, Index}
+use Rattle.apl_scalar.specs.Faults.{op_fault_of}
+use Rattle.apl_scalar.specs.Pointwise.{IsArrayOf, IsLeastFaultOf, index_lists, all_or_first, shaped, answer_of}
+use Rattle.apl_scalar.proofs.Gathering.{AreElements, all_from_each, each_from_all, first_from_least, least_from_first}
+use Rattle.apl_scalar.proofs.Places.{length-outcomes, get_or-outcomes}
 
-ok_is_ok : (r : Result Elem Fault) (x y : Elem) → r ≡ Ok x → r ≡ Ok y → x ≡ y
-ok_is_ok r x y first second = cc
+made : List ℕ → Kind → List Elem → ArrayValue
+made shape kind elements = record { shape = shape; kind = kind; ravel = elements }
 
-err_is_err : (r : Result Elem Fault) (x y : Fault) → r ≡ Err x → r ≡ Err y → x ≡ y
-err_is_err r x y first second = cc
+same_array : (a : ArrayValue) (shape : List ℕ) (kind : Kind) → a.shape ≡ shape → a.kind ≡ kind → made shape kind a.ravel ≡ a
+unfolding made
+same_array a shape kind shapes kinds = sym (ap (λ s. made s a.kind a.ravel) shapes ∙ ap (λ k. made shape k a.ravel) kinds)
 
-no_fault : (r : Result Elem Fault) (fault : Fault) → r ≡ Err fault → IsOk r → ⊥
-no_fault r fault is ok = false≢true (ap is_ok (sym is) ∙ ok)
+shaped_elements : (shape : List ℕ) (kind : Kind) (r : Result (List Elem) Fault) (a : ArrayValue) → shaped shape kind r ≡ Ok a
+    → (xs : List Elem) × (r ≡ Ok xs) × (a ≡ made shape kind xs)
+unfolding made
+shaped_elements shape kind (Ok xs) a is = let same : a ≡ made shape kind xs = cc in (xs, refl, same)
+shaped_elements shape kind (Err fault) a is = absurd cc
+
+op_fault_of-injective : (first second : Fault) → op_fault_of first ≡ op_fault_of second → first ≡ second
+op_fault_of-injective Domain Domain same = refl
+op_fault_of-injective Domain Limit same = absurd cc
+op_fault_of-injective Domain Index same = absurd cc
+op_fault_of-injective Limit Domain same = absurd cc
+op_fault_of-injective Limit Limit same = refl
+op_fault_of-injective Limit Index same = absurd cc
+op_fault_of-injective Index Domain same = absurd cc
+op_fault_of-injective Index Limit same = absurd cc
+op_fault_of-injective Index Index same = refl
+
+shaped_fault : (shape : List ℕ) (kind : Kind) (r : Result (List Elem) Fault) (fault : Fault) → shaped shape kind r ≡ Err (op_fault_of fault) → r ≡ Err fault
+shaped_fault shape kind (Ok xs) fault is = absurd cc
+shaped_fault shape kind (Err other) fault is = ap Err (op_fault_of-injective other fault cc)
 
 module _ (shape : List ℕ) (outcome : List ℕ → Result Elem Fault) where
-  pub one_array : (kind : Kind) (a b : ArrayValue) → IsArray a → IsArray b → IsArrayOf shape outcome kind a → IsArrayOf shape outcome kind b → a ≡ b
-  one_array kind a b la lb first second =
-      equal_from_elements a b la lb record {
-        shape = first.shape_is ∙ sym second.shape_is;
-        kind = first.kind_is ∙ sym second.kind_is;
-        each = λ index lawful.
-            let lawful' : IsIndexOf shape index = subst (λ s. IsIndexOf s index) first.shape_is lawful in
-            ok_is_ok (outcome index) (element_at a index) (element_at b index) (first.each index lawful') (second.each index lawful');
+  d : Elem
+  d = Int (pos 0)
+
+  e : Result Elem Fault
+  e = Ok (Int (pos 0))
+
+  outcomes : List (Result Elem Fault)
+  outcomes = map outcome (index_lists shape)
+
+  len : length outcomes ≡ count_of shape
+  unfolding outcomes
+  len = length-outcomes shape outcome
+
+  -- the outcome at an index list, among the outcomes in row order
+  at_index : (index : List ℕ) → IsIndexOf shape index → get_or outcomes (place_of shape index) e ≡ outcome index
+  unfolding outcomes
+  at_index index lawful =
+      get_or-outcomes shape outcome (place_of shape index) e (place_of-bound shape index lawful) ∙ ap outcome (index_at-place_of shape index lawful)
+
+  array_each : (kind : Kind) (xs : List Elem) → AreElements d e outcomes xs → IsArrayOf shape outcome kind (made shape kind xs)
+  unfolding made d
+  array_each kind xs all = record {
+    shape_is = refl;
+    kind_is = refl;
+    each = λ index lawful.
+        sym (at_index index lawful) ∙ all.each (place_of shape index) (omega (arith, place_of-bound shape index lawful, len));
+  }
+
+  array_from_answer : (kind : Kind) (a : ArrayValue) → answer_of shape outcome kind ≡ Ok a → IsArrayOf shape outcome kind a
+  unfolding outcomes
+  array_from_answer kind a is =
+      let parts = shaped_elements shape kind (all_or_first outcomes) a is in
+      let P : ArrayValue → Type 0 = λ b. IsArrayOf shape outcome kind b in
+      subst P (sym parts.2) (array_each kind parts.0 (each_from_all d e outcomes parts.0 parts.1))
+
+  answer_from_array : (kind : Kind) (a : ArrayValue) → IsArray a → IsArrayOf shape outcome kind a → answer_of shape outcome kind ≡ Ok a
+  unfolding outcomes made d
+  answer_from_array kind a lawful all =
+      let counts : length a.ravel ≡ count_of shape = lawful.len ∙ ap count_of all.shape_is in
+      let gathered : all_or_first outcomes ≡ Ok a.ravel =
+      all_from_each d e outcomes a.ravel record {
+        len = counts ∙ sym len;
+        each = λ place inside.
+            let below : place < count_of shape = omega (arith, len) in
+            let index = index_at shape place in
+            let own : place_of a.shape index ≡ place = ap (λ s. place_of s index) all.shape_is ∙ place_of-index_at shape place below in
+            get_or-outcomes shape outcome place e below ∙ all.each index (IsIndexOf-index_at shape place (omega (arith, below)))
+            ∙ ap (λ p. Ok (element_in a p)) own;
+      } in
+      ap (shaped shape kind) gathered ∙ ap Ok (same_array a shape kind all.shape_is all.kind_is)
+
+  fault_from_answer : (kind : Kind) (fault : Fault) → answer_of shape outcome kind ≡ Err (op_fault_of fault) → IsLeastFaultOf shape outcome fault
+  unfolding outcomes
+  fault_from_answer kind fault is =
+      let first = least_from_first d e outcomes fault (shaped_fault shape kind (all_or_first outcomes) fault is) in
+      let below : first.place < count_of shape = omega (arith, first.below, len) in
+      record {
+        index = index_at shape first.place;
+        lawful = IsIndexOf-index_at shape first.place (omega (arith, below));
+        faulty = sym (get_or-outcomes shape outcome first.place e below) ∙ first.faulty;
+        earlier = λ other lawful before.
+            let P : Result Elem Fault → Type 0 = λ r. IsOk r in
+            subst P (at_index other lawful) (first.earlier (place_of shape other) (omega (arith, before, place_of-index_at shape first.place below)));
       }
 
-  pub one_fault : (first second : Fault) → IsLeastFaultOf shape outcome first → IsLeastFaultOf shape outcome second → first ≡ second
-  one_fault first second f s =
-      ⊎_elim
-      (λ same.
-      let index : f.index ≡ s.index = sym (index_at-place_of shape f.index f.lawful) ∙ ap (index_at shape) same ∙ index_at-place_of shape s.index s.lawful in
-      err_is_err (outcome f.index) first second f.faulty (ap outcome index ∙ s.faulty))
-      (λ apart. ⊎_elim
-      (λ before. absurd (no_fault (outcome f.index) first f.faulty (s.earlier f.index f.lawful before)))
-      (λ behind. absurd (no_fault (outcome s.index) second s.faulty (f.earlier s.index s.lawful behind)))
-      apart)
-      (cases_order (place_of shape f.index) (place_of shape s.index))
-
-  pub no_array_with_fault : (kind : Kind) (a : ArrayValue) (fault : Fault) → IsArrayOf shape outcome kind a → IsLeastFaultOf shape outcome fault → ⊥
-  no_array_with_fault kind a fault all least =
-      let here = all.each least.index least.lawful in
+  answer_from_fault : (kind : Kind) (fault : Fault) → IsLeastFaultOf shape outcome fault → answer_of shape outcome kind ≡ Err (op_fault_of fault)
+  unfolding outcomes
+  answer_from_fault kind fault least =
+      let place = place_of shape least.index in
+      let below : place < count_of shape = place_of-bound shape least.index least.lawful in
+      let first : all_or_first outcomes ≡ Err fault =
+      first_from_least d e outcomes fault place (omega (arith, below, len)) (at_index least.index least.lawful ∙ least.faulty)
+      (λ k before.
+      let inside : k < count_of shape = omega (arith, before, below) in
       let P : Result Elem Fault → Type 0 = λ r. IsOk r in
-      no_fault (outcome least.index) fault least.faulty (subst P (sym here) refl)
+      subst P (sym (get_or-outcomes shape outcome k e inside))
+      (least.earlier (index_at shape k) (IsIndexOf-index_at shape k (omega (arith, inside))) (omega (arith, before, place_of-index_at shape k inside)))) in
+      ap (shaped shape kind) first
+
+  pub array_iff : (kind : Kind) (a : ArrayValue) → IsArray a → (answer_of shape outcome kind ≡ Ok a) ↔ IsArrayOf shape outcome kind a
+  array_iff kind a lawful = (array_from_answer kind a, answer_from_array kind a lawful)
+
+  pub fault_iff : (kind : Kind) (fault : Fault) → (answer_of shape outcome kind ≡ Err (op_fault_of fault)) ↔ IsLeastFaultOf shape outcome fault
+  fault_iff kind fault = (fault_from_answer kind fault, answer_from_fault kind fault)

@@ -6,11 +6,12 @@ use Rattle.apl_pool.specs.declared.kernel.Fault.{Fault}
 use Rattle.apl_scalar.specs.declared.function.ScalarFunction.{ScalarFunction}
 use Rattle.apl_scalar.specs.declared.function.OpFault.{OpFault}
 use Rattle.apl_scalar.specs.Scalar.{monadic_of, as_element}
-use Rattle.apl_scalar.specs.Pointwise.{IsPointwise}
+use Rattle.apl_scalar.specs.Pointwise.{answer_of}
 
 -- what there is at an index list: a number or a fault
 abbrev pub monadic_element : ScalarFunction → ArrayValue → List ℕ → Result ℤ Fault
 monadic_element f b index = monadic_of f (element_at b index)
 
-abbrev pub AnswersMonadic : ScalarFunction → ArrayValue → Result ArrayValue OpFault → Type 0
-AnswersMonadic f b result = IsPointwise b.shape (λ index. as_element (monadic_element f b index)) Number result
+-- the array of the numbers at all index lists, or the first fault
+abbrev pub monadic_answer : ScalarFunction → ArrayValue → Result ArrayValue OpFault
+monadic_answer f b = answer_of b.shape (λ index. as_element (monadic_element f b index)) Number

@@ -4,8 +4,9 @@ ghost use Rattle.apl_array.specs.Shape.{count_of, index_at};
 ghost use Rattle.apl_pool.specs.Pool.{AreValues, IsStopOf};
 ghost use Rattle.apl_scalar.specs.Scalar.{has_monadic, has_dyadic};
 ghost use Rattle.apl_scalar.specs.Extension.{extended_shape};
-ghost use Rattle.apl_scalar.specs.Monadic.{AnswersMonadic, monadic_element};
-ghost use Rattle.apl_scalar.specs.Dyadic.{AnswersDyadic, dyadic_number};
+ghost use Rattle.apl_scalar.specs.Pointwise.{IsAnswerOf};
+ghost use Rattle.apl_scalar.specs.Monadic.{monadic_answer, monadic_element};
+ghost use Rattle.apl_scalar.specs.Dyadic.{dyadic_answer, dyadic_number};
 
 use crate::extend::extended;
 use crate::function::{OpFault, ScalarFunction};
@@ -26,7 +27,7 @@ pub fn monadic<R: Threads + Sync, C: Cut + Sync, G: Gate + Sync>(
     right: &Array,
 ) -> Result<Array, OpFault>
     requires { IsTrue (has_monadic f) }
-    ensures { AnswersMonadic f right.now result }
+    ensures { IsAnswerOf (monadic_answer f right.now) result }
 {
     let shape = right.shape().copy(alloc)?;
     match fill_monadic(rt, alloc, pool, f, right) {
@@ -72,7 +73,7 @@ pub fn dyadic<R: Threads + Sync, C: Cut + Sync, G: Gate + Sync>(
     right: &Array,
 ) -> Result<Array, OpFault>
     requires { IsTrue (has_dyadic f) }
-    ensures { AnswersDyadic f left.now right.now result }
+    ensures { IsAnswerOf (dyadic_answer f left.now right.now) result }
 {
     let shape = extended(left.shape(), right.shape())?.copy(alloc)?;
     match fill_dyadic(rt, alloc, pool, f, left, right, &shape) {

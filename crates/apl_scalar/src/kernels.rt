@@ -124,7 +124,8 @@ pub struct ElementPairs<'a> {
 }
 
 impl<'a> ElementPairs<'a> {
-    ghost use Rattle.std.specs.Prelude.{IfSome};
+    ghost use Rattle.std.specs.Prelude.{◌↔◌, IsSome, IfSome};
+    ghost use Rattle.apl_array.specs.declared.array.Kind.TheVariants.{Number};
     ghost use Rattle.apl_array.specs.Shape.{index_at};
     ghost use Rattle.apl_scalar.specs.Scalar.{dyadic_numbers};
     ghost use Rattle.apl_scalar.specs.Dyadic.{dyadic_number};
@@ -157,6 +158,7 @@ impl<'a> ElementPairs<'a> {
 
     /// The same as numbers, where both arguments are of numbers.
     pub fn numbers(&self) -> Option<NumberPairs<'a>>
+        ensures kinds { IsSome result ↔ ((self.now.left.now.kind ≡ Number) × (self.now.right.now.kind ≡ Number)) }
         ensures count { IfSome result (λ pairs. pairs.count ≡ count_of self.now.shape.now) }
         ensures same { IfSome result (λ pairs. (place : ℕ) → place < count_of self.now.shape.now →
             dyadic_numbers self.now.function (operand_at pairs.left.now pairs.left_repeats place) (operand_at pairs.right.now pairs.right_repeats place)

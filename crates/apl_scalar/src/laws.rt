@@ -1,18 +1,18 @@
-//! What is true of all results that are given at each index list, each law a clause of a function
+//! What is true of all answers that are given at each index list, each law a clause of a function
 //! that does nothing.
-ghost use Rattle.std.specs.Prelude.{◌≡◌, ℕ, List, Result};
+ghost use Rattle.std.specs.Prelude.{◌≡◌, ◌↔◌, ℕ, List, Result, Ok, Err};
 ghost use Rattle.apl_array.specs.declared.array.Elem.{Elem};
 ghost use Rattle.apl_array.specs.declared.array.Kind.{Kind};
 ghost use Rattle.apl_array.specs.Array.{ArrayValue, IsArray};
 ghost use Rattle.apl_pool.specs.declared.kernel.Fault.{Fault};
-ghost use Rattle.apl_scalar.specs.Pointwise.{IsArrayOf, IsLeastFaultOf};
+ghost use Rattle.apl_scalar.specs.Faults.{op_fault_of};
+ghost use Rattle.apl_scalar.specs.Pointwise.{answer_of, IsArrayOf, IsLeastFaultOf};
 
-/// Of the outcomes at the index lists of a shape there is one array or one least fault, and not both.
-pub fn outcomes_determine_answer()
-    ensures array { (shape : List ℕ) (outcome : List ℕ → Result Elem Fault) (kind : Kind) (a b : ArrayValue)
-        → IsArray a → IsArray b → IsArrayOf shape outcome kind a → IsArrayOf shape outcome kind b → a ≡ b }
-    ensures fault { (shape : List ℕ) (outcome : List ℕ → Result Elem Fault) (first second : Fault)
-        → IsLeastFaultOf shape outcome first → IsLeastFaultOf shape outcome second → first ≡ second }
-    ensures either { (shape : List ℕ) (outcome : List ℕ → Result Elem Fault) (kind : Kind) (a : ArrayValue) (fault : Fault)
-        → IsArrayOf shape outcome kind a → IsLeastFaultOf shape outcome fault → ⊥ }
+/// The answer is an array exactly where that array has the outcome at each index list, and a fault
+/// exactly where that is the fault of the least place that has one.
+pub fn answer_is_each_outcome()
+    ensures array { (shape : List ℕ) (outcome : List ℕ → Result Elem Fault) (kind : Kind) (a : ArrayValue)
+        → IsArray a → (answer_of shape outcome kind ≡ Ok a) ↔ IsArrayOf shape outcome kind a }
+    ensures fault { (shape : List ℕ) (outcome : List ℕ → Result Elem Fault) (kind : Kind) (fault : Fault)
+        → (answer_of shape outcome kind ≡ Err (op_fault_of fault)) ↔ IsLeastFaultOf shape outcome fault }
 {}

@@ -17,7 +17,7 @@ mod truth;
 
 pub use arrays::{dyadic, monadic};
 pub use function::{OpFault, ScalarFunction as Prim};
-pub use laws::outcomes_determine_answer;
+pub use laws::answer_is_each_outcome;
 pub use tables::{apply1, apply2, identity};
 
 #[cfg(test)]

@@ -1,7 +1,7 @@
 //! The tables at worked values, and arrays of several shapes.
 ghost use Rattle.std.specs.Prelude.{◌≤◌};
 
-use crate::{OpFault, Prim, apply1, apply2, dyadic, identity, monadic, outcomes_determine_answer};
+use crate::{OpFault, Prim, answer_is_each_outcome, apply1, apply2, dyadic, identity, monadic};
 use apl_array::{Array, Elem, Shape};
 use apl_pool::{Every, Fault, Open, Pool};
 use std::alloc::Global;
@@ -150,7 +150,7 @@ fn identities(rt: HostRuntime) -> Result<(), Fail> {
     ] {
         assert_eq!(rt; identity(f), wanted, "{f:?}");
     }
-    outcomes_determine_answer();
+    answer_is_each_outcome();
     Ok(())
 }
 

@@ -12,7 +12,9 @@ use Rattle.apl_print.specs.Failures.{CountsFailure}
 use Rattle.apl_print.specs.Reported.{reported}
 use Rattle.apl_print.specs.declared.reports.Report.{Report}
 use Rattle.apl_print.specs.declared.reports.Report.TheVariants.{WsFull}
-use Rattle.apl_syntax.specs.Reading.{Reading, character, blank, statement, syntax, limit, IsReading}
+use Rattle.apl_syntax.specs.declared.lines.Command.{Command}
+use Rattle.apl_syntax.specs.declared.lines.Command.TheVariants.{Off}
+use Rattle.apl_syntax.specs.Reading.{Reading, character, command, blank, statement, syntax, limit, IsReading}
 use Rattle.apl_eval.specs.Workspace.{WorkspaceValue}
 use Rattle.apl_eval.specs.Evaluates.{Evaluates, IsPrinted}
 use Rattle.apl_eval.specs.declared.statement.Shown.TheVariants.{Silent, Text}
@@ -21,7 +23,7 @@ use Rattle.apl_eval.specs.Meaning.{Outcome, done, failed, mean, is_assignment}
 use Rattle.apl_session.specs.Lines.{without_return}
 use Rattle.apl_session.specs.Run.{Answer, IsDeterministic, refused_step}
 use Rattle.apl_session.specs.LineAnswer.{IsLineAnswered, next_after}
-use Rattle.apl_session.specs.Step.{says, reports, Prints, IsStatementAnswer, IsAnswerTo, IsRefusable, session_semantics}
+use Rattle.apl_session.specs.Step.{says, reports, obeyed, Prints, IsStatementAnswer, IsAnswerTo, IsRefusable, session_semantics}
 use Rattle.apl_session.specs.Given.{IsLineStep, IsGiven}
 use Rattle.apl_session.specs.declared.interpreter.Next.{Next}
 use Rattle.apl_session.specs.declared.interpreter.Next.TheVariants.{Go, End}
@@ -38,7 +40,7 @@ module _ (shown_once : (a : ArrayValue) (width : ℕ) (s t : List ℕ) → IsSho
   one_done true v after one other h k = h ∙ sym k
   one_done false v after one other h k = one_print v after one other h k
 
-  one_statement : (line : List ℕ) (tree : Expr) (outcome : Outcome) (one other : Answer WorkspaceValue)
+  one_statement : (line : List ℕ) (tree : Expr) (outcome : Outcome ArrayValue) (one other : Answer WorkspaceValue)
       → IsStatementAnswer line tree outcome one → IsStatementAnswer line tree outcome other → one ≡ other
   one_statement line tree (done v after) one other h k = one_done (is_assignment tree) v after one other h k
   one_statement line tree (failed report column after) one other h k = h ∙ sym k
@@ -46,6 +48,7 @@ module _ (shown_once : (a : ArrayValue) (width : ℕ) (s t : List ℕ) → IsSho
   one_answer : (state : WorkspaceValue) (line : List ℕ) (r : Reading) (one other : Answer WorkspaceValue)
       → IsAnswerTo state line r one → IsAnswerTo state line r other → one ≡ other
   one_answer state line (character b c) one other h k = h ∙ sym k
+  one_answer state line (command given) one other h k = h ∙ sym k
   one_answer state line blank one other h k = h ∙ sym k
   one_answer state line (statement tree) one other h k = one_statement line tree (mean tree state) one other h k
   one_answer state line (syntax c) one other h k = h ∙ sym k
@@ -103,6 +106,18 @@ pub given_silent : (state now : WorkspaceValue) (line : List ℕ) (old : Option 
     → IsReading line reading → IsAnswerTo state line reading (says [] now) → IsGiven state now line old old (Ok Go)
 given_silent state now line old reading is answers = (says [] now, inl (reading, is, answers), refl, refl, Appends-nil old)
 
+-- the reply to a command, once its text was put
+pub given_reply : {T E : Type 0} (state now : WorkspaceValue) (line text : List ℕ) (old new : Option (List ℕ)) (given : Command) (put : Result T E) (r : Result Next RunFault)
+    → r ≡ next_after put → IsReading line (command given) → now ≡ (obeyed given state).after → (obeyed given state).ends ≡ false
+    → text ≡ (obeyed given state).text → Writes old new text put → IsGiven state now line old new r
+given_reply state now line text old new given put r e is after goes same written =
+    subst (λ (x : Result Next RunFault). IsGiven state now line old new x) (sym e)
+    (given_by_put state now line text old new (obeyed given state) put (inl (command given, is, refl)) after goes same written)
+
+-- the command that ends the run
+pub given_end : (state : WorkspaceValue) (line : List ℕ) (old : Option (List ℕ)) → IsReading line (command Off) → IsGiven state state line old old (Ok End)
+given_end state line old is = (obeyed Off state, inl (command Off, is, refl), refl, refl, Appends-nil old)
+
 -- the answers to a statement by its outcome
 module _ (state now : WorkspaceValue) (line : List ℕ) (ops : List Operation) (read : (tree : Expr) × IsReading line (statement tree) × (operations tree ≡ ops)) where
   -- an assignment writes nothing
@@ -112,7 +127,7 @@ module _ (state now : WorkspaceValue) (line : List ℕ) (ops : List Operation) (
       let answers : IsStatementAnswer line read.0 (done found.0 now) (says [] now) =
       subst (λ (b : Bool). MatchBool b (says [] now ≡ says [] now) (Prints found.0 now (says [] now))) (sym found.2) refl in
       given_silent state now line old (statement read.0) read.1
-      (subst (λ (o : Outcome). IsStatementAnswer line read.0 o (says [] now)) (sym found.1) answers)
+      (subst (λ (o : Outcome ArrayValue). IsStatementAnswer line read.0 o (says [] now)) (sym found.1) answers)
 
   -- another statement writes its value's text
   pub given_text : {T E : Type 0} (text : String Global) (old new : Option (List ℕ)) (put : Result T E) (r : Result Next RunFault)
@@ -126,7 +141,7 @@ module _ (state now : WorkspaceValue) (line : List ℕ) (ops : List Operation) (
       let answers : IsStatementAnswer line read.0 (done found.0 now) answer =
       subst (λ (b : Bool). MatchBool b (answer ≡ says [] now) (Prints found.0 now answer)) (sym found.2.0) prints in
       given_reading state line (string_bytes text) old new (statement read.0) answer put r e read.1
-      (subst (λ (o : Outcome). IsStatementAnswer line read.0 o answer) (sym found.1) answers) refl printed.2 written
+      (subst (λ (o : Outcome ArrayValue). IsStatementAnswer line read.0 o answer) (sym found.1) answers) refl printed.2 written
 
   -- a fault writes its report
   pub given_fault : {T E : Type 0} (report : Report) (column : ℕ) (old new : Option (List ℕ)) (put : Result T E) (r : Result Next RunFault)
@@ -134,7 +149,7 @@ module _ (state now : WorkspaceValue) (line : List ℕ) (ops : List Operation) (
       → Writes old new (reported report line (Some column)) put → IsGiven state now line old new r
   given_fault report column old new put r evaluates e written =
       given_reading state line (reported report line (Some column)) old new (statement read.0) (reports report line column now) put r e read.1
-      (subst (λ (o : Outcome). IsStatementAnswer line read.0 o (reports report line column now)) (sym (evaluates read.0 read.2)) refl) refl refl written
+      (subst (λ (o : Outcome ArrayValue). IsStatementAnswer line read.0 o (reports report line column now)) (sym (evaluates read.0 read.2)) refl) refl refl written
 
   -- a statement that is refused for want of memory leaves the workspace
   pub given_unchanged : {T E : Type 0} (old new : Option (List ℕ)) (put : Result T E) (r : Result Next RunFault)

@@ -1,13 +1,19 @@
 -- The step of a line: what is written for it, the workspace after it, and whether the run ends with it.
-use Rattle.std.specs.Prelude.{◌≡◌, ℕ, false, MatchBool, List, [], Some, take, encode_utf8_all}
+use Rattle.std.specs.Prelude.{◌≡◌, ℕ, true, false, MatchBool, List, [], Some, take, encode_utf8_all}
 use Rattle.apl_grammar.specs.Tree.{Expr}
-use Rattle.apl_syntax.specs.Reading.{Reading, character, blank, statement, syntax, limit, IsReading, IsListed}
+use Rattle.apl_syntax.specs.declared.lines.Command.{Command}
+use Rattle.apl_syntax.specs.declared.lines.Command.TheVariants.{Origin, Width, Clear, Off, Incorrect}
+use Rattle.apl_syntax.specs.Reading.{Reading, character, command, blank, statement, syntax, limit, IsReading, IsListed}
 use Rattle.apl_print.specs.Reported.{reported}
+use Rattle.apl_print.specs.Replied.{replied}
+use Rattle.apl_print.specs.declared.replies.Reply.{Reply}
+use Rattle.apl_print.specs.declared.replies.Reply.TheVariants as reply
 use Rattle.apl_print.specs.declared.reports.Report.{Report}
 use Rattle.apl_print.specs.declared.reports.Report.TheVariants.{Syntax, Limit, Character}
 use Rattle.apl_print.specs.Shown.{IsShown}
 use Rattle.apl_array.specs.Array.{ArrayValue}
-use Rattle.apl_eval.specs.Workspace.{WorkspaceValue}
+use Rattle.apl_array.specs.Axes.{origin_number}
+use Rattle.apl_eval.specs.Workspace.{WorkspaceValue, with_origin, with_width, opening_workspace}
 use Rattle.apl_eval.specs.Meaning.{Outcome, done, failed, mean, is_assignment}
 use Rattle.apl_session.specs.Run.{Answer, Semantics}
 
@@ -24,14 +30,27 @@ abbrev pub Prints : ArrayValue → WorkspaceValue → Answer WorkspaceValue → 
 Prints value workspace answer =
     (characters : List ℕ) × IsShown value workspace.width characters × (answer ≡ says (encode_utf8_all characters) workspace)
 
+-- the answer to a command is a reply
+abbrev pub replies : Reply → WorkspaceValue → Answer WorkspaceValue
+replies reply workspace = says (replied reply) workspace
+
+-- A command's answer: a setting is told as it was and changed, the workspace is made as it was at first, or the run ends.
+abbrev pub obeyed : Command → WorkspaceValue → Answer WorkspaceValue
+obeyed (Origin origin) workspace = replies (reply.Was (origin_number workspace.origin)) (with_origin origin workspace)
+obeyed (Width width) workspace = replies (reply.Was workspace.width) (with_width width workspace)
+obeyed Clear workspace = replies reply.Clear opening_workspace
+obeyed Off workspace = record { text = []; after = workspace; ends = true }
+obeyed Incorrect workspace = replies reply.Incorrect workspace
+
 -- A statement's answer: an assignment writes nothing, another statement its value's text; a fault is reported.
-abbrev pub IsStatementAnswer : List ℕ → Expr → Outcome → Answer WorkspaceValue → Type 0
+abbrev pub IsStatementAnswer : List ℕ → Expr → Outcome ArrayValue → Answer WorkspaceValue → Type 0
 IsStatementAnswer line tree (done value after) answer = MatchBool (is_assignment tree) (answer ≡ says [] after) (Prints value after answer)
 IsStatementAnswer line tree (failed report column after) answer = answer ≡ reports report line column after
 
 -- the answer to a line that reads so
 abbrev pub IsAnswerTo : WorkspaceValue → List ℕ → Reading → Answer WorkspaceValue → Type 0
 IsAnswerTo workspace line blank answer = answer ≡ says [] workspace
+IsAnswerTo workspace line (command given) answer = answer ≡ obeyed given workspace
 IsAnswerTo workspace line (statement tree) answer = IsStatementAnswer line tree (mean tree workspace) answer
 IsAnswerTo workspace line (character bytes column) answer = answer ≡ reports Character (take bytes line) column workspace
 IsAnswerTo workspace line (syntax column) answer = answer ≡ reports Syntax line column workspace

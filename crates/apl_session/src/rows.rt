@@ -1,8 +1,12 @@
 //! Whole sessions, and what they write.
+mod tables;
+
 use crate::{MemorySource, Next, RunFault, Session, ending, run};
 use apl_print::MemorySink;
 use std::alloc::{AllocError, Global};
+use std::process::Abort;
 use std::test::Fail;
+use tables::{CARETS, COMMANDS, FORMS_TO_COME, LINES, NUMERALS, TEXTS, UNLISTED, VALUES};
 
 /// Whether a session writes exactly this, by takes and puts of at most so many bytes.
 fn writes(alloc: Global, session: &[u8], most: usize, text: &[u8]) -> Result<bool, AllocError> {
@@ -15,185 +19,115 @@ fn writes(alloc: Global, session: &[u8], most: usize, text: &[u8]) -> Result<boo
 /// Takes and puts of single bytes, of a few, and of as many as there are.
 const SIZES: [usize; 3] = [1, 7, 1 << 20];
 
-#[test]
-fn values_names_and_functions(rt: HostRuntime) -> Result<(), Fail> {
-    let alloc = rt.alloc();
+/// Checks what each session of a table writes.
+fn check(rt: &impl Abort, alloc: Global, sessions: &[(&str, &str)]) -> Result<(), AllocError> {
     for most in SIZES {
-        for (session, text) in [
-            ("10-4-3\n", "9\n"),
-            ("2+3 4 5\n", "5 6 7\n"),
-            ("10-4-3\n2+3 4 5\n", "9\n5 6 7\n"),
-            ("A+A←3\nA\n", "6\n3\n"),
-            ("¯5-3\n", "¯8\n"),
-            ("1 2+1 2 3\n", "LENGTH ERROR\n      1 2+1 2 3\n         ∧\n"),
-            ("B\n", "VALUE ERROR\n      B\n      ∧\n"),
-            ("1 2+3 4\n", "4 6\n"),
-        ] {
-            assert!(rt;
-                writes(alloc, session.as_bytes(), most, text.as_bytes())?,
-                "{session}"
-            );
+        for (session, text) in sessions {
+            let is_written = writes(alloc, session.as_bytes(), most, text.as_bytes())?;
+            assert!(rt; is_written, "{session}");
         }
     }
     Ok(())
 }
 
 #[test]
-fn ends_of_lines(rt: HostRuntime) -> Result<(), Fail> {
-    let alloc = rt.alloc();
-    for most in SIZES {
-        for (session, text) in [
-            ("", ""),
-            ("\n", ""),
-            ("1\r\n", "1\n"),
-            ("1\r", "1\n"),
-            ("\r", ""),
-            ("1", "1\n"),
-        ] {
-            assert!(rt;
-                writes(alloc, session.as_bytes(), most, text.as_bytes())?,
-                "{session}"
-            );
-        }
-    }
-    Ok(())
+fn values_names_and_functions(rt: HostRuntime) -> Result<(), Fail> {
+    Ok(check(&rt, rt.alloc(), &VALUES)?)
+}
+
+#[test]
+fn lines_and_comments(rt: HostRuntime) -> Result<(), Fail> {
+    Ok(check(&rt, rt.alloc(), &LINES)?)
 }
 
 #[test]
 fn numerals_and_the_range(rt: HostRuntime) -> Result<(), Fail> {
-    let alloc = rt.alloc();
-    for most in SIZES {
-        for (session, text) in [
-            (
-                "9223372036854775808\n",
-                "LIMIT ERROR\n      9223372036854775808\n      ∧\n",
-            ),
-            (
-                "9223372036854775807+1\n",
-                "LIMIT ERROR\n      9223372036854775807+1\n                         ∧\n",
-            ),
-            ("1 2 ¯\n", "SYNTAX ERROR\n      1 2 ¯\n          ∧\n"),
-            ("¯¯1\n", "SYNTAX ERROR\n      ¯¯1\n      ∧\n"),
-            ("1¯\n", "SYNTAX ERROR\n      1¯\n       ∧\n"),
-            (
-                "1 2 9223372036854775808\n",
-                "LIMIT ERROR\n      1 2 9223372036854775808\n          ∧\n",
-            ),
-            (
-                "1 ¯9223372036854775809\n",
-                "LIMIT ERROR\n      1 ¯9223372036854775809\n        ∧\n",
-            ),
-            ("¯9223372036854775808\n", "¯9223372036854775808\n"),
-            ("000000000000000000000000000007 ¯0\n", "7 0\n"),
-            ("++ 1_\n", "SYNTAX ERROR\n      ++ 1_\n          ∧\n"),
-            (
-                "1 9223372036854775808 ¯\n",
-                "LIMIT ERROR\n      1 9223372036854775808 ¯\n        ∧\n",
-            ),
-        ] {
-            assert!(rt;
-                writes(alloc, session.as_bytes(), most, text.as_bytes())?,
-                "{session}"
-            );
-        }
-    }
-    Ok(())
+    Ok(check(&rt, rt.alloc(), &NUMERALS)?)
 }
 
 #[test]
-fn carets_of_grammar_faults(rt: HostRuntime) -> Result<(), Fail> {
-    let alloc = rt.alloc();
-    for most in SIZES {
-        for (session, text) in [
-            ("3+\n", "SYNTAX ERROR\n      3+\n       ∧\n"),
-            ("+3\n", "SYNTAX ERROR\n      +3\n      ∧\n"),
-            ("1+1\n2+", "2\nSYNTAX ERROR\n      2+\n       ∧\n"),
-            ("1¯2\n", "SYNTAX ERROR\n      1¯2\n      ∧\n"),
-            ("1 2¯3 4\n", "SYNTAX ERROR\n      1 2¯3 4\n      ∧\n"),
-            ("2+1¯2\n", "SYNTAX ERROR\n      2+1¯2\n        ∧\n"),
-            ("1A\n", "SYNTAX ERROR\n      1A\n      ∧\n"),
-            ("A¯1\n", "SYNTAX ERROR\n      A¯1\n      ∧\n"),
-        ] {
-            assert!(rt;
-                writes(alloc, session.as_bytes(), most, text.as_bytes())?,
-                "{session}"
-            );
-        }
-    }
-    Ok(())
+fn text_constants(rt: HostRuntime) -> Result<(), Fail> {
+    Ok(check(&rt, rt.alloc(), &TEXTS)?)
+}
+
+#[test]
+fn lines_that_are_no_statement(rt: HostRuntime) -> Result<(), Fail> {
+    Ok(check(&rt, rt.alloc(), &CARETS)?)
+}
+
+#[test]
+fn forms_that_are_not_evaluated_yet(rt: HostRuntime) -> Result<(), Fail> {
+    Ok(check(&rt, rt.alloc(), &FORMS_TO_COME)?)
+}
+
+#[test]
+fn commands(rt: HostRuntime) -> Result<(), Fail> {
+    Ok(check(&rt, rt.alloc(), &COMMANDS)?)
 }
 
 #[test]
 fn an_unlisted_symbol_is_judged_before_all_else(rt: HostRuntime) -> Result<(), Fail> {
     let alloc = rt.alloc();
+    check(&rt, alloc, &UNLISTED)?;
     for most in SIZES {
         for (session, text) in [
-            ("2○3\n", "CHARACTER ERROR\n      2\n       ∧\n"),
             (
-                "2○3\n2+3 4 5\n",
-                "CHARACTER ERROR\n      2\n       ∧\n5 6 7\n",
+                b"A\xff\n".as_slice(),
+                "CHARACTER ERROR\n      A\n       ∧\n",
             ),
-            ("\u{feff}\n", "CHARACTER ERROR\n      \n      ∧\n"),
-            ("1\t2\n", "CHARACTER ERROR\n      1\n       ∧\n"),
-            ("1\r\r\n", "CHARACTER ERROR\n      1\n       ∧\n"),
-            ("1+(2)\n", "CHARACTER ERROR\n      1+\n        ∧\n"),
-            (")OFF\n", "CHARACTER ERROR\n      \n      ∧\n"),
-            ("¯¯'\n", "CHARACTER ERROR\n      ¯¯\n        ∧\n"),
+            (b"1+\xe2\x8d\n", "CHARACTER ERROR\n      1+\n        ∧\n"),
+            (b"\xc0\x80\n", "CHARACTER ERROR\n      \n      ∧\n"),
+            (b"\xed\xa0\x80\n", "CHARACTER ERROR\n      \n      ∧\n"),
         ] {
-            assert!(rt;
-                writes(alloc, session.as_bytes(), most, text.as_bytes())?,
-                "{session}"
-            );
+            assert!(rt; writes(alloc, session, most, text.as_bytes())?);
         }
-        assert!(rt;
-            writes(
-                alloc,
-                b"A\xff\n",
-                most,
-                b"CHARACTER ERROR\n      A\n       \xe2\x88\xa7\n"
-            )?
-        );
-        assert!(rt;
-            writes(
-                alloc,
-                b"1+\xe2\x8d\n",
-                most,
-                b"CHARACTER ERROR\n      1+\n        \xe2\x88\xa7\n"
-            )?
-        );
-        assert!(rt;
-            writes(
-                alloc,
-                b"\xc0\x80\n",
-                most,
-                b"CHARACTER ERROR\n      \n      \xe2\x88\xa7\n"
-            )?
-        );
-        assert!(rt;
-            writes(
-                alloc,
-                b"\xed\xa0\x80\n",
-                most,
-                b"CHARACTER ERROR\n      \n      \xe2\x88\xa7\n"
-            )?
-        );
     }
     Ok(())
 }
 
+/// A report of three lines, with the caret at a column.
+fn report(alloc: Global, name: &str, line: &[u8], column: usize) -> Result<Vec<u8>, AllocError> {
+    let mut text = Vec::new(alloc);
+    text.extend_from_slice(name.as_bytes())?;
+    text.extend_from_slice(b" ERROR\n      ")?;
+    text.extend_from_slice(line)?;
+    text.extend_from_slice(b"\n      ")?;
+    for _ in 0..column {
+        text.push(b' ')?;
+    }
+    text.extend_from_slice("∧\n".as_bytes())?;
+    Ok(text)
+}
+
+/// How many brackets or digits a long line has.
+const MANY: usize = 10_000;
+
 #[test]
 fn long_lines(rt: HostRuntime) -> Result<(), Fail> {
     let alloc = rt.alloc();
-    let mut digits = Vec::new(alloc);
-    digits.extend_from_slice(&[b'9'; 1000])?;
-    let mut report = Vec::new(alloc);
-    report.extend_from_slice(b"LIMIT ERROR\n      ")?;
-    report.extend_from_slice(digits.as_slice())?;
-    report.extend_from_slice("\n      ∧\n".as_bytes())?;
-    assert!(rt; writes(alloc, digits.as_slice(), 7, report.as_slice())?);
+    let digits = vec![in alloc; b'9'; 1000]?;
+    let limit = report(alloc, "LIMIT", digits.as_slice(), 0)?;
+    assert!(rt; writes(alloc, digits.as_slice(), 7, limit.as_slice())?);
     let unlisted = vec![in alloc; 0xe2; 100_000]?;
-    let report = "CHARACTER ERROR\n      \n      ∧\n".as_bytes();
-    assert!(rt; writes(alloc, unlisted.as_slice(), 1 << 20, report)?);
+    let character = report(alloc, "CHARACTER", b"", 0)?;
+    assert!(rt; writes(alloc, unlisted.as_slice(), 1 << 20, character.as_slice())?);
+    Ok(())
+}
+
+#[test]
+fn many_parentheses(rt: HostRuntime) -> Result<(), Fail> {
+    let alloc = rt.alloc();
+    let mut opened = vec![in alloc; b'('; MANY]?;
+    opened.push(b'1')?;
+    let unclosed = report(alloc, "SYNTAX", opened.as_slice(), MANY - 1)?;
+    assert!(rt; writes(alloc, opened.as_slice(), 1 << 20, unclosed.as_slice())?);
+    let closing = vec![in alloc; b')'; MANY]?;
+    opened.extend_from_slice(closing.as_slice())?;
+    assert!(rt; writes(alloc, opened.as_slice(), 1 << 20, b"1\n")?);
+    let mut closed = vec![in alloc; b'1'; 1]?;
+    closed.extend_from_slice(closing.as_slice())?;
+    let unopened = report(alloc, "SYNTAX", closed.as_slice(), 0)?;
+    assert!(rt; writes(alloc, closed.as_slice(), 1 << 20, unopened.as_slice())?);
     Ok(())
 }
 

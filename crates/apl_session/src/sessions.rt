@@ -2,7 +2,9 @@
 ghost use Rattle.std.specs.Prelude.{◌≡◌, ℕ, List};
 ghost use Rattle.apl_print.specs.Failures.{CountsFailure};
 ghost use Rattle.apl_grammar.specs.Tree.{Expr, operations};
-ghost use Rattle.apl_syntax.specs.Reading.{statement, IsReading};
+ghost use Rattle.apl_array.specs.Axes.{origin_number};
+ghost use Rattle.apl_print.specs.declared.replies.Reply.TheVariants.{Was};
+ghost use Rattle.apl_syntax.specs.Reading.{command as command_reading, statement, IsReading};
 ghost use Rattle.apl_eval.specs.Workspace.{opening_workspace};
 ghost use Rattle.apl_session.specs.Lines.{IsUnbroken};
 ghost use Rattle.apl_session.specs.LineAnswer.{IsLineAnswered, next_after};
@@ -11,10 +13,13 @@ ghost use Rattle.apl_session.specs.Given.{IsGiven};
 
 use super::interpreter::{Next, RunFault};
 use super::lines::trim_return;
+use apl_array::Origin;
 use apl_eval::{EvalStop, Shown, Workspace, eval};
 use apl_grammar::Program;
-use apl_print::{Report, Sink, SinkFault, put_all, report as put_report};
-use apl_syntax::{Line, ReadStop, read};
+use apl_print::{
+    Reply, Report, Sink, SinkFault, put_all, reply as put_reply, report as put_report,
+};
+use apl_syntax::{Command, Line, ReadStop, read};
 use std::alloc::Global;
 use std::marker::Model;
 
@@ -73,6 +78,7 @@ fn answer<S: Sink>(
 {
     match read(alloc, line) {
         Ok(Line::Blank) => Ok(Next::Go),
+        Ok(Line::Command(command)) => obey(workspace, command, line, sink),
         Ok(Line::Statement(program)) => answer_statement(workspace, alloc, &program, line, sink),
         Err(ReadStop::Character { bytes, column }) => {
             go_on(put_report(sink, Report::Character, &line[..bytes], Some(column)))
@@ -90,6 +96,47 @@ fn answer<S: Sink>(
             Some(column),
         )),
         Err(ReadStop::Memory) => go_on(put_report(sink, Report::WsFull, line, None)),
+    }
+}
+
+/// Answers a line that is this command.
+fn obey<S: Sink>(
+    workspace: &mut Workspace,
+    command: Command,
+    line: &[u8],
+    sink: &mut S,
+) -> Result<Next, RunFault>
+    requires { IsReading line.now (command_reading command) }
+    ensures given { IsGiven workspace.old workspace.new line.now (S.taken sink.old) (S.taken sink.new) result }
+    ensures failures { CountsFailure (S.failures sink.old) (S.failures sink.new) result }
+{
+    match command {
+        Command::Origin(origin) => {
+            let was = origin_reply(workspace.origin());
+            workspace.set_origin(origin);
+            go_on(put_reply(sink, was))
+        }
+        Command::Width(width) => {
+            let was = Reply::Was(workspace.width());
+            workspace.set_width(width);
+            go_on(put_reply(sink, was))
+        }
+        Command::Clear => {
+            workspace.clear();
+            go_on(put_reply(sink, Reply::Clear))
+        }
+        Command::Off => Ok(Next::End),
+        Command::Incorrect => go_on(put_reply(sink, Reply::Incorrect)),
+    }
+}
+
+/// The reply that tells an origin.
+fn origin_reply(origin: Origin) -> Reply
+    ensures { result ≡ Was (origin_number origin) }
+{
+    match origin {
+        Origin::Zero => Reply::Was(0),
+        Origin::One => Reply::Was(1),
     }
 }
 

@@ -1,12 +1,17 @@
 -- A line reads in one way at most.
-use Rattle.std.proofs.Common.{◌≡◌, ◌⊎◌, [], List, refl, sym, ◌∙◌, ap, subst, inl, inr, length}
+use Rattle.std.proofs.Common.{◌≡◌, ◌⊎◌, [], ◌∷◌, ◌++◌, List, refl, sym, ◌∙◌, ap, subst, inl, inr, length}
 use Rattle.std.specs.Prelude.{ℕ, encode_utf8_all}
 use Rattle.apl_tokens.specs.declared.token.Token.{Token}
 use Rattle.apl_tokens.specs.Fronts.{IsFront}
 use Rattle.apl_tokens.specs.Lexis.{Lexes, HasLexicalFault, HasLimitFault}
-use Rattle.apl_grammar.specs.Tree.{Expr, value, dyadic, assign, IsTree, spells}
+use Rattle.apl_grammar.specs.declared.program.Form.{Form}
+use Rattle.apl_grammar.specs.declared.program.Form.TheVariants.{Plain, Reduce, Inner, Outer}
+use Rattle.apl_grammar.specs.Tree.{Expr, Operand, Axis, value, dyadic, monadic, assign, assign_at, constant, name, group, index, IsTree, spells, spells_operand, spells_form, spells_axis}
 use Rattle.apl_grammar.specs.Caret.{IsCaret, HasNoTree}
-use Rattle.apl_syntax.specs.Reading.{Reading, character, blank, statement, syntax, limit, HasSyntaxFault, IsListedReading, HasUnlisted, IsListed, IsReading}
+use Rattle.apl_syntax.specs.declared.lines.Command.{Command}
+use Rattle.apl_syntax.specs.Commands.{IsCommandLine, IsCommand}
+use Rattle.apl_syntax.specs.Reading.{Reading, character, command, blank, statement, syntax, limit, HasSyntaxFault, IsTokensReading, IsListedReading, HasUnlisted, IsListed, IsReading}
+use Rattle.apl_syntax.proofs.Spelled.{one_command, command_line_of}
 
 -- the laws of the crates below
 pub record Laws : Type 0 where
@@ -20,11 +25,29 @@ pub record Laws : Type 0 where
   pub trees : (e f : Expr) → IsTree e → IsTree f → spells e ≡ spells f → e ≡ f
   pub carets : (tokens : List Token) (column other : ℕ) → IsCaret tokens column → IsCaret tokens other → column ≡ other
 
+not_empty : (ts us : List Token) (t : Token) → [] ≡ ts ++ t ∷ us → ⊥
+not_empty [] us t h = absurd cc
+not_empty (s ∷ ts) us t h = absurd cc
+
+operand_some : (o : Operand) → [] ≡ spells_operand o → ⊥
+operand_some (constant c v) h = absurd cc
+operand_some (name c n) h = absurd cc
+operand_some (group l e r) h = absurd cc
+operand_some (index o l s r) h = not_empty (spells_operand o) _ _ h
+
+form_some : (ts us : List Token) (f : Form) → [] ≡ ts ++ (spells_form f ++ us) → ⊥
+form_some ts us (Plain c g) h = not_empty ts _ _ h
+form_some ts us (Reduce c f s g) h = not_empty ts _ _ h
+form_some ts us (Inner c f d e g) h = not_empty ts _ _ h
+form_some ts us (Outer j d c g) h = not_empty ts _ _ h
+
 -- a tree spells some token
 spells_some : (e : Expr) → [] ≡ spells e → ⊥
-spells_some (value o) h = absurd cc
-spells_some (dyadic o c f e) h = absurd cc
+spells_some (value o) h = operand_some o h
+spells_some (dyadic o f a e) h = form_some (spells_operand o) (spells_axis a ++ spells e) f h
+spells_some (monadic f a e) h = form_some [] (spells_axis a ++ spells e) f h
 spells_some (assign c n a e) h = absurd cc
+spells_some (assign_at c n l s r a e) h = absurd cc
 
 module _ (laws : Laws) (cs : List ℕ) where
   -- a blank line has no syntax fault, and a statement none
@@ -53,28 +76,54 @@ module _ (laws : Laws) (cs : List ℕ) where
   fault_or_limit column other (inl fault) beyond = laws.faulty_or_limited cs column other fault beyond
   fault_or_limit column other (inr (ts, lexed, caret, none)) beyond = laws.lexed_or_limited cs ts other lexed beyond
 
+  one_of_tokens : (r s : Reading) → IsTokensReading cs r → IsTokensReading cs s → r ≡ s
+  one_of_tokens (character b c) s h k = absurd h
+  one_of_tokens (command x) s h k = absurd h
+  one_of_tokens blank (character b c) h k = absurd k
+  one_of_tokens blank (command x) h k = absurd k
+  one_of_tokens blank blank h k = refl
+  one_of_tokens blank (statement e) h k = absurd (spells_some e (laws.lexings cs [] (spells e) h k.0))
+  one_of_tokens blank (syntax c) h k = absurd (blank_or_fault c h k)
+  one_of_tokens blank (limit c) h k = absurd (laws.lexed_or_limited cs [] c h k)
+  one_of_tokens (statement e) (character b c) h k = absurd k
+  one_of_tokens (statement e) (command x) h k = absurd k
+  one_of_tokens (statement e) blank h k = absurd (spells_some e (laws.lexings cs [] (spells e) k h.0))
+  one_of_tokens (statement e) (statement f) h k = ap statement (laws.trees e f h.1 k.1 (laws.lexings cs (spells e) (spells f) h.0 k.0))
+  one_of_tokens (statement e) (syntax c) h k = absurd (statement_or_fault e c h.0 h.1 k)
+  one_of_tokens (statement e) (limit c) h k = absurd (laws.lexed_or_limited cs (spells e) c h.0 k)
+  one_of_tokens (syntax c) (character b d) h k = absurd k
+  one_of_tokens (syntax c) (command x) h k = absurd k
+  one_of_tokens (syntax c) blank h k = absurd (blank_or_fault c k h)
+  one_of_tokens (syntax c) (statement e) h k = absurd (statement_or_fault e c k.0 k.1 h)
+  one_of_tokens (syntax c) (syntax d) h k = ap syntax (one_fault c d h k)
+  one_of_tokens (syntax c) (limit d) h k = absurd (fault_or_limit c d h k)
+  one_of_tokens (limit c) (character b d) h k = absurd k
+  one_of_tokens (limit c) (command x) h k = absurd k
+  one_of_tokens (limit c) blank h k = absurd (laws.lexed_or_limited cs [] c k h)
+  one_of_tokens (limit c) (statement e) h k = absurd (laws.lexed_or_limited cs (spells e) c k.0 h)
+  one_of_tokens (limit c) (syntax d) h k = absurd (fault_or_limit d c k h)
+  one_of_tokens (limit c) (limit d) h k = ap limit (laws.limits cs c d h k)
+
+  -- listed characters are a command, or tokens
+  abbrev ListedParts : Reading → Type 0
+  ListedParts r = ((c : Command) × (r ≡ command c) × IsCommand cs c) ⊎ ((IsCommandLine cs → ⊥) × IsTokensReading cs r)
+
+  listed_parts : (r : Reading) → IsListedReading cs r → ListedParts r
+  listed_parts (command c) h = inl (c, refl, h)
+  listed_parts (character b c) h = inr h
+  listed_parts blank h = inr h
+  listed_parts (statement e) h = inr h
+  listed_parts (syntax c) h = inr h
+  listed_parts (limit c) h = inr h
+
+  one_of_listed_parts : (r s : Reading) → ListedParts r → ListedParts s → r ≡ s
+  one_of_listed_parts r s (inl (c, is, h)) (inl (d, other_is, k)) = is ∙ ap command (one_command cs c d h k) ∙ sym other_is
+  one_of_listed_parts r s (inl (c, is, h)) (inr (not, k)) = absurd (not (command_line_of cs c h))
+  one_of_listed_parts r s (inr (not, h)) (inl (d, is, k)) = absurd (not (command_line_of cs d k))
+  one_of_listed_parts r s (inr (not, h)) (inr (other_not, k)) = one_of_tokens r s h k
+
   one_listed : (r s : Reading) → IsListedReading cs r → IsListedReading cs s → r ≡ s
-  one_listed (character b c) s h k = absurd h
-  one_listed blank (character b c) h k = absurd k
-  one_listed blank blank h k = refl
-  one_listed blank (statement e) h k = absurd (spells_some e (laws.lexings cs [] (spells e) h k.0))
-  one_listed blank (syntax c) h k = absurd (blank_or_fault c h k)
-  one_listed blank (limit c) h k = absurd (laws.lexed_or_limited cs [] c h k)
-  one_listed (statement e) (character b c) h k = absurd k
-  one_listed (statement e) blank h k = absurd (spells_some e (laws.lexings cs [] (spells e) k h.0))
-  one_listed (statement e) (statement f) h k = ap statement (laws.trees e f h.1 k.1 (laws.lexings cs (spells e) (spells f) h.0 k.0))
-  one_listed (statement e) (syntax c) h k = absurd (statement_or_fault e c h.0 h.1 k)
-  one_listed (statement e) (limit c) h k = absurd (laws.lexed_or_limited cs (spells e) c h.0 k)
-  one_listed (syntax c) (character b d) h k = absurd k
-  one_listed (syntax c) blank h k = absurd (blank_or_fault c k h)
-  one_listed (syntax c) (statement e) h k = absurd (statement_or_fault e c k.0 k.1 h)
-  one_listed (syntax c) (syntax d) h k = ap syntax (one_fault c d h k)
-  one_listed (syntax c) (limit d) h k = absurd (fault_or_limit c d h k)
-  one_listed (limit c) (character b d) h k = absurd k
-  one_listed (limit c) blank h k = absurd (laws.lexed_or_limited cs [] c k h)
-  one_listed (limit c) (statement e) h k = absurd (laws.lexed_or_limited cs (spells e) c k.0 h)
-  one_listed (limit c) (syntax d) h k = absurd (fault_or_limit d c k h)
-  one_listed (limit c) (limit d) h k = ap limit (laws.limits cs c d h k)
+  one_listed r s h k = one_of_listed_parts r s (listed_parts r h) (listed_parts s k)
 
 -- a reading is of an unlisted symbol, or of listed characters
 abbrev Parts : List ℕ → Reading → Type 0
@@ -82,6 +131,7 @@ Parts line r = ((b c : ℕ) × (r ≡ character b c) × HasUnlisted line b c) �
 
 parts : (line : List ℕ) (r : Reading) → IsReading line r → Parts line r
 parts line (character b c) h = inl (b, c, refl, h)
+parts line (command c) h = inr h
 parts line blank h = inr h
 parts line (statement e) h = inr h
 parts line (syntax c) h = inr h

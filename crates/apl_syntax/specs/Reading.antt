@@ -5,10 +5,13 @@ use Rattle.apl_tokens.specs.Fronts.{IsFront}
 use Rattle.apl_tokens.specs.Lexis.{Lexes, HasLexicalFault, HasLimitFault}
 use Rattle.apl_grammar.specs.Tree.{Expr, IsTree, spells}
 use Rattle.apl_grammar.specs.Caret.{IsCaret, HasNoTree}
+use Rattle.apl_syntax.specs.Commands.{IsCommandLine, IsCommand}
+use Rattle.apl_syntax.specs.declared.lines.Command.{Command}
 
 pub data Reading : Type 0 where
   -- a symbol is not listed: the front of the line has so many bytes, and as many characters as the column says
   character : (bytes column : ℕ) → Reading
+  command : Command → Reading
   -- no token
   blank : Reading
   statement : Expr → Reading
@@ -21,13 +24,19 @@ HasSyntaxFault characters column =
     HasLexicalFault characters column
     ⊎ ((tokens : List Token) × Lexes characters tokens × IsCaret tokens column × HasNoTree tokens)
 
--- how a line of these listed characters reads
+-- how the tokens of these listed characters read
+abbrev pub IsTokensReading : List ℕ → Reading → Type 0
+IsTokensReading characters (character bytes column) = ⊥
+IsTokensReading characters (command is) = ⊥
+IsTokensReading characters blank = Lexes characters []
+IsTokensReading characters (statement tree) = Lexes characters (spells tree) × IsTree tree
+IsTokensReading characters (syntax column) = HasSyntaxFault characters column
+IsTokensReading characters (limit column) = HasLimitFault characters column
+
+-- how a line of these listed characters reads: a command line has no tokens
 abbrev pub IsListedReading : List ℕ → Reading → Type 0
-IsListedReading characters (character bytes column) = ⊥
-IsListedReading characters blank = Lexes characters []
-IsListedReading characters (statement tree) = Lexes characters (spells tree) × IsTree tree
-IsListedReading characters (syntax column) = HasSyntaxFault characters column
-IsListedReading characters (limit column) = HasLimitFault characters column
+IsListedReading characters (command is) = IsCommand characters is
+IsListedReading characters reading = (IsCommandLine characters → ⊥) × IsTokensReading characters reading
 
 -- the front of the line is not the whole line, and has so many bytes and characters
 abbrev pub HasUnlisted : List ℕ → ℕ → ℕ → Type 0

@@ -1,11 +1,12 @@
 //! Lines of a session, read.
 #![tactic(auto)]
 
+mod commands;
 mod lines;
 mod reader;
 
-pub use lines::{Line, ReadStop};
-pub use reader::{one_reading, read};
+pub use lines::{Command, Line, ReadStop};
+pub use reader::{one_reading, read, some_reading};
 
 #[cfg(test)]
 mod tests;

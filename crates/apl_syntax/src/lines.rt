@@ -1,12 +1,30 @@
 //! What a line is, and why it can't be read.
 
+use apl_array::Origin;
 use apl_grammar::Program;
+
+/// A command of the session.
+#[derive(Clone, Copy, Debug, PartialEq, Eq, Drop)]
+pub enum Command {
+    /// `)ORIGIN`, with 0 or 1.
+    Origin(Origin),
+    /// `)WIDTH`, with 30 to 130 characters.
+    Width(u8),
+    /// `)CLEAR`
+    Clear,
+    /// `)OFF`
+    Off,
+    /// Anything else behind `)`.
+    Incorrect,
+}
 
 /// What a line is.
 #[derive(Drop)]
 pub enum Line {
     /// The line has no token.
     Blank,
+    /// The first symbol of the line after blanks is `)`.
+    Command(Command),
     Statement(Program),
 }
 

@@ -4,12 +4,16 @@ ghost use Rattle.apl_syntax.specs.Reading.{Reading, IsReading};
 ghost use Rattle.apl_syntax.specs.Answers.{IsLineOf, IsReadStopOf};
 ghost use Rattle.apl_syntax.specs.Parses.{IsParsedLine, IsParseStop};
 
+use super::commands::command;
 use super::lines::{Line, ReadStop};
-use apl_grammar::{GrammarStop, one_caret, one_tree, program_of};
-use apl_tokens::{FrontStop, LexicalStop, Token, front, front_is_unique, lexing_is_unique, tokens};
+use apl_grammar::{GrammarStop, one_caret, one_tree, program_of, tree_or_caret};
+use apl_tokens::{
+    FrontStop, LexicalStop, Token, front, front_is_total, front_is_unique, lexing_is_total,
+    lexing_is_unique, tokens,
+};
 use std::alloc::Global;
 
-/// Reads a line. An unlisted symbol is found before all else, and without memory.
+/// Reads a line. An unlisted symbol is found before all else, and without memory; then a command.
 pub fn read(alloc: Global, line: &[u8]) -> Result<Line, ReadStop>
     ensures line { IfOk result (IsLineOf line.now) }
     ensures stop { IfErr result (IsReadStopOf line.now) }
@@ -21,6 +25,9 @@ pub fn read(alloc: Global, line: &[u8]) -> Result<Line, ReadStop>
         }
         Err(FrontStop::Memory) => return Err(ReadStop::Memory),
     };
+    if let Some(command) = command(characters.as_slice()) {
+        return Ok(Line::Command(command));
+    }
     one_reading();
     match tokens(alloc, characters.as_slice()) {
         Ok(tokens) => parsed(alloc, tokens),
@@ -53,4 +60,13 @@ pub fn one_reading()
     lexing_is_unique();
     one_tree();
     one_caret();
+}
+
+/// Each line reads in some way.
+pub fn some_reading()
+    ensures { (line : List ℕ) → (reading : Reading) × IsReading line reading }
+{
+    front_is_total();
+    lexing_is_total();
+    tree_or_caret();
 }

@@ -57,14 +57,17 @@ lexeme_in (row ∷ rows) c = if c == row.0 then Some row.1 else lexeme_in rows c
 abbrev pub symbol_lexeme : ℕ → Option Lexeme
 symbol_lexeme c = lexeme_in symbol_lexemes c
 
--- the listed symbols that are not ASCII: ¯ × ←
+-- the listed symbols that are not ASCII: ¯ × ÷ ← ↑ ↓ ∆ ∊ ∘ ∧ ∨ ≠ ≤ ≥ ⊖ ⊤ ⊥ ⌈ ⌊ ⌽ ⌿ ⍀ ⍉ ⍋ ⍒ ⍙ ⍝ ⍱ ⍲ ⍳ ⍴
 abbrev pub non_ascii_symbols : List ℕ
-non_ascii_symbols = 0xAF ∷ 0xD7 ∷ 0x2190 ∷ []
+non_ascii_symbols =
+    0xAF ∷ 0xD7 ∷ 0xF7 ∷ 0x2190 ∷ 0x2191 ∷ 0x2193 ∷ 0x2206 ∷ 0x220A
+    ∷ 0x2218 ∷ 0x2227 ∷ 0x2228 ∷ 0x2260 ∷ 0x2264 ∷ 0x2265 ∷ 0x2296 ∷ 0x22A4
+    ∷ 0x22A5 ∷ 0x2308 ∷ 0x230A ∷ 0x233D ∷ 0x233F ∷ 0x2340 ∷ 0x2349 ∷ 0x234B
+    ∷ 0x2352 ∷ 0x2359 ∷ 0x235D ∷ 0x2371 ∷ 0x2372 ∷ 0x2373 ∷ 0x2374 ∷ []
 
--- the listed symbols of ASCII: blank, digits, A to Z, a to z, and _ + -
+-- the listed symbols of ASCII: from the blank to the tilde
 abbrev pub is_listed_ascii : ℕ → Bool
-is_listed_ascii c =
-    (nat_le 65 c && nat_le c 90) || ((nat_le 97 c && nat_le c 122) || (is_digit c || ((c == 32) || ((c == low_line) || ((c == 43) || (c == 45))))))
+is_listed_ascii c = nat_le 32 c && nat_le c 126
 
 abbrev pub is_listed : ℕ → Bool
 is_listed c = is_listed_ascii c || list_any (λ symbol. symbol == c) non_ascii_symbols

@@ -10,7 +10,7 @@ ghost use Rattle.apl_tokens.specs.Scans.{passes, IsHeldAs, IsNumeralAt, HasNoNum
 use crate::symbols::{
     is_blank, is_comment_mark, is_digit, is_letter, is_name_character, is_quote, symbol_lexeme,
 };
-use crate::token::{Lexeme, Name, Token};
+use crate::token::{Constant, Lexeme, Name, Token};
 use apl_array::{Array, MOST_ELEMENTS, Shape};
 use std::alloc::{AllocError, AllocFailed, Global};
 
@@ -258,8 +258,9 @@ fn number_constant_at(
             column: column + place,
         });
     }
+    let constant = Constant::new(alloc, number_array(alloc, row.values))?;
     Ok(Scanned {
-        lexeme: Lexeme::Constant(number_array(alloc, row.values)),
+        lexeme: Lexeme::Constant(constant),
         length: row.length,
     })
 }
@@ -331,8 +332,9 @@ fn text_constant_at(alloc: Global, text: &[char], column: usize) -> Result<Scann
     if quotation.characters.len() > MOST_ELEMENTS {
         return Err(LexicalStop::Limit { column });
     }
+    let constant = Constant::new(alloc, character_array(alloc, quotation.characters))?;
     Ok(Scanned {
-        lexeme: Lexeme::Constant(character_array(alloc, quotation.characters)),
+        lexeme: Lexeme::Constant(constant),
         length: quotation.length + 1,
     })
 }

@@ -10,7 +10,7 @@ mod token;
 pub use fronts::{FrontStop, front};
 pub use laws::{front_is_total, front_is_unique, lexing_is_total, lexing_is_unique};
 pub use lexer::{LexicalStop, tokens};
-pub use token::{Glyph, Lexeme, Name, Token};
+pub use token::{Constant, Glyph, Lexeme, Name, Token};
 
 #[cfg(test)]
 mod tests;

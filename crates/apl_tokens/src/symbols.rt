@@ -43,21 +43,18 @@ pub(crate) fn is_comment_mark(c: char) -> bool
 }
 
 /// The listed symbols that are not ASCII.
-const NON_ASCII_SYMBOLS: [char; 3] = ['¯', '×', '←'];
+const NON_ASCII_SYMBOLS: [char; 31] = [
+    '¯', '×', '÷', '←', '↑', '↓', '∆', '∊', '∘', '∧', '∨', '≠', '≤', '≥', '⊖', '⊤', '⊥', '⌈', '⌊',
+    '⌽', '⌿', '⍀', '⍉', '⍋', '⍒', '⍙', '⍝', '⍱', '⍲', '⍳', '⍴',
+];
 
 fn is_listed_ascii(c: char) -> bool
     ensures { result ≡ is_listed_ascii c }
 {
-    ('A' <= c && c <= 'Z')
-        || ('a' <= c && c <= 'z')
-        || is_digit(c)
-        || c == ' '
-        || c == '_'
-        || c == '+'
-        || c == '-'
+    ' ' <= c && c <= '~'
 }
 
-/// Whether this is a blank, a digit, `A` to `Z`, `a` to `z`, or one of `_ ¯ + - × ←`.
+/// Whether this is a symbol of ASCII from the blank to the tilde, or one of the others that are listed.
 pub(crate) fn is_listed(c: char) -> bool
     ensures { result ≡ is_listed c }
 {

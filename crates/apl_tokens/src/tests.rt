@@ -8,11 +8,16 @@ use std::alloc::{AllocError, Global};
 use std::test::Fail;
 
 fn describe_constant(text: &mut String, value: &Array) -> Result<(), AllocError> {
-    let Some(numbers) = value.numbers() else {
-        return text.push_str("no numbers");
-    };
-    for number in numbers {
-        write!(text, " {number}")?;
+    if let Some(numbers) = value.numbers() {
+        for number in numbers {
+            write!(text, " {number}")?;
+        }
+    }
+    if let Some(characters) = value.characters() {
+        text.push_str(" ")?;
+        for character in characters {
+            text.push(*character)?;
+        }
     }
     write!(text, " rank {}", value.shape().rank())
 }
@@ -20,11 +25,17 @@ fn describe_constant(text: &mut String, value: &Array) -> Result<(), AllocError>
 fn describe_token(text: &mut String, token: &Token) -> Result<(), AllocError> {
     write!(text, "{}:", token.column)?;
     match &token.lexeme {
-        Lexeme::Constant(value) => describe_constant(text, value)?,
+        Lexeme::Constant(value) => describe_constant(text, value.array())?,
         Lexeme::Name(name) => text.push_str(name.as_str())?,
         Lexeme::Function(glyph) => write!(text, "{glyph:?}")?,
+        Lexeme::Dot => text.push_str("Dot")?,
+        Lexeme::Jot => text.push_str("Jot")?,
         Lexeme::Arrow => text.push_str("Arrow")?,
-        _ => text.push_str("unknown")?,
+        Lexeme::OpenParen => text.push_str("OpenParen")?,
+        Lexeme::CloseParen => text.push_str("CloseParen")?,
+        Lexeme::OpenBracket => text.push_str("OpenBracket")?,
+        Lexeme::CloseBracket => text.push_str("CloseBracket")?,
+        Lexeme::Semicolon => text.push_str("Semicolon")?,
     }
     text.push_str(";")
 }
@@ -67,6 +78,12 @@ fn tokens_of_lines(rt: HostRuntime) -> Result<(), Fail> {
             "¯9223372036854775808 9223372036854775807",
             "0: -9223372036854775808 9223372036854775807 rank 1;",
         ),
+        ("'⍝'", "0: ⍝ rank 0;"),
+        ("''''''", "0: '' rank 1;"),
+        ("'' ⍝ 'A", "0:  rank 1;"),
+        ("'A' 'BC'", "0: A rank 0;4: BC rank 1;"),
+        ("1.5", "0: 1 rank 0;1:Dot;2: 5 rank 0;"),
+        ("∆1∘⍙", "0:∆1;2:Jot;3:⍙;"),
     ];
     for (line, want) in cases {
         let got = described(rt.alloc(), line.as_bytes())?;
@@ -87,6 +104,14 @@ fn lexical_faults(rt: HostRuntime) -> Result<(), Fail> {
         ("1 ¯9223372036854775809", LexicalStop::Limit { column: 2 }),
         ("1 9223372036854775808 ¯", LexicalStop::Limit { column: 2 }),
         ("¯ 9223372036854775808", LexicalStop::Syntax { column: 0 }),
+        ("1^2", LexicalStop::Syntax { column: 1 }),
+        ("A←3 {", LexicalStop::Syntax { column: 4 }),
+        ("\"A\"", LexicalStop::Syntax { column: 0 }),
+        ("?6", LexicalStop::Syntax { column: 0 }),
+        ("_A", LexicalStop::Syntax { column: 0 }),
+        ("'''", LexicalStop::Syntax { column: 0 }),
+        ("'A''", LexicalStop::Syntax { column: 0 }),
+        ("1,'AB ⍝", LexicalStop::Syntax { column: 2 }),
     ];
     for (line, want) in cases {
         let Ok(characters) = front(rt.alloc(), line.as_bytes()) else {
@@ -116,11 +141,55 @@ fn unlisted_symbols(rt: HostRuntime) -> Result<(), Fail> {
     assert_eq!(rt; stop_of(alloc, b"\xEF\xBB\xBF1"), at(0, 0));
     assert_eq!(rt; stop_of(alloc, b"1+\r"), at(2, 2));
     assert_eq!(rt; stop_of(alloc, b"\x7F"), at(0, 0));
-    assert_eq!(rt; stop_of(alloc, "1+(2)".as_bytes()), at(2, 2));
-    assert_eq!(rt; stop_of(alloc, ")OFF".as_bytes()), at(0, 0));
-    assert_eq!(rt; stop_of(alloc, "¯¯'".as_bytes()), at(4, 2));
+    assert_eq!(rt; stop_of(alloc, b"1\t"), at(1, 1));
     assert_eq!(rt; stop_of(alloc, "2○3".as_bytes()), at(1, 1));
-    assert_eq!(rt; stop_of(alloc, "A←×9".as_bytes()), None);
+    assert_eq!(rt; stop_of(alloc, "1 ⍝ ○".as_bytes()), at(6, 4));
+    assert_eq!(rt; stop_of(alloc, "'○'".as_bytes()), at(1, 1));
+    assert_eq!(rt; stop_of(alloc, "'⍴×'○".as_bytes()), at(7, 4));
+    for unlisted in "¨°‘’→⇐∇∈∩∪⊂⊃⋄⌶⍎⍕⍟⍞⎕⍵⍺○".chars() {
+        let mut line = String::new(alloc);
+        line.push(unlisted)?;
+        assert_eq!(rt; stop_of(alloc, line.as_bytes()), at(0, 0), "at {unlisted}");
+    }
+    Ok(())
+}
+
+#[test]
+fn listed_symbols(rt: HostRuntime) -> Result<(), Fail> {
+    let alloc = rt.alloc();
+    let mut line = String::new(alloc);
+    for symbol in ' '..='~' {
+        line.push(symbol)?;
+    }
+    line.push_str("¯×÷←↑↓∆∊∘∧∨≠≤≥⊖⊤⊥⌈⌊⌽⌿⍀⍉⍋⍒⍙⍝⍱⍲⍳⍴")?;
+    assert_eq!(rt; stop_of(alloc, line.as_bytes()), None);
+    Ok(())
+}
+
+#[test]
+fn tokens_of_one_symbol(rt: HostRuntime) -> Result<(), Fail> {
+    let cases = [
+        (
+            "+-×÷|*!⌊⌈∧∨⍲⍱",
+            "0:Plus;1:Minus;2:Times;3:Divide;4:Stile;5:Star;6:Bang;7:Floor;8:Ceiling;9:And;10:Or;11:Nand;12:Nor;",
+        ),
+        (
+            "<≤=≥>≠~⍴,⍳∊↑↓",
+            "0:Less;1:LessOrEqual;2:Equal;3:GreaterOrEqual;4:Greater;5:NotEqual;6:Tilde;7:Rho;8:Comma;9:Iota;10:Epsilon;11:UpArrow;12:DownArrow;",
+        ),
+        (
+            "⌽⊖⍉⍋⍒/⌿\\⍀⊥⊤",
+            "0:CircleStile;1:CircleBar;2:Transpose;3:GradeUp;4:GradeDown;5:Slash;6:SlashBar;7:Backslash;8:BackslashBar;9:DownTack;10:UpTack;",
+        ),
+        (
+            ".∘←()[];",
+            "0:Dot;1:Jot;2:Arrow;3:OpenParen;4:CloseParen;5:OpenBracket;6:CloseBracket;7:Semicolon;",
+        ),
+    ];
+    for (line, want) in cases {
+        let got = described(rt.alloc(), line.as_bytes())?;
+        assert_eq!(rt; got.as_str(), want, "at {line}");
+    }
     Ok(())
 }
 
@@ -140,10 +209,11 @@ fn a_long_line(rt: HostRuntime) -> Result<(), Fail> {
         assert!(rt; false);
         return Ok(());
     };
-    let Lexeme::Constant(value) = &token.lexeme else {
+    let Lexeme::Constant(constant) = &token.lexeme else {
         assert!(rt; false);
         return Ok(());
     };
+    let value = constant.array();
     assert_eq!(rt; value.shape().count(), 100000);
     assert_eq!(rt;
         value.numbers().and_then(|numbers| numbers.last().copied()),

@@ -1,8 +1,10 @@
 //! Tokens and their columns.
-ghost use Rattle.std.specs.Prelude.{◌≡◌, List, ℕ, string_bytes};
+ghost use Rattle.std.specs.Prelude.{◌≡◌, List, ℕ, IfOk, string_bytes};
 
 use apl_array::Array;
+use std::alloc::{AllocError, Global};
 use std::marker::Model;
+use std::rc::Rc;
 
 /// The text of a name.
 #[derive(Drop)]
@@ -31,6 +33,38 @@ impl Name {
         ensures { result.now ≡ self.now }
     {
         self.text.as_str()
+    }
+}
+
+/// The array of a constant, shared by all who hold it.
+#[derive(Drop)]
+pub struct Constant {
+    shared: Rc<Array>,
+}
+
+impl Model for Constant {
+    ghost use Rattle.apl_array.specs.Array.{ArrayValue};
+
+    ghost Value = { ArrayValue };
+
+    ghost view = { λ c. c.shared.value };
+}
+
+impl Constant {
+    /// The constant of this array.
+    pub fn new(alloc: Global, array: Array) -> Result<Constant, AllocError>
+        ensures { IfOk result (λ constant. constant ≡ array) }
+    {
+        Ok(Constant {
+            shared: Rc::new(alloc, array)?,
+        })
+    }
+
+    /// The array, to be read or held on.
+    pub fn array(&self) -> &Rc<Array>
+        ensures { result.now.value ≡ self.now }
+    {
+        &self.shared
     }
 }
 
@@ -79,7 +113,7 @@ pub enum Glyph {
 /// What a token is.
 #[derive(Drop)]
 pub enum Lexeme {
-    Constant(Array),
+    Constant(Constant),
     Name(Name),
     Function(Glyph),
     Dot,

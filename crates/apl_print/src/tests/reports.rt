@@ -1,5 +1,5 @@
-//! The texts of reports.
-use crate::{MemorySink, Report, SinkFault, report};
+//! The texts of reports and replies.
+use crate::{MemorySink, Reply, Report, SinkFault, reply, report};
 use std::alloc::Global;
 use std::test::Fail;
 
@@ -111,6 +111,22 @@ fn report_to_a_sink_that_fails(rt: HostRuntime) -> Result<(), Fail> {
         let outcome = report(&mut sink, Report::Value, b"B", Some(1));
         assert_eq!(rt; outcome.is_ok(), fail_at == 6, "call {fail_at}");
         assert!(rt; wanted.starts_with(sink.bytes()));
+    }
+    Ok(())
+}
+
+#[test]
+fn replies(rt: HostRuntime) -> Result<(), Fail> {
+    for (kind, want) in [
+        (Reply::Was(0), "WAS 0\n"),
+        (Reply::Was(30), "WAS 30\n"),
+        (Reply::Was(120), "WAS 120\n"),
+        (Reply::Clear, "CLEAR WS\n"),
+        (Reply::Incorrect, "INCORRECT COMMAND\n"),
+    ] {
+        let mut sink = MemorySink::new(rt.alloc(), 3, None);
+        assert_eq!(rt; reply(&mut sink, kind), Ok(()));
+        assert!(rt; sink.bytes() == want.as_bytes(), "{want}");
     }
     Ok(())
 }

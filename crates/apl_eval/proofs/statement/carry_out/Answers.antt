@@ -1,10 +1,10 @@
-use Rattle.std.proofs.Common.{◌≡◌, ◌∷◌, sym, ◌∙◌, ap, length, take, ◌-◌}
+use Rattle.std.proofs.Common.{◌≡◌, ◌∷◌, sym, ◌∙◌, ap, Some, None}
 use Rattle.std.specs.FinMap.{insert}
 use Rattle.apl_eval.specs.Workspace.{value_of}
-use Rattle.apl_eval.specs.Arithmetic.{dyadic_result}
+use Rattle.apl_eval.specs.Functions.{caret_column, dyadic_result}
 use Rattle.apl_eval.specs.Meaning.{done, found, judged}
-use Rattle.apl_eval.specs.Steps.{stack_of, staged_in, waiting}
-use Rattle.apl_eval.proofs.StackLemmas.{stack_of-push, stack_of-last, staged_in-insert}
+use Rattle.apl_eval.specs.Steps.{staged_in, waiting}
+use Rattle.apl_eval.proofs.StackLemmas.{staged_in-insert}
 use Rattle.apl_eval.proofs.statement.carry_out.Goals as goal
 
 pub returns-in-Constant : goal.returns-in-Constant
@@ -18,24 +18,25 @@ returns-in-Name c =
     let value = rw c.as_str.ensures at c.name_value.ensures in
     rw c.in-Name.is (c.put-in-Name.ensures (found (value_of c.in-Name.name w) c.in-Name.column w) w value)
 
-pub returns-in-Some-Some : goal.returns-in-Some-Some
-returns-in-Some-Some c =
+pub returns-in-Dyadic-default-None : goal.returns-in-Dyadic-default-None
+returns-in-Dyadic-default-None c =
     let w = staged_in c.args.staged.now c.args.workspace.now in
-    let left = c.in-Some-Some.left in
-    let right = c.in-Some-Some.right in
-    let stack : stack_of c.args.stack.now.items ≡ left.value ∷ right.value ∷ stack_of c.pop-in-Dyadic.new.self.items =
-    ap stack_of c.in-Some-Some.ensures.items ∙ stack_of-push c.pop.new.self.items left
-    ∙ ap (λ vs. left.value ∷ vs) (ap stack_of c.in-Some-Some.ensures'.items ∙ stack_of-push c.pop-in-Dyadic.new.self.items right) in
-    let value = rw (c.deref.ensures, c.deref-in-Dyadic.ensures) at c.result_value.ensures w in
-    rw (c.in-Dyadic.is, stack) (c.put-in-Dyadic.ensures (judged (dyadic_result c.in-Dyadic.function left.value right.value) c.in-Dyadic.column w) w value)
+    let form = c.in-Dyadic-default-None.form in
+    let left = c.pop_value-left.result.value in
+    let right = c.pop_value-right.result.value in
+    let below = c.pop_value-right.new.self in
+    let stack : c.args.stack.now ≡ Some left ∷ Some right ∷ below = c.pop_value-left.ensures ∙ ap (λ items. Some left ∷ items) c.pop_value-right.ensures in
+    let value = rw (c.deref.ensures, c.deref-in-Dyadic-default-None.ensures) at c.result_value.ensures w in
+    let none = rw c.in-Dyadic-default-None.is at c.in-Dyadic-default-None.field-1-is in
+    rw (c.in-Dyadic-default-None.is, none, stack)
+    (c.put-in-Dyadic-default-None.ensures (judged (dyadic_result form None left right) (caret_column form) w) w value)
 
 pub returns-in_ok-insert-in-Assign : goal.returns-in_ok-insert-in-Assign
 returns-in_ok-insert-in-Assign c =
     let w = staged_in c.args.staged.now c.args.workspace.now in
-    let value = c.in-Some.value.now in
-    let item = rw c.deref-in-Assign.ensures.value at c.in-Some.ensures.item in
-    let stack = stack_of-last c.args.stack.now.items value item.3.0 item.1 in
-    let staged = staged_in-insert c.args.staged.now c.args.workspace.now c.in-Assign.name value.value in
-    let kept : c.insert.new.self ≡ insert c.args.staged.now c.in-Assign.name value.value =
-    c.in_ok-insert-in-Assign.ensures.ok ∙ (λ i. insert c.args.staged.now (c.as_str-in-Assign.ensures i) (c.in_ok-clone-in-Assign.ensures.cases i)) in
-    rw (c.in-Assign.is, stack, kept) (ap (waiting (value.value ∷ stack_of (take (length c.args.stack.now.items - 1) c.args.stack.now.items))) (sym staged))
+    let value = c.top_value.result.now.value in
+    let stack : c.args.stack.now ≡ Some value ∷ c.top_value.ensures.0 = c.top_value.ensures.1 in
+    let staged = staged_in-insert c.args.staged.now c.args.workspace.now c.in-Assign.name value in
+    let kept : c.insert.new.self ≡ insert c.args.staged.now c.in-Assign.name value =
+    c.in_ok-insert-in-Assign.ensures.ok ∙ (λ i. insert c.args.staged.now (c.as_str-in-Assign.ensures i) (c.in_ok-value-in-Assign.ensures.cases i)) in
+    rw (c.in-Assign.is, stack, kept) (ap (waiting (Some value ∷ c.top_value.ensures.0)) (sym staged))

@@ -1,6 +1,6 @@
-use Rattle.apl_eval.specs.Steps.{stack_of, staged_in}
+use Rattle.apl_eval.specs.Steps.{staged_in}
 use Rattle.apl_eval.proofs.StepLemmas.{ComesTo}
 use Rattle.apl_eval.proofs.statement.run.Given as goal
 
 abbrev pub invariant-operations : goal.invariant-operations
-invariant-operations l = ComesTo l.fn.program l.workspace l.operation-index (stack_of l.stack.items) (staged_in l.staged l.workspace)
+invariant-operations l = ComesTo l.fn.program l.workspace l.operation-index l.stack (staged_in l.staged l.workspace)

@@ -1,4 +1,4 @@
-use Rattle.apl_grammar.proofs.Trees.{operations-injective}
+use Rattle.apl_grammar.proofs.Operations.{operations-injective}
 use Rattle.apl_grammar.proofs.statement.one_reading.Goals as goal
 
 pub returns : goal.returns

@@ -1,4 +1,4 @@
-use Rattle.apl_grammar.proofs.Trees.{spells-injective}
+use Rattle.apl_grammar.proofs.Viable.{spells-injective}
 use Rattle.apl_grammar.proofs.statement.one_tree.Goals as goal
 
 pub returns : goal.returns

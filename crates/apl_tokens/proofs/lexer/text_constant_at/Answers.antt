@@ -1,4 +1,4 @@
-use Rattle.std.proofs.Common.{refl, sym, subst, ◌-◌, ◌+◌, take, drop, length, arith, rules}
+use Rattle.std.proofs.Common.{refl, sym, ◌∙◌, subst, ◌-◌, ◌+◌, take, drop, length, arith, rules}
 use Rattle.apl_tokens.specs.declared.token.Lexeme.TheVariants.{Constant}
 use Rattle.apl_tokens.specs.Scans.{IsTokenAt}
 use Rattle.apl_tokens.proofs.OneToken.{behind_quote, text_token, text_beyond, open_token, open_limit}
@@ -23,5 +23,5 @@ returns-clause-token c =
     let text = c.args.text.now in
     let q = c.in-Some.quotation in
     let closed = rw c.in-Some.is at c.in_ok-quotation.ensures.closed in
-    subst (λ v. IsTokenAt text (q.length + 1) (Constant v)) (sym c.character_array.ensures)
+    subst (λ v. IsTokenAt text (q.length + 1) (Constant v)) (sym (c.in_ok-constant.ensures ∙ c.character_array.ensures))
     (text_token text (take (length text - 1) (drop 1 text)) q.characters.items q.length (behind_quote text c.requires) closed (search rules))

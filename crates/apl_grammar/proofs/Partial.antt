@@ -1,0 +1,192 @@
+-- The automaton of the grammar, over partial trees. It reads tokens from the right.
+use Rattle.std.proofs.Common.{◌≡◌, ◌++◌, ◌∷◌, [], List, Option, Some, None, refl, sym, ◌∙◌, ap}
+use Rattle.std.specs.Prelude.{ℕ, Bool, true, false, ◌&&◌, option_and_then}
+use Rattle.apl_tokens.specs.declared.token.Token.{Token}
+use Rattle.apl_tokens.specs.declared.token.Lexeme.{Lexeme}
+use Rattle.apl_tokens.specs.declared.token.Lexeme.TheVariants as lexeme
+use Rattle.apl_tokens.specs.declared.token.Glyph.{Glyph}
+use Rattle.apl_grammar.specs.declared.program.Form.{Form}
+use Rattle.apl_grammar.specs.declared.program.Form.TheVariants.{Plain, Reduce, Inner, Outer}
+use Rattle.apl_grammar.specs.Functions.{class_of, is_scalar, takes_axis, reduces, may_be_monadic, may_be_dyadic}
+use Rattle.apl_grammar.specs.Tree.{Expr, value, dyadic, monadic, assign, assign_at, Operand, constant, name, group, index, Slots, last, more, Slot, nothing, given, Axis, none, along, has_axis}
+
+-- what an operand is wanted for
+pub data Wanted : Type 0 where
+  alone : Wanted
+  applied : Form → Axis → Expr → Wanted
+  indexed : Wanted → (left : ℕ) → Slots → (right : ℕ) → Wanted
+
+abbrev pub fill : Wanted → Operand → Expr
+fill alone o = value o
+fill (applied f a e) o = dyadic o f a e
+fill (indexed w l s r) o = fill w (index o l s r)
+
+-- what was read inside the innermost open bracket, seen from its left end
+pub data Level : Type 0 where
+  wanted : Wanted → Level  -- an operand is wanted
+  whole : Expr → Level  -- an expression; if monadic, it may still become dyadic
+  dotted : (dot column : ℕ) → Glyph → Expr → Level  -- . g expr
+  arrowed : (arrow : ℕ) → Expr → Level  -- ← expr
+  beside : (left : ℕ) → Expr → (right : ℕ) → Expr → Level  -- [ expr ] expr, an axis or an index
+  named : (left : ℕ) → Slots → (right arrow : ℕ) → Expr → Level  -- [ list ] ← expr
+
+-- the slots behind the last semicolon read
+pub data Tail : Type 0 where
+  no_slots : Tail
+  slots : (semicolon : ℕ) → Slots → Tail
+
+-- an open bracket, and what stands on its right
+pub data Frame : Type 0 where
+  grouped : (right : ℕ) → Wanted → Frame
+  sliced : (right : ℕ) → Tail → Wanted → Frame
+  either : (right : ℕ) → Expr → Frame
+  stored : (right : ℕ) → Tail → (arrow : ℕ) → Expr → Frame
+
+abbrev pub Config : Type 0
+Config = List Frame × Level
+
+abbrev pub join : Tail → Slot → Slots
+join no_slots s = last s
+join (slots c ss) s = more s c ss
+
+-- the operand that a monadic expression wants, were its function dyadic
+abbrev pub when : Bool → Wanted → Option Wanted
+when true w = Some w
+when false w = None
+
+abbrev pub as_dyadic : Expr → Option Wanted
+as_dyadic (monadic f a e) = when (may_be_dyadic f (has_axis a)) (applied f a e)
+as_dyadic _ = None
+
+abbrev pub with_index : ℕ → Slots → ℕ → Option Wanted → Option Wanted
+with_index l s r None = None
+with_index l s r (Some w) = Some (indexed w l s r)
+
+abbrev pub as_wanted : Level → Option Wanted
+as_wanted (wanted w) = Some w
+as_wanted (whole e) = as_dyadic e
+as_wanted (beside l x r e) = with_index l (last (given x)) r (as_dyadic e)
+as_wanted _ = None
+
+-- a function and its axis are read
+abbrev pub level_by : Bool → Form → Axis → Expr → Level
+level_by true f a e = whole (monadic f a e)
+level_by false f a e = wanted (applied f a e)
+
+abbrev pub level_for : Form → Axis → Expr → Level
+level_for f a e = level_by (may_be_monadic f (has_axis a)) f a e
+
+abbrev pub at_operand : List Frame → Operand → Option Wanted → Option Config
+at_operand fr o None = None
+at_operand fr o (Some w) = Some (fr, whole (fill w o))
+
+abbrev pub at_name : List Frame → ℕ → List ℕ → Level → Option Config
+at_name fr c n (arrowed r e) = Some (fr, whole (assign c n r e))
+at_name fr c n (named l s d r e) = Some (fr, whole (assign_at c n l s d r e))
+at_name fr c n l = at_operand fr (name c n) (as_wanted l)
+
+abbrev pub at_close : List Frame → ℕ → Option Wanted → Option Config
+at_close fr c None = None
+at_close fr c (Some w) = Some (grouped c w ∷ fr, wanted alone)
+
+abbrev pub at_slice : List Frame → ℕ → Option Wanted → Option Config
+at_slice fr c None = None
+at_slice fr c (Some w) = Some (sliced c no_slots w ∷ fr, wanted alone)
+
+abbrev pub at_close_bracket : List Frame → ℕ → Level → Option Config
+at_close_bracket fr c (whole e) = Some (either c e ∷ fr, wanted alone)
+at_close_bracket fr c (arrowed r e) = Some (stored c no_slots r e ∷ fr, wanted alone)
+at_close_bracket fr c l = at_slice fr c (as_wanted l)
+
+abbrev pub only : Bool → List Frame → Level → Option Config
+only true fr l = Some (fr, l)
+only false fr l = None
+
+abbrev pub at_function : List Frame → ℕ → Glyph → Level → Option Config
+at_function fr c g (whole e) = Some (fr, level_for (Plain c g) none e)
+at_function fr c g (beside l x r e) = only (takes_axis (class_of g)) fr (level_for (Plain c g) (along l x r) e)
+at_function fr c g (dotted d k h e) = only (is_scalar (class_of g)) fr (wanted (applied (Inner c g d k h) none e))
+at_function fr c g (wanted (applied (Plain s h) a e)) = only (is_scalar (class_of g) && reduces (class_of h)) fr (whole (monadic (Reduce c g s h) a e))
+at_function fr c g _ = None
+
+abbrev pub at_dot : List Frame → ℕ → Level → Option Config
+at_dot fr d (whole (monadic (Plain c g) none e)) = only (is_scalar (class_of g)) fr (dotted d c g e)
+at_dot fr d (wanted (applied (Plain c g) none e)) = only (is_scalar (class_of g)) fr (dotted d c g e)
+at_dot fr d _ = None
+
+abbrev pub at_jot : List Frame → ℕ → Level → Option Config
+at_jot fr j (dotted d c g e) = Some (fr, wanted (applied (Outer j d c g) none e))
+at_jot fr j _ = None
+
+abbrev pub at_arrow : List Frame → ℕ → Level → Option Config
+at_arrow fr r (whole e) = Some (fr, arrowed r e)
+at_arrow fr r _ = None
+
+abbrev pub at_open : ℕ → List Frame → Level → Option Config
+at_open l (grouped r w ∷ fr) (whole e) = Some (fr, whole (fill w (group l e r)))
+at_open l _ _ = None
+
+abbrev pub slot_of : Level → Option Slot
+slot_of (whole e) = Some (given e)
+slot_of (wanted alone) = Some nothing
+slot_of _ = None
+
+abbrev pub sliced_by : List Frame → ℕ → ℕ → Slot → Option Wanted → Option Config
+sliced_by fr k c s None = None
+sliced_by fr k c s (Some w) = Some (sliced c (slots k (last s)) w ∷ fr, wanted alone)
+
+abbrev pub at_semicolon : ℕ → List Frame → Option Slot → Option Config
+at_semicolon k (sliced c tail w ∷ fr) (Some s) = Some (sliced c (slots k (join tail s)) w ∷ fr, wanted alone)
+at_semicolon k (either c e ∷ fr) (Some s) = sliced_by fr k c s (as_dyadic e)
+at_semicolon k (stored c tail r e ∷ fr) (Some s) = Some (stored c (slots k (join tail s)) r e ∷ fr, wanted alone)
+at_semicolon k _ _ = None
+
+abbrev pub wanted_by : List Frame → Option Wanted → Option Config
+wanted_by fr None = None
+wanted_by fr (Some w) = Some (fr, wanted w)
+
+abbrev pub at_open_bracket : ℕ → List Frame → Option Slot → Option Config
+at_open_bracket l (sliced c tail w ∷ fr) (Some s) = Some (fr, wanted (indexed w l (join tail s) c))
+at_open_bracket l (either c e ∷ fr) (Some (given x)) = Some (fr, beside l x c e)
+at_open_bracket l (either c e ∷ fr) (Some nothing) = wanted_by fr (with_index l (last nothing) c (as_dyadic e))
+at_open_bracket l (stored c tail r e ∷ fr) (Some s) = Some (fr, named l (join tail s) c r e)
+at_open_bracket l _ _ = None
+
+abbrev pub step_lexeme : ℕ → Lexeme → List Frame → Level → Option Config
+step_lexeme c (lexeme.Constant v) fr l = at_operand fr (constant c v) (as_wanted l)
+step_lexeme c (lexeme.Name n) fr l = at_name fr c n l
+step_lexeme c (lexeme.Function g) fr l = at_function fr c g l
+step_lexeme c lexeme.Dot fr l = at_dot fr c l
+step_lexeme c lexeme.Jot fr l = at_jot fr c l
+step_lexeme c lexeme.Arrow fr l = at_arrow fr c l
+step_lexeme c lexeme.OpenParen fr l = at_open c fr l
+step_lexeme c lexeme.CloseParen fr l = at_close fr c (as_wanted l)
+step_lexeme c lexeme.OpenBracket fr l = at_open_bracket c fr (slot_of l)
+step_lexeme c lexeme.CloseBracket fr l = at_close_bracket fr c l
+step_lexeme c lexeme.Semicolon fr l = at_semicolon c fr (slot_of l)
+
+abbrev pub step : Token → Config → Option Config
+step t k = step_lexeme t.column t.lexeme k.0 k.1
+
+abbrev pub run_from : Config → List Token → Option Config
+run_from k [] = Some k
+run_from k (t ∷ ts) = option_and_then (step t) (run_from k ts)
+
+abbrev pub run : List Token → Option Config
+run ts = run_from ([], wanted alone) ts
+
+-- a part at the right end is read first
+pub run_from-append : (k : Config) (a b : List Token) → run_from k (a ++ b) ≡ option_and_then (λ m. run_from m a) (run_from k b)
+run_from-append k [] b = sym (and_then_some (run_from k b))
+  where
+    and_then_some : (r : Option Config) → option_and_then (λ m. Some m) r ≡ r
+    and_then_some None = refl
+    and_then_some (Some m) = refl
+run_from-append k (t ∷ a) b = ap (option_and_then (step t)) (run_from-append k a b) ∙ and_then_and_then (run_from k b)
+  where
+    and_then_and_then : (r : Option Config) → option_and_then (step t) (option_and_then (λ m. run_from m a) r) ≡ option_and_then (λ m. run_from m (t ∷ a)) r
+    and_then_and_then None = refl
+    and_then_and_then (Some m) = refl
+
+pub run_from-parts : (k m n : Config) (a b : List Token) → run_from k b ≡ Some m → run_from m a ≡ Some n → run_from k (a ++ b) ≡ Some n
+run_from-parts k m n a b first second = run_from-append k a b ∙ ap (option_and_then (λ m. run_from m a)) first ∙ second

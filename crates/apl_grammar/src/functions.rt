@@ -1,0 +1,126 @@
+//! Which function may be monadic, dyadic, or take an axis.
+ghost use Rattle.std.specs.Prelude.{◌≡◌};
+ghost use Rattle.apl_grammar.specs.Functions.{class_of, may_be_monadic, may_be_dyadic, is_scalar, is_monadic, is_dyadic, is_rotation, takes_axis, reduces};
+
+use super::program::Form;
+use apl_tokens::Glyph;
+
+/// Whether the function applies element by element to two arguments.
+pub(crate) fn is_scalar(glyph: Glyph) -> bool
+    ensures { result ≡ is_scalar (class_of glyph) }
+{
+    matches!(
+        glyph,
+        Glyph::Plus
+            | Glyph::Minus
+            | Glyph::Times
+            | Glyph::Divide
+            | Glyph::Stile
+            | Glyph::Bang
+            | Glyph::Floor
+            | Glyph::Ceiling
+            | Glyph::Star
+            | Glyph::And
+            | Glyph::Or
+            | Glyph::Nand
+            | Glyph::Nor
+            | Glyph::Less
+            | Glyph::LessOrEqual
+            | Glyph::Equal
+            | Glyph::GreaterOrEqual
+            | Glyph::Greater
+            | Glyph::NotEqual
+    )
+}
+
+/// Whether the function's symbol may stand alone before one argument.
+fn is_monadic(glyph: Glyph) -> bool
+    ensures { result ≡ is_monadic (class_of glyph) }
+{
+    matches!(
+        glyph,
+        Glyph::Plus
+            | Glyph::Minus
+            | Glyph::Times
+            | Glyph::Divide
+            | Glyph::Stile
+            | Glyph::Bang
+            | Glyph::Floor
+            | Glyph::Ceiling
+            | Glyph::Tilde
+            | Glyph::GradeUp
+            | Glyph::GradeDown
+            | Glyph::Rho
+            | Glyph::Iota
+            | Glyph::Transpose
+            | Glyph::CircleStile
+            | Glyph::CircleBar
+            | Glyph::Comma
+    )
+}
+
+/// Whether the function's symbol may stand between two arguments.
+fn is_dyadic(glyph: Glyph) -> bool
+    ensures { result ≡ is_dyadic (class_of glyph) }
+{
+    !matches!(glyph, Glyph::Tilde | Glyph::GradeUp | Glyph::GradeDown)
+}
+
+/// Whether the function of one argument takes an axis.
+fn is_rotation(glyph: Glyph) -> bool
+    ensures { result ≡ is_rotation (class_of glyph) }
+{
+    matches!(glyph, Glyph::CircleStile | Glyph::CircleBar)
+}
+
+/// Whether the function of two arguments takes an axis.
+pub(crate) fn takes_axis(glyph: Glyph) -> bool
+    ensures { result ≡ takes_axis (class_of glyph) }
+{
+    matches!(
+        glyph,
+        Glyph::CircleStile
+            | Glyph::CircleBar
+            | Glyph::Comma
+            | Glyph::Slash
+            | Glyph::SlashBar
+            | Glyph::Backslash
+            | Glyph::BackslashBar
+    )
+}
+
+/// Whether the symbol after a scalar function makes a reduction of it.
+pub(crate) fn reduces(glyph: Glyph) -> bool
+    ensures { result ≡ reduces (class_of glyph) }
+{
+    matches!(glyph, Glyph::Slash | Glyph::SlashBar)
+}
+
+/// Whether the form may be a function of one argument.
+pub(crate) fn may_be_monadic(form: Form, has_axis: bool) -> bool
+    ensures { result ≡ may_be_monadic form has_axis }
+{
+    match form {
+        Form::Plain { glyph, .. } if has_axis => is_rotation(glyph),
+        Form::Plain { glyph, .. } => is_monadic(glyph),
+        Form::Reduce {
+            function,
+            slash,
+            ..
+        } => is_scalar(function) && reduces(slash),
+        Form::Inner { .. } | Form::Outer { .. } => false,
+    }
+}
+
+/// Whether the form may be a function of two arguments.
+pub(crate) fn may_be_dyadic(form: Form, has_axis: bool) -> bool
+    ensures { result ≡ may_be_dyadic form has_axis }
+{
+    match form {
+        Form::Plain { glyph, .. } if has_axis => takes_axis(glyph),
+        Form::Plain { glyph, .. } => is_dyadic(glyph),
+        Form::Inner { left, right, .. } if !has_axis => is_scalar(left) && is_scalar(right),
+        Form::Outer { function, .. } if !has_axis => is_scalar(function),
+        _ => false,
+    }
+}

@@ -1,0 +1,12 @@
+//! Replies to commands.
+
+/// What a command is answered.
+#[derive(Clone, Copy, Debug, PartialEq, Eq)]
+pub enum Reply {
+    /// A setting is changed, and this is what it was.
+    Was(u8),
+    /// The workspace is as at first.
+    Clear,
+    /// The line is no command.
+    Incorrect,
+}

@@ -1,0 +1,211 @@
+//! Sessions and what they write.
+
+/// Functions, names and assignments.
+pub(super) const VALUES: [(&str, &str); 15] = [
+    ("10-4-3\n", "9\n"),
+    ("2+3 4 5\n", "5 6 7\n"),
+    ("10-4-3\n2+3 4 5\n", "9\n5 6 7\n"),
+    ("A+A←3\nA\nA←4\n(A←5)\n", "6\n3\n5\n"),
+    ("A+A←3\nA\n", "6\n3\n"),
+    ("¯5-3\n", "¯8\n"),
+    ("1 2+1 2 3\n", "LENGTH ERROR\n      1 2+1 2 3\n         ∧\n"),
+    ("B\n", "VALUE ERROR\n      B\n      ∧\n"),
+    (
+        "9223372036854775807+1\n",
+        "LIMIT ERROR\n      9223372036854775807+1\n                         ∧\n",
+    ),
+    ("'A'+1\n", "DOMAIN ERROR\n      'A'+1\n         ∧\n"),
+    ("1 2+3 4\n", "4 6\n"),
+    ("''+1\n", "\n"),
+    ("''+1 2\n", "LENGTH ERROR\n      ''+1 2\n        ∧\n"),
+    (
+        "'AB'+1 2 3\n",
+        "LENGTH ERROR\n      'AB'+1 2 3\n          ∧\n",
+    ),
+    ("1-'A'\n", "DOMAIN ERROR\n      1-'A'\n       ∧\n"),
+];
+
+/// Ends of lines, blank lines and comments.
+pub(super) const LINES: [(&str, &str); 9] = [
+    ("", ""),
+    ("\n", ""),
+    ("⍝ A\n", ""),
+    ("1\r\n", "1\n"),
+    ("1+1\n2+", "2\nSYNTAX ERROR\n      2+\n       ∧\n"),
+    ("1\r", "1\n"),
+    ("\r", ""),
+    ("1", "1\n"),
+    (
+        "  1 2+1 2 3 ⍝ x \n",
+        "LENGTH ERROR\n        1 2+1 2 3 ⍝ x \n           ∧\n",
+    ),
+];
+
+/// Numerals and the range.
+pub(super) const NUMERALS: [(&str, &str); 11] = [
+    (
+        "9223372036854775808\n",
+        "LIMIT ERROR\n      9223372036854775808\n      ∧\n",
+    ),
+    (
+        "99999999999999999999 '\n",
+        "LIMIT ERROR\n      99999999999999999999 '\n      ∧\n",
+    ),
+    ("1 2 ¯\n", "SYNTAX ERROR\n      1 2 ¯\n          ∧\n"),
+    ("¯¯1\n", "SYNTAX ERROR\n      ¯¯1\n      ∧\n"),
+    ("1¯\n", "SYNTAX ERROR\n      1¯\n       ∧\n"),
+    (
+        "1 2 9223372036854775808\n",
+        "LIMIT ERROR\n      1 2 9223372036854775808\n          ∧\n",
+    ),
+    (
+        "1 ¯9223372036854775809\n",
+        "LIMIT ERROR\n      1 ¯9223372036854775809\n        ∧\n",
+    ),
+    ("¯9223372036854775808\n", "¯9223372036854775808\n"),
+    ("000000000000000000000000000007 ¯0\n", "7 0\n"),
+    ("++ 1_\n", "SYNTAX ERROR\n      ++ 1_\n          ∧\n"),
+    (
+        "1 9223372036854775808 ¯\n",
+        "LIMIT ERROR\n      1 9223372036854775808 ¯\n        ∧\n",
+    ),
+];
+
+/// Text constants.
+pub(super) const TEXTS: [(&str, &str); 10] = [
+    ("'AB'\n", "AB\n"),
+    ("''\n", "\n"),
+    ("''''\n", "'\n"),
+    ("A←'AB'⍝ N\n", ""),
+    ("'''\n", "SYNTAX ERROR\n      '''\n      ∧\n"),
+    ("'A''\n", "SYNTAX ERROR\n      'A''\n      ∧\n"),
+    ("1,'AB ⍝\n", "SYNTAX ERROR\n      1,'AB ⍝\n        ∧\n"),
+    ("'⍝'\n", "⍝\n"),
+    ("'A' 'B'\n", "SYNTAX ERROR\n      'A' 'B'\n      ∧\n"),
+    ("''''''\n", "''\n"),
+];
+
+/// Lines that are no statement, each with its caret.
+pub(super) const CARETS: [(&str, &str); 47] = [
+    (
+        "3+\n(1+2\n1)\n2+<3\n3←4\nA+/B\n1 ¯ 2\n'AB\n",
+        "SYNTAX ERROR\n      3+\n       ∧\nSYNTAX ERROR\n      (1+2\n      ∧\nSYNTAX ERROR\n      1)\n      ∧\nSYNTAX ERROR\n      2+<3\n       ∧\nSYNTAX ERROR\n      3←4\n      ∧\nSYNTAX ERROR\n      A+/B\n      ∧\nSYNTAX ERROR\n      1 ¯ 2\n        ∧\nSYNTAX ERROR\n      'AB\n      ∧\n",
+    ),
+    ("3+\n", "SYNTAX ERROR\n      3+\n       ∧\n"),
+    ("_A\n", "SYNTAX ERROR\n      _A\n      ∧\n"),
+    ("#\n", "SYNTAX ERROR\n      #\n      ∧\n"),
+    (
+        "' 99999999999999999999\n",
+        "SYNTAX ERROR\n      ' 99999999999999999999\n      ∧\n",
+    ),
+    ("1;2\n", "SYNTAX ERROR\n      1;2\n       ∧\n"),
+    ("+\\1 2 3\n", "SYNTAX ERROR\n      +\\1 2 3\n      ∧\n"),
+    ("1¯2\n", "SYNTAX ERROR\n      1¯2\n      ∧\n"),
+    ("1 2¯3 4\n", "SYNTAX ERROR\n      1 2¯3 4\n      ∧\n"),
+    ("2+1¯2\n", "SYNTAX ERROR\n      2+1¯2\n        ∧\n"),
+    ("1A\n", "SYNTAX ERROR\n      1A\n      ∧\n"),
+    ("A¯1\n", "SYNTAX ERROR\n      A¯1\n      ∧\n"),
+    ("1^2\n", "SYNTAX ERROR\n      1^2\n       ∧\n"),
+    ("1.5\n", "SYNTAX ERROR\n      1.5\n       ∧\n"),
+    ("A←3 {\n", "SYNTAX ERROR\n      A←3 {\n          ∧\n"),
+    ("\"A\"\n", "SYNTAX ERROR\n      \"A\"\n      ∧\n"),
+    ("?6\n", "SYNTAX ERROR\n      ?6\n      ∧\n"),
+    ("∘\n", "SYNTAX ERROR\n      ∘\n      ∧\n"),
+    ("  1)\n", "SYNTAX ERROR\n        1)\n        ∧\n"),
+    (" ←3\n", "SYNTAX ERROR\n       ←3\n       ∧\n"),
+    ("A←\n", "SYNTAX ERROR\n      A←\n       ∧\n"),
+    ("A[1\n", "SYNTAX ERROR\n      A[1\n       ∧\n"),
+    ("[1]\n", "SYNTAX ERROR\n      [1]\n      ∧\n"),
+    ("()\n", "SYNTAX ERROR\n      ()\n      ∧\n"),
+    ("A[1;2\n", "SYNTAX ERROR\n      A[1;2\n         ∧\n"),
+    ("1 2;3\n", "SYNTAX ERROR\n      1 2;3\n         ∧\n"),
+    ("(A)←3\n", "SYNTAX ERROR\n      (A)←3\n        ∧\n"),
+    ("(A)[1]←3\n", "SYNTAX ERROR\n      (A)[1]←3\n        ∧\n"),
+    ("A[1][2]←3\n", "SYNTAX ERROR\n      A[1][2]←3\n         ∧\n"),
+    ("A∘+B\n", "SYNTAX ERROR\n      A∘+B\n       ∧\n"),
+    ("A+.B\n", "SYNTAX ERROR\n      A+.B\n        ∧\n"),
+    ("A∘.⍴B\n", "SYNTAX ERROR\n      A∘.⍴B\n        ∧\n"),
+    ("∘.+B\n", "SYNTAX ERROR\n      ∘.+B\n      ∧\n"),
+    ("A+[1]B\n", "SYNTAX ERROR\n      A+[1]B\n       ∧\n"),
+    (",[1]B\n", "SYNTAX ERROR\n      ,[1]B\n      ∧\n"),
+    ("⍋[1]B\n", "SYNTAX ERROR\n      ⍋[1]B\n      ∧\n"),
+    ("~/B\n", "SYNTAX ERROR\n      ~/B\n      ∧\n"),
+    ("⍴/B\n", "SYNTAX ERROR\n      ⍴/B\n      ∧\n"),
+    ("/B\n", "SYNTAX ERROR\n      /B\n      ∧\n"),
+    ("A⌽[1;2]B\n", "SYNTAX ERROR\n      A⌽[1;2]B\n          ∧\n"),
+    ("A⌽[]B\n", "SYNTAX ERROR\n      A⌽[]B\n        ∧\n"),
+    ("1+2)\n", "SYNTAX ERROR\n      1+2)\n      ∧\n"),
+    ("(1)2\n", "SYNTAX ERROR\n      (1)2\n        ∧\n"),
+    ("A B\n", "SYNTAX ERROR\n      A B\n      ∧\n"),
+    ("A+.×/B\n", "SYNTAX ERROR\n      A+.×/B\n        ∧\n"),
+    ("'A'←3\n", "SYNTAX ERROR\n      'A'←3\n      ∧\n"),
+    ("A[(1]\n", "SYNTAX ERROR\n      A[(1]\n        ∧\n"),
+];
+
+/// Forms that are not evaluated yet: their operands are, and then their caret is shown.
+pub(super) const FORMS_TO_COME: [(&str, &str); 14] = [
+    ("+3\n", "SYNTAX ERROR\n      +3\n      ∧\n"),
+    ("⍴3\n", "SYNTAX ERROR\n      ⍴3\n      ∧\n"),
+    ("1 2[1]\n", "SYNTAX ERROR\n      1 2[1]\n         ∧\n"),
+    ("Q[1]←2\n", "SYNTAX ERROR\n      Q[1]←2\n          ∧\n"),
+    ("Q[B]←2\n", "VALUE ERROR\n      Q[B]←2\n        ∧\n"),
+    ("Q[1]←B\n", "VALUE ERROR\n      Q[1]←B\n           ∧\n"),
+    ("⍴B\n", "VALUE ERROR\n      ⍴B\n       ∧\n"),
+    ("C⍴A←3\nA\n", "VALUE ERROR\n      C⍴A←3\n      ∧\n3\n"),
+    ("⌽[9]1 2\n", "SYNTAX ERROR\n      ⌽[9]1 2\n      ∧\n"),
+    ("⌽[B]1 2\n", "VALUE ERROR\n      ⌽[B]1 2\n        ∧\n"),
+    ("B[1]\n", "VALUE ERROR\n      B[1]\n      ∧\n"),
+    ("1∘.+2\n", "SYNTAX ERROR\n      1∘.+2\n        ∧\n"),
+    ("+/1 2\n", "SYNTAX ERROR\n      +/1 2\n       ∧\n"),
+    ("1÷B\n", "VALUE ERROR\n      1÷B\n        ∧\n"),
+];
+
+/// Commands.
+pub(super) const COMMANDS: [(&str, &str); 18] = [
+    (")ORIGIN 00\n )ORIGIN 1\n", "WAS 1\nWAS 0\n"),
+    (
+        ")ORIGIN\n)WIDTH 29\n) CLEAR\n)CLEAR 1\n",
+        "INCORRECT COMMAND\nINCORRECT COMMAND\nINCORRECT COMMAND\nINCORRECT COMMAND\n",
+    ),
+    (")○\n", "CHARACTER ERROR\n      )\n       ∧\n"),
+    (
+        ")WIDTH 30\n1 2 3 4 5 6 7 8 9 10 11 12 13 14 15 16 17 18 19 20\n",
+        "WAS 120\n1 2 3 4 5 6 7 8 9 10 11 12 13\n      14 15 16 17 18 19 20\n",
+    ),
+    (")CLEAR ⍝ x\n", "INCORRECT COMMAND\n"),
+    (")CLEAR⍝\n", "INCORRECT COMMAND\n"),
+    (")ORIGIN  01 \n", "WAS 1\n"),
+    (")ORIGIN0\n", "INCORRECT COMMAND\n"),
+    (")ORIGIN 1 1\n", "INCORRECT COMMAND\n"),
+    (")\n", "INCORRECT COMMAND\n"),
+    (")OFF 1\n1\n", "INCORRECT COMMAND\n1\n"),
+    (
+        ")WIDTH 0000000000000000000000000130\n)WIDTH 130\n",
+        "WAS 120\nWAS 130\n",
+    ),
+    (
+        ")WIDTH 9999999999999999999999999999999999999999\n",
+        "INCORRECT COMMAND\n",
+    ),
+    (")WIDTH ¯60\n", "INCORRECT COMMAND\n"),
+    ("  )CLEAR'\n", "INCORRECT COMMAND\n"),
+    (")'\n", "INCORRECT COMMAND\n"),
+    (")¯\n", "INCORRECT COMMAND\n"),
+    (")OFF\n#\n", ""),
+];
+
+/// An unlisted symbol is judged before all else.
+pub(super) const UNLISTED: [(&str, &str); 9] = [
+    ("2○3\n", "CHARACTER ERROR\n      2\n       ∧\n"),
+    (
+        "2○3\n2+3 4 5\n",
+        "CHARACTER ERROR\n      2\n       ∧\n5 6 7\n",
+    ),
+    ("\u{feff}\n", "CHARACTER ERROR\n      \n      ∧\n"),
+    ("1\t2\n", "CHARACTER ERROR\n      1\n       ∧\n"),
+    ("1\r\r\n", "CHARACTER ERROR\n      1\n       ∧\n"),
+    ("1 ⍝ ○\n", "CHARACTER ERROR\n      1 ⍝ \n          ∧\n"),
+    ("'○'\n", "CHARACTER ERROR\n      '\n       ∧\n"),
+    ("# ○\n", "CHARACTER ERROR\n      # \n        ∧\n"),
+    ("'⍴×'○\n", "CHARACTER ERROR\n      '⍴×'\n          ∧\n"),
+];

@@ -1,5 +1,0 @@
-use Rattle.apl_whole_grammar.proofs.Operations.{operations-injective}
-use Rattle.apl_whole_grammar.proofs.statement.one_reading.Goals as goal
-
-pub returns : goal.returns
-returns c = operations-injective

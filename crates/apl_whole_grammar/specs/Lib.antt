@@ -1,5 +1,0 @@
-pub mod Functions
-pub mod Tree
-pub mod Caret
-pub mod Stops
-pub mod Automaton
