@@ -120,7 +120,7 @@ fn arrays_of_numbers(rt: HostRuntime) -> Result<(), Fail> {
 
 #[test]
 fn arrays_of_characters(rt: HostRuntime) -> Result<(), Fail> {
-    let cases: [(&[usize], &str, u8, &str); 15] = [
+    let cases: [(&[usize], &str, u8, &str); 18] = [
         // scalars and vectors
         (&[], "A", 120, "A\n"),
         (&[0], "", 120, "\n"),
@@ -145,6 +145,9 @@ fn arrays_of_characters(rt: HostRuntime) -> Result<(), Fail> {
         (&[2, 3], "ABCDE ", 120, "ABC\nDE \n"),
         (&[2, 2, 2], "⍳⍴⍉⌽⊖⍋⍒×", 120, "⍳⍴\n⍉⌽\n\n⊖⍋\n⍒×\n"),
         (&[2, 2, 1, 1], "ABCD", 120, "A\n\nB\n\n\nC\n\nD\n"),
+        (&[1, 2, 1, 1, 1], "AB", 120, "A\n\n\nB\n"),
+        (&[2, 1, 1, 1, 1, 1], "AB", 120, "A\n\n\n\n\nB\n"),
+        (&[1, 1, 1, 1, 1, 1, 2], "AB", 120, "AB\n"),
         (&[1, 1, 1, 1, 1, 1, 1, 2], "AB", 120, "AB\n"),
         (&[2, 1, 1, 1, 1, 1, 1, 1], "AB", 120, "A\n\n\n\n\n\n\nB\n"),
         // without elements
