@@ -102,15 +102,29 @@ fn report(alloc: Global, name: &str, line: &[u8], column: usize) -> Result<Vec<u
 /// How many brackets or digits a long line has.
 const MANY: usize = 10_000;
 
+/// Checks what a long session writes.
+fn check_long(
+    rt: &impl Abort,
+    alloc: Global,
+    session: &[u8],
+    text: &[u8],
+) -> Result<(), AllocError> {
+    for most in SIZES {
+        let is_written = writes(alloc, session, most, text)?;
+        assert!(rt; is_written, "{most} at a time");
+    }
+    Ok(())
+}
+
 #[test]
 fn long_lines(rt: HostRuntime) -> Result<(), Fail> {
     let alloc = rt.alloc();
     let digits = vec![in alloc; b'9'; 1000]?;
     let limit = report(alloc, "LIMIT", digits.as_slice(), 0)?;
-    assert!(rt; writes(alloc, digits.as_slice(), 7, limit.as_slice())?);
+    check_long(&rt, alloc, digits.as_slice(), limit.as_slice())?;
     let unlisted = vec![in alloc; 0xe2; 100_000]?;
     let character = report(alloc, "CHARACTER", b"", 0)?;
-    assert!(rt; writes(alloc, unlisted.as_slice(), 1 << 20, character.as_slice())?);
+    check_long(&rt, alloc, unlisted.as_slice(), character.as_slice())?;
     Ok(())
 }
 
@@ -120,14 +134,14 @@ fn many_parentheses(rt: HostRuntime) -> Result<(), Fail> {
     let mut opened = vec![in alloc; b'('; MANY]?;
     opened.push(b'1')?;
     let unclosed = report(alloc, "SYNTAX", opened.as_slice(), MANY - 1)?;
-    assert!(rt; writes(alloc, opened.as_slice(), 1 << 20, unclosed.as_slice())?);
+    check_long(&rt, alloc, opened.as_slice(), unclosed.as_slice())?;
     let closing = vec![in alloc; b')'; MANY]?;
     opened.extend_from_slice(closing.as_slice())?;
-    assert!(rt; writes(alloc, opened.as_slice(), 1 << 20, b"1\n")?);
+    check_long(&rt, alloc, opened.as_slice(), b"1\n")?;
     let mut closed = vec![in alloc; b'1'; 1]?;
     closed.extend_from_slice(closing.as_slice())?;
     let unopened = report(alloc, "SYNTAX", closed.as_slice(), 0)?;
-    assert!(rt; writes(alloc, closed.as_slice(), 1 << 20, unopened.as_slice())?);
+    check_long(&rt, alloc, closed.as_slice(), unopened.as_slice())?;
     Ok(())
 }
 
