@@ -1,5 +1,3 @@
-pub mod PairLemmas
-pub mod Extended
 pub mod NameLemmas
 pub mod StepLemmas
 pub mod StackLemmas

@@ -6,12 +6,12 @@ use Rattle.apl_grammar.specs.declared.program.Operation.{Operation}
 use Rattle.apl_grammar.specs.declared.program.Operation.TheVariants as op
 use Rattle.apl_grammar.specs.declared.program.Form.{Form}
 use Rattle.apl_grammar.specs.declared.program.Form.TheVariants.{Plain, Reduce, Inner, Outer}
-use Rattle.apl_grammar.specs.Tree.{Expr, value, dyadic, monadic, assign, assign_at, Operand, constant, name, group, index, Slots, last, more, Slot, nothing, given, Axis, none, along, brackets, axis_brackets, semicolons, operations, operand_operations, list_operations, slot_operations, axis_operations, IsProgram}
+use Rattle.apl_grammar.specs.Tree.{Expr, value, dyadic, monadic, assign, assign_at, Operand, constant, name, group, index, Slots, last, more, Slot, nothing, given, none, along, brackets, semicolons, operations, operand_operations, list_operations, slot_operations, IsProgram}
 use Rattle.apl_print.specs.declared.reports.Report.{Report}
 use Rattle.apl_print.specs.declared.reports.Report.TheVariants.{Syntax}
 use Rattle.apl_eval.specs.Workspace.{WorkspaceValue}
-use Rattle.apl_eval.specs.Functions.{caret_column, dyadic_result}
-use Rattle.apl_eval.specs.Meaning.{Outcome, done, failed, then, judged, mean, mean_operand, mean_slots, mean_slot, mean_axis}
+use Rattle.apl_eval.specs.Functions.{caret_column, monadic_result, dyadic_result}
+use Rattle.apl_eval.specs.Meaning.{Outcome, done, failed, then, judged, mean, mean_operand, mean_slots, mean_slot}
 use Rattle.apl_eval.specs.Steps.{Item, State, HasValue, leaves, waiting, ended, stuck, onto, step, go_on, steps, IsOutcome, IsState}
 use Rattle.apl_eval.specs.declared.statement.EvalStop.{EvalStop}
 use Rattle.apl_eval.specs.declared.statement.EvalStop.TheVariants.{Error, Memory}
@@ -29,15 +29,17 @@ after_axis : {U : Type 0} (m : Outcome ArrayValue) (before : ArrayValue → List
 after_axis (done v u) before behind next here there h = h v u
 after_axis (failed report column u) before behind next here there h = refl
 
-abbrev axis_on : List Item → Option ArrayValue → List Item
-axis_on below None = below
-axis_on below (Some v) = Some v ∷ below
+dyadic_along : (f : Form) (x l r : ArrayValue) → dyadic_result f (Some x) l r ≡ Err Syntax
+dyadic_along (Plain column glyph) x l r = refl
+dyadic_along (Reduce column function slash_column slash_glyph) x l r = refl
+dyadic_along (Inner left_column left dot right_column right) x l r = refl
+dyadic_along (Outer jot dot column function) x l r = refl
 
-along_axis : (f : Form) (x l r : ArrayValue) → dyadic_result f (Some x) l r ≡ Err Syntax
-along_axis (Plain column glyph) x l r = refl
-along_axis (Reduce column function slash_column slash_glyph) x l r = refl
-along_axis (Inner left_column left dot right_column right) x l r = refl
-along_axis (Outer jot dot column function) x l r = refl
+monadic_along : (f : Form) (x b : ArrayValue) → monadic_result f (Some x) b ≡ Err Syntax
+monadic_along (Plain column glyph) x b = refl
+monadic_along (Reduce column function slash_column slash_glyph) x b = refl
+monadic_along (Inner left_column left dot right_column right) x b = refl
+monadic_along (Outer jot dot column function) x b = refl
 
 mutual
   steps-operations : (e : Expr) (rest : List Operation) (below : List Item) (w : WorkspaceValue) → steps (operations e ++ rest) below w ≡ go_on (onto below (mean e w)) (steps rest)
@@ -57,13 +59,20 @@ mutual
       steps-operations x (operand_operations o ++ last_one ∷ rest) (Some b ∷ below) u
       ∙ after_axis (mean x u) _ _ _ _ _ (λ v t.
       steps-operand o (last_one ∷ rest) (Some v ∷ Some b ∷ below) t
-      ∙ after (mean_operand o t) _ _ _ _ _ (λ a s. ap (λ m. go_on (onto below (judged m (caret_column f) s)) (steps rest)) (sym (along_axis f v a b)))))
-  steps-operations (monadic f a e) rest below w =
-      let last_one : Operation = op.Monadic f (axis_brackets a) in
-      let regrouped : (operations e ++ (axis_operations a ++ last_one ∷ [])) ++ rest ≡ operations e ++ (axis_operations a ++ last_one ∷ rest) = simp append_assoc in
+      ∙ after (mean_operand o t) _ _ _ _ _ (λ a s. ap (λ m. go_on (onto below (judged m (caret_column f) s)) (steps rest)) (sym (dyadic_along f v a b)))))
+  steps-operations (monadic f none e) rest below w =
+      let last_one : Operation = op.Monadic f None in
+      ap (λ os. steps os below w) (append_assoc (operations e) (last_one ∷ []) rest)
+      ∙ steps-operations e (last_one ∷ rest) below w
+      ∙ after (mean e w) _ _ _ _ _ (λ b u. refl)
+  steps-operations (monadic f (along l x r) e) rest below w =
+      let last_one : Operation = op.Monadic f (Some (brackets l r)) in
+      let regrouped : (operations e ++ (operations x ++ last_one ∷ [])) ++ rest ≡ operations e ++ (operations x ++ last_one ∷ rest) = simp append_assoc in
       ap (λ os. steps os below w) regrouped
-      ∙ steps-operations e (axis_operations a ++ last_one ∷ rest) below w
-      ∙ after (mean e w) _ _ _ _ _ (λ b u. steps-axis a (last_one ∷ rest) (Some b ∷ below) u ∙ after (mean_axis a u) _ _ _ _ _ (λ x v. refl))
+      ∙ steps-operations e (operations x ++ last_one ∷ rest) below w
+      ∙ after (mean e w) _ _ _ _ _ (λ b u.
+      steps-operations x (last_one ∷ rest) (Some b ∷ below) u
+      ∙ after_axis (mean x u) _ _ _ _ _ (λ v t. ap (λ m. go_on (onto below (judged m (caret_column f) t)) (steps rest)) (sym (monadic_along f v b))))
   steps-operations (assign c n r e) rest below w =
       ap (λ os. steps os below w) (append_assoc (operations e) (op.Assign c n r ∷ []) rest)
       ∙ steps-operations e (op.Assign c n r ∷ rest) below w
@@ -99,10 +108,6 @@ mutual
   steps-slot : (s : Slot) (rest : List Operation) (below : List Item) (w : WorkspaceValue) → steps (slot_operations s ++ rest) below w ≡ go_on (leaves (λ x. x ∷ below) (mean_slot s w)) (steps rest)
   steps-slot nothing rest below w = refl
   steps-slot (given e) rest below w = steps-operations e rest below w ∙ after (mean e w) _ _ _ _ _ (λ v u. refl)
-
-  steps-axis : (a : Axis) (rest : List Operation) (below : List Item) (w : WorkspaceValue) → steps (axis_operations a ++ rest) below w ≡ go_on (leaves (axis_on below) (mean_axis a w)) (steps rest)
-  steps-axis none rest below w = refl
-  steps-axis (along l e r) rest below w = steps-operations e rest below w ∙ after (mean e w) _ _ _ _ _ (λ v u. refl)
 
 onto-nothing : (m : Outcome ArrayValue) → go_on (onto [] m) (steps []) ≡ onto [] m
 onto-nothing (done v w) = refl

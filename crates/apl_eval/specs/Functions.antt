@@ -1,11 +1,19 @@
 -- Functions in all their forms: where their faults are shown, and their results.
-use Rattle.std.specs.Prelude.{ℕ, Option, None, Result, Err}
+use Rattle.std.specs.Prelude.{ℕ, Option, Some, None, Result, Ok, Err, if◌then◌else◌}
 use Rattle.apl_array.specs.Array.{ArrayValue}
+use Rattle.apl_tokens.specs.declared.token.Glyph.{Glyph}
+use Rattle.apl_tokens.specs.declared.token.Glyph.TheVariants as glyph
 use Rattle.apl_grammar.specs.declared.program.Form.{Form}
 use Rattle.apl_grammar.specs.declared.program.Form.TheVariants.{Plain, Reduce, Inner, Outer}
 use Rattle.apl_print.specs.declared.reports.Report.{Report}
-use Rattle.apl_print.specs.declared.reports.Report.TheVariants.{Syntax}
-use Rattle.apl_eval.specs.Arithmetic.{exact_function, applied}
+use Rattle.apl_print.specs.declared.reports.Report.TheVariants as report
+use Rattle.apl_scalar.specs.declared.function.ScalarFunction.{ScalarFunction}
+use Rattle.apl_scalar.specs.declared.function.ScalarFunction.TheVariants as scalar
+use Rattle.apl_scalar.specs.declared.function.OpFault.{OpFault}
+use Rattle.apl_scalar.specs.declared.function.OpFault.TheVariants as fault
+use Rattle.apl_scalar.specs.Scalar.{has_monadic, has_dyadic}
+use Rattle.apl_scalar.specs.Monadic.{monadic_answer}
+use Rattle.apl_scalar.specs.Dyadic.{dyadic_answer}
 
 -- at the symbol, a reduction's slash, or a product's dot
 abbrev pub caret_column : Form → ℕ
@@ -14,11 +22,58 @@ caret_column (Reduce column function slash_column slash_glyph) = slash_column
 caret_column (Inner left_column left dot right_column right) = dot
 caret_column (Outer jot dot column function) = dot
 
+-- the scalar function of a glyph, if it has one
+abbrev pub scalar_function : Glyph → Option ScalarFunction
+scalar_function glyph.Plus = Some scalar.Plus
+scalar_function glyph.Minus = Some scalar.Minus
+scalar_function glyph.Times = Some scalar.Times
+scalar_function glyph.Divide = Some scalar.Divide
+scalar_function glyph.Stile = Some scalar.Stile
+scalar_function glyph.Star = Some scalar.Star
+scalar_function glyph.Bang = Some scalar.Bang
+scalar_function glyph.Floor = Some scalar.Floor
+scalar_function glyph.Ceiling = Some scalar.Ceiling
+scalar_function glyph.And = Some scalar.And
+scalar_function glyph.Or = Some scalar.Or
+scalar_function glyph.Nand = Some scalar.Nand
+scalar_function glyph.Nor = Some scalar.Nor
+scalar_function glyph.Less = Some scalar.Less
+scalar_function glyph.LessOrEqual = Some scalar.LessOrEqual
+scalar_function glyph.Equal = Some scalar.Equal
+scalar_function glyph.GreaterOrEqual = Some scalar.GreaterOrEqual
+scalar_function glyph.Greater = Some scalar.Greater
+scalar_function glyph.NotEqual = Some scalar.NotEqual
+scalar_function glyph.Tilde = Some scalar.Tilde
+scalar_function _ = None
+
+-- the report of a fault; want of memory is the answer of no function
+abbrev pub report_of : OpFault → Report
+report_of fault.Rank = report.Rank
+report_of fault.Length = report.Length
+report_of fault.Index = report.Index
+report_of fault.Domain = report.Domain
+report_of fault.Limit = report.Limit
+report_of fault.Memory = report.WsFull
+
+abbrev pub reported : Result ArrayValue OpFault → Result ArrayValue Report
+reported (Ok array) = Ok array
+reported (Err fault) = Err (report_of fault)
+
+-- a scalar function of one argument, and of two; where it isn't a function of so many it is Syntax
+abbrev pub monadic_scalar : Option ScalarFunction → (argument : ArrayValue) → Result ArrayValue Report
+monadic_scalar (Some f) argument = if has_monadic f then reported (monadic_answer f argument) else Err report.Syntax
+monadic_scalar None argument = Err report.Syntax
+
+abbrev pub dyadic_scalar : Option ScalarFunction → (left right : ArrayValue) → Result ArrayValue Report
+dyadic_scalar (Some f) left right = if has_dyadic f then reported (dyadic_answer f left right) else Err report.Syntax
+dyadic_scalar None left right = Err report.Syntax
+
+-- of one argument, perhaps along an axis; forms that are not built so far are Syntax
+abbrev pub monadic_result : Form → Option ArrayValue → (argument : ArrayValue) → Result ArrayValue Report
+monadic_result (Plain column glyph) None argument = monadic_scalar (scalar_function glyph) argument
+monadic_result _ _ argument = Err report.Syntax
+
 -- of two arguments, perhaps along an axis; forms that are not built so far are Syntax
 abbrev pub dyadic_result : Form → Option ArrayValue → (left right : ArrayValue) → Result ArrayValue Report
-dyadic_result (Plain column glyph) None left right = applied (exact_function glyph) left right
-dyadic_result _ _ left right = Err Syntax
-
--- of one argument, perhaps along an axis: no form is built so far
-abbrev pub monadic_result : Form → Option ArrayValue → (argument : ArrayValue) → Result ArrayValue Report
-monadic_result f axis argument = Err Syntax
+dyadic_result (Plain column glyph) None left right = dyadic_scalar (scalar_function glyph) left right
+dyadic_result _ _ left right = Err report.Syntax

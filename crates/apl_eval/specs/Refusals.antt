@@ -1,15 +1,19 @@
--- Why a function has no value, beside want of memory.
+-- Why a function has no value, beside want of memory. No contract of a public function cites this file.
 use Rattle.std.specs.Prelude.{◌≡◌, Result, Ok, Err}
+use Rattle.apl_array.specs.Array.{ArrayValue}
 use Rattle.apl_print.specs.declared.reports.Report.{Report}
-use Rattle.apl_eval.specs.declared.arithmetic.Refusal.{Refusal}
-use Rattle.apl_eval.specs.declared.arithmetic.Refusal.TheVariants.{Fault, Memory}
+use Rattle.apl_scalar.specs.declared.function.OpFault.{OpFault}
+use Rattle.apl_scalar.specs.declared.function.OpFault.TheVariants as fault
+use Rattle.apl_eval.specs.Functions.{report_of}
+use Rattle.apl_eval.specs.declared.functions.Refusal.{Refusal}
+use Rattle.apl_eval.specs.declared.functions.Refusal.TheVariants.{Fault, Memory}
 
--- the refusal is the fault that there is; of want of memory nothing is said
-abbrev pub IsRefusalOf : {A : Type 0} → Result A Report → Refusal → Type 0
-IsRefusalOf outcome (Fault report) = outcome ≡ Err report
-IsRefusalOf outcome Memory = Unit {0}
+abbrev pub refusal_of : OpFault → Refusal
+refusal_of fault.Memory = Memory
+refusal_of f = Fault (report_of f)
 
--- the value or the fault that there is, or want of memory
-abbrev pub Answers : {A B : Type 0} → Result A Report → (B → A) → Result B Refusal → Type 0
-Answers outcome view (Ok x) = outcome ≡ Ok (view x)
-Answers outcome view (Err refusal) = IsRefusalOf outcome refusal
+-- the value or the report that there is; of want of memory nothing is said
+abbrev pub Answers : Result ArrayValue Report → Result ArrayValue Refusal → Type 0
+Answers wanted (Ok array) = wanted ≡ Ok array
+Answers wanted (Err (Fault report)) = wanted ≡ Err report
+Answers wanted (Err Memory) = Unit {0}

@@ -7,7 +7,7 @@ use Rattle.apl_grammar.specs.declared.program.Operation.TheVariants as op
 use Rattle.apl_print.specs.declared.reports.Report.{Report}
 use Rattle.apl_print.specs.declared.reports.Report.TheVariants.{Syntax}
 use Rattle.apl_eval.specs.Workspace.{NameValues, WorkspaceValue, with_names, value_of, assigned}
-use Rattle.apl_eval.specs.Functions.{caret_column, dyadic_result}
+use Rattle.apl_eval.specs.Functions.{caret_column, monadic_result, dyadic_result}
 use Rattle.apl_eval.specs.Meaning.{Outcome, done, failed, found, judged}
 use Rattle.apl_eval.specs.Names.{overlaid}
 use Rattle.apl_eval.specs.declared.statement.EvalStop.{EvalStop}
@@ -40,7 +40,8 @@ step op.EmptySlot below w = waiting (None ∷ below) w
 step (op.Index semicolons brackets) items w = ended Syntax brackets.left w
 step (op.Assign column name arrow) (Some b ∷ below) w = waiting (Some b ∷ below) (assigned name b w)
 step (op.AssignAt column name semicolons brackets arrow) items w = ended Syntax arrow w
-step (op.Monadic f axis) items w = ended Syntax (caret_column f) w
+step (op.Monadic f None) (Some b ∷ below) w = onto below (judged (monadic_result f None b) (caret_column f) w)
+step (op.Monadic f (Some brackets)) items w = ended Syntax (caret_column f) w
 step (op.Dyadic f None) (Some a ∷ Some b ∷ below) w = onto below (judged (dyadic_result f None a b) (caret_column f) w)
 step (op.Dyadic f (Some brackets)) items w = ended Syntax (caret_column f) w
 step _ items w = stuck

@@ -1,13 +1,44 @@
 //! Functions in all their forms.
-ghost use Rattle.std.specs.Prelude.{◌≡◌, None};
-ghost use Rattle.apl_eval.specs.Functions.{caret_column, dyadic_result};
+ghost use Rattle.std.specs.Prelude.{◌≡◌, None, Result};
+ghost use Rattle.apl_array.specs.Array.{ArrayValue};
+ghost use Rattle.apl_scalar.specs.declared.function.OpFault.{OpFault};
+ghost use Rattle.apl_scalar.specs.Pointwise.{IsAnswerOf};
+ghost use Rattle.apl_eval.specs.Functions.{caret_column, scalar_function, reported, monadic_scalar, dyadic_scalar, monadic_result, dyadic_result};
 ghost use Rattle.apl_eval.specs.Refusals.{Answers};
 
-use super::arithmetic::{self, Refusal};
 use apl_array::Array;
 use apl_grammar::Form;
+use apl_pool::{Cut, Gate, Pool};
 use apl_print::Report;
+use apl_scalar::{OpFault, Prim};
+use apl_tokens::Glyph;
 use std::alloc::Global;
+use std::thread::Threads;
+
+/// Why a function has no value.
+#[derive(Drop)]
+pub(crate) enum Refusal {
+    Fault(Report),
+    Memory,
+}
+
+impl From<OpFault> for Refusal {
+    ghost use Rattle.std.specs.Prelude.{◌≡◌};
+    ghost use Rattle.apl_eval.specs.Refusals.{refusal_of};
+
+    ghost from_gives = { λ fault r. r ≡ refusal_of fault };
+
+    fn from(fault: OpFault) -> Refusal {
+        match fault {
+            OpFault::Rank => Refusal::Fault(Report::Rank),
+            OpFault::Length => Refusal::Fault(Report::Length),
+            OpFault::Index => Refusal::Fault(Report::Index),
+            OpFault::Domain => Refusal::Fault(Report::Domain),
+            OpFault::Limit => Refusal::Fault(Report::Limit),
+            OpFault::Memory => Refusal::Memory,
+        }
+    }
+}
 
 /// The column at which a function's faults are shown.
 pub(crate) fn caret_column(form: Form) -> usize
@@ -20,17 +51,117 @@ pub(crate) fn caret_column(form: Form) -> usize
     }
 }
 
-/// The result of a function of two arrays, without axis.
-pub(crate) fn dyadic(
+/// The scalar function of a glyph, if it has one.
+fn scalar_function(glyph: Glyph) -> Option<Prim>
+    ensures { result ≡ scalar_function glyph }
+{
+    match glyph {
+        Glyph::Plus => Some(Prim::Plus),
+        Glyph::Minus => Some(Prim::Minus),
+        Glyph::Times => Some(Prim::Times),
+        Glyph::Divide => Some(Prim::Divide),
+        Glyph::Stile => Some(Prim::Stile),
+        Glyph::Star => Some(Prim::Star),
+        Glyph::Bang => Some(Prim::Bang),
+        Glyph::Floor => Some(Prim::Floor),
+        Glyph::Ceiling => Some(Prim::Ceiling),
+        Glyph::And => Some(Prim::And),
+        Glyph::Or => Some(Prim::Or),
+        Glyph::Nand => Some(Prim::Nand),
+        Glyph::Nor => Some(Prim::Nor),
+        Glyph::Less => Some(Prim::Less),
+        Glyph::LessOrEqual => Some(Prim::LessOrEqual),
+        Glyph::Equal => Some(Prim::Equal),
+        Glyph::GreaterOrEqual => Some(Prim::GreaterOrEqual),
+        Glyph::Greater => Some(Prim::Greater),
+        Glyph::NotEqual => Some(Prim::NotEqual),
+        Glyph::Tilde => Some(Prim::Tilde),
+        _ => None,
+    }
+}
+
+/// What a scalar function answered, its fault as a report.
+fn reported(answer: Result<Array, OpFault>) -> Result<Array, Refusal>
+    ensures { (wanted : Result ArrayValue OpFault) → IsAnswerOf wanted answer → Answers (reported wanted) result }
+{
+    match answer {
+        Ok(array) => Ok(array),
+        Err(fault) => Err(Refusal::from(fault)),
+    }
+}
+
+/// A scalar function of one array.
+fn monadic_scalar<R: Threads + Sync, C: Cut + Sync, G: Gate + Sync>(
+    rt: &R,
     alloc: Global,
+    pool: &Pool<C, G>,
+    function: Option<Prim>,
+    right: &Array,
+) -> Result<Array, Refusal>
+    ensures { Answers (monadic_scalar function right.now) result }
+{
+    match function {
+        Some(function) if function.is_monadic() => {
+            reported(apl_scalar::monadic(rt, alloc, pool, function, right))
+        }
+        _ => Err(Refusal::Fault(Report::Syntax)),
+    }
+}
+
+/// A scalar function of two arrays.
+fn dyadic_scalar<R: Threads + Sync, C: Cut + Sync, G: Gate + Sync>(
+    rt: &R,
+    alloc: Global,
+    pool: &Pool<C, G>,
+    function: Option<Prim>,
+    left: &Array,
+    right: &Array,
+) -> Result<Array, Refusal>
+    ensures { Answers (dyadic_scalar function left.now right.now) result }
+{
+    match function {
+        Some(function) if function.is_dyadic() => {
+            reported(apl_scalar::dyadic(rt, alloc, pool, function, left, right))
+        }
+        _ => Err(Refusal::Fault(Report::Syntax)),
+    }
+}
+
+/// The result of a function of one array, without axis.
+pub(crate) fn monadic<R: Threads + Sync, C: Cut + Sync, G: Gate + Sync>(
+    rt: &R,
+    alloc: Global,
+    pool: &Pool<C, G>,
+    form: Form,
+    right: &Array,
+) -> Result<Array, Refusal>
+    ensures { Answers (monadic_result form None right.now) result }
+{
+    match form {
+        Form::Plain { glyph, .. } => {
+            monadic_scalar(rt, alloc, pool, scalar_function(glyph), right)
+        }
+        Form::Reduce { .. } | Form::Inner { .. } | Form::Outer { .. } => {
+            Err(Refusal::Fault(Report::Syntax))
+        }
+    }
+}
+
+/// The result of a function of two arrays, without axis.
+pub(crate) fn dyadic<R: Threads + Sync, C: Cut + Sync, G: Gate + Sync>(
+    rt: &R,
+    alloc: Global,
+    pool: &Pool<C, G>,
     form: Form,
     left: &Array,
     right: &Array,
 ) -> Result<Array, Refusal>
-    ensures { Answers (dyadic_result form None left.now right.now) (λ a. a) result }
+    ensures { Answers (dyadic_result form None left.now right.now) result }
 {
     match form {
-        Form::Plain { glyph, .. } => arithmetic::dyadic(alloc, glyph, left, right),
+        Form::Plain { glyph, .. } => {
+            dyadic_scalar(rt, alloc, pool, scalar_function(glyph), left, right)
+        }
         Form::Reduce { .. } | Form::Inner { .. } | Form::Outer { .. } => {
             Err(Refusal::Fault(Report::Syntax))
         }

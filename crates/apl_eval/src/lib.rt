@@ -1,7 +1,6 @@
 //! Workspaces, and statements evaluated in them.
 #![tactic(auto)]
 
-mod arithmetic;
 mod functions;
 mod names;
 mod stack;

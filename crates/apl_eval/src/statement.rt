@@ -1,27 +1,30 @@
 //! Statements evaluated in a workspace.
-ghost use Rattle.std.specs.Prelude.{◌≡◌, ◌≢◌, ◌≤◌, Some, None, MatchOption, IfOk};
+ghost use Rattle.std.specs.Prelude.{◌≡◌, ◌≢◌, ◌≤◌, Some, None, MatchOption, Result, IfOk};
 ghost use Rattle.std.specs.FinMap.{empty};
 ghost use Rattle.apl_array.specs.Array.{ArrayValue};
 ghost use Rattle.apl_grammar.specs.Tree.{Expr, operations};
+ghost use Rattle.apl_print.specs.declared.reports.Report.{Report};
 ghost use Rattle.apl_print.specs.declared.reports.Report.TheVariants.{Syntax};
 ghost use Rattle.apl_eval.specs.declared.statement.EvalStop.TheVariants.{Error};
 ghost use Rattle.apl_eval.specs.Workspace.{WorkspaceValue, value_of};
-ghost use Rattle.apl_eval.specs.Functions.{caret_column, dyadic_result};
+ghost use Rattle.apl_eval.specs.Functions.{caret_column};
 ghost use Rattle.apl_eval.specs.Meaning.{Outcome, done, found, judged, mean, is_assignment};
 ghost use Rattle.apl_eval.specs.Evaluates.{Evaluates, IsShownAs};
+ghost use Rattle.apl_eval.specs.Refusals.{Answers};
 ghost use Rattle.apl_eval.specs.Steps.{step, stuck, onto, staged_in, IsOutcome, IsState};
 
-use super::arithmetic::Refusal;
-use super::functions::{caret_column, dyadic};
+use super::functions::{Refusal, caret_column, dyadic, monadic};
 use super::names::Names;
 use super::stack::Stack;
 use super::workspace::Workspace;
 use apl_array::Array;
 use apl_grammar::{Form, Operation, Program};
+use apl_pool::{Cut, Gate, Pool};
 use apl_print::{Report, print};
 use apl_tokens::Constant;
 use std::alloc::{AllocError, AllocFailed, Global};
 use std::rc::Rc;
+use std::thread::Threads;
 
 /// What a statement shows.
 #[derive(Drop)]
@@ -97,16 +100,11 @@ fn name_value(
     }
 }
 
-/// The result of a function of two arrays, or its fault at its caret.
-fn result_value(
-    alloc: Global,
-    form: Form,
-    left: &Array,
-    right: &Array,
-) -> Result<Rc<Array>, EvalStop>
-    ensures { (w : WorkspaceValue) → IsOutcome (judged (dyadic_result form None left.now right.now) (caret_column form) w) w result }
+/// A function's result, or its fault at its caret.
+fn judged(alloc: Global, answer: Result<Array, Refusal>, form: Form) -> Result<Rc<Array>, EvalStop>
+    ensures { (wanted : Result ArrayValue Report) → (w : WorkspaceValue) → Answers wanted answer → IsOutcome (judged wanted (caret_column form) w) w result }
 {
-    match dyadic(alloc, form, left, right) {
+    match answer {
         Ok(value) => Ok(Rc::new(alloc, value)?),
         Err(Refusal::Fault(report)) => Err(EvalStop::Error {
             report,
@@ -140,8 +138,10 @@ fn put(stack: &mut Stack, value: Result<Rc<Array>, EvalStop>) -> Result<(), Eval
 }
 
 /// Carries out one operation. The line's assignments are staged, and read before the workspace's names.
-fn carry_out(
+fn carry_out<R: Threads + Sync, C: Cut + Sync, G: Gate + Sync>(
+    rt: &R,
     alloc: Global,
+    pool: &Pool<C, G>,
     workspace: &Workspace,
     staged: &mut Names,
     stack: &mut Stack,
@@ -165,9 +165,15 @@ fn carry_out(
         Operation::Dyadic(form, None) => {
             let left = stack.pop_value();
             let right = stack.pop_value();
-            put(stack, result_value(alloc, *form, &left, &right))
+            let result = dyadic(rt, alloc, pool, *form, &left, &right);
+            put(stack, judged(alloc, result, *form))
         }
-        Operation::Dyadic(form, Some(_)) | Operation::Monadic(form, _) => {
+        Operation::Monadic(form, None) => {
+            let right = stack.pop_value();
+            let result = monadic(rt, alloc, pool, *form, &right);
+            put(stack, judged(alloc, result, *form))
+        }
+        Operation::Dyadic(form, Some(_)) | Operation::Monadic(form, Some(_)) => {
             Err(not_built(caret_column(*form)))
         }
         Operation::Index(_, brackets) => Err(not_built(brackets.left)),
@@ -176,8 +182,10 @@ fn carry_out(
 }
 
 /// The value of a program. The line's assignments are staged.
-fn run(
+fn run<R: Threads + Sync, C: Cut + Sync, G: Gate + Sync>(
+    rt: &R,
     alloc: Global,
+    pool: &Pool<C, G>,
     workspace: &Workspace,
     staged: &mut Names,
     program: &Program,
@@ -187,7 +195,7 @@ fn run(
 {
     let mut stack = Stack::new(alloc);
     'operations: for operation in program.operations() {
-        match carry_out(alloc, workspace, staged, &mut stack, operation) {
+        match carry_out(rt, alloc, pool, workspace, staged, &mut stack, operation) {
             Ok(()) => {}
             Err(stop) => return Err(stop),
         }
@@ -221,12 +229,18 @@ fn text_of(alloc: Global, program: &Program, value: &Array, width: u8) -> Result
 ///
 /// An assignment shows nothing, and another statement the text of its value, printed at the workspace's width. After a fault the
 /// assignments made before it are kept. What is not built so far is a syntax error, once its operands have values. After want of
-/// memory the workspace is as it was.
-pub fn eval(workspace: &mut Workspace, alloc: Global, program: &Program) -> Result<Shown, EvalStop>
+/// memory the workspace is as it was. The pool computes the elements of scalar functions, and is not seen in the answer.
+pub fn eval<R: Threads + Sync, C: Cut + Sync, G: Gate + Sync>(
+    workspace: &mut Workspace,
+    rt: &R,
+    alloc: Global,
+    pool: &Pool<C, G>,
+    program: &Program,
+) -> Result<Shown, EvalStop>
     ensures { (tree : Expr) → operations tree ≡ program.now → Evaluates tree workspace.old workspace.new result }
 {
     let mut staged = Names::new(alloc);
-    match run(alloc, workspace, &mut staged, program) {
+    match run(rt, alloc, pool, workspace, &mut staged, program) {
         Ok(value) => {
             let shown = text_of(alloc, program, &value, workspace.width())?;
             workspace.keep(staged)?;

@@ -1,10 +1,17 @@
-//! What answers a line.
+//! What answers the lines of a run.
+ghost use Rattle.std.specs.Prelude.{◌≡◌};
 ghost use Rattle.apl_print.specs.Failures.{CountsFailure};
+ghost use Rattle.apl_eval.specs.Workspace.{opening_workspace};
 ghost use Rattle.apl_session.specs.Lines.{IsUnbroken};
-ghost use Rattle.apl_session.specs.Run.{Semantics};
 ghost use Rattle.apl_session.specs.LineAnswer.{IsLineAnswered};
+ghost use Rattle.apl_session.specs.Step.{session_semantics};
 
+use super::sessions::Session;
+use apl_pool::{Cut, Gate, Pool};
 use apl_print::Sink;
+use std::alloc::Global;
+use std::marker::Model;
+use std::thread::Threads;
 use thiserror::Error;
 
 /// Whether a run goes on after a line.
@@ -25,15 +32,47 @@ pub enum RunFault {
     Memory,
 }
 
-/// Answers lines, one after the other.
-pub(crate) trait Interpreter {
-    // what the lines mean
-    ghost semantics: { Semantics Self };
+/// A session, with the threads, the allocator and the pool that its lines are answered with.
+#[derive(Drop)]
+pub(crate) struct Interpreter<'a, R: Threads + Sync, C: Cut + Sync, G: Gate + Sync> {
+    rt: &'a R,
+    alloc: Global,
+    pool: &'a Pool<C, G>,
+    session: Session,
+}
 
-    /// Answers a line. Where the write fails, the interpreter is as after the line, and a beginning of the answer's text
-    /// was written.
-    fn answer<S: Sink>(&mut self, line: &[u8], sink: &mut S) -> Result<Next, RunFault>
+impl<'a, R: Threads + Sync, C: Cut + Sync, G: Gate + Sync> Model for Interpreter<'a, R, C, G> {
+    ghost use Rattle.apl_eval.specs.contracts.workspace.Workspace as stored;
+    ghost use Rattle.apl_eval.specs.Workspace.{WorkspaceValue};
+
+    ghost Value = { WorkspaceValue };
+
+    ghost coded = { stored.the_row.coded };
+
+    ghost view = { λ i. i.session };
+}
+
+impl<'a, R: Threads + Sync, C: Cut + Sync, G: Gate + Sync> Interpreter<'a, R, C, G> {
+    /// A new session.
+    pub(crate) fn new(rt: &'a R, alloc: Global, pool: &'a Pool<C, G>) -> Interpreter<'a, R, C, G>
+        ensures { result ≡ opening_workspace }
+    {
+        Interpreter {
+            rt,
+            alloc,
+            pool,
+            session: Session::new(alloc),
+        }
+    }
+
+    /// Answers a line. Where the write fails, the session is as after the line, and a beginning of the answer's text was
+    /// written.
+    pub(crate) fn answer<S: Sink>(&mut self, line: &[u8], sink: &mut S) -> Result<Next, RunFault>
         requires { IsUnbroken line.now }
-        ensures answered { IsLineAnswered semantics self.old self.new line.now (S.taken sink.old) (S.taken sink.new) result }
-        ensures failures { CountsFailure (S.failures sink.old) (S.failures sink.new) result };
+        ensures answered { IsLineAnswered session_semantics self.old self.new line.now (S.taken sink.old) (S.taken sink.new) result }
+        ensures failures { CountsFailure (S.failures sink.old) (S.failures sink.new) result }
+    {
+        self.session
+            .line(self.rt, self.alloc, self.pool, line, sink)
+    }
 }

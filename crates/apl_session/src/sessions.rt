@@ -16,12 +16,14 @@ use super::lines::trim_return;
 use apl_array::Origin;
 use apl_eval::{EvalStop, Shown, Workspace, eval};
 use apl_grammar::Program;
+use apl_pool::{Cut, Gate, Pool};
 use apl_print::{
     Reply, Report, Sink, SinkFault, put_all, reply as put_reply, report as put_report,
 };
 use apl_syntax::{Command, Line, ReadStop, read};
 use std::alloc::Global;
 use std::marker::Model;
+use std::thread::Threads;
 
 /// A session: what the lines so far left behind.
 #[derive(Drop)]
@@ -52,9 +54,11 @@ impl Session {
 
     /// Answers a line, which is given without its LF, and writes the answer. Where the write fails, the session is as after
     /// the line, and a beginning of the answer's text was written.
-    pub fn line<S: Sink>(
+    pub fn line<R: Threads + Sync, C: Cut + Sync, G: Gate + Sync, S: Sink>(
         &mut self,
+        rt: &R,
         alloc: Global,
+        pool: &Pool<C, G>,
         line: &[u8],
         sink: &mut S,
     ) -> Result<Next, RunFault>
@@ -62,14 +66,23 @@ impl Session {
         ensures answered { IsLineAnswered session_semantics self.old self.new line.now (S.taken sink.old) (S.taken sink.new) result }
         ensures failures { CountsFailure (S.failures sink.old) (S.failures sink.new) result }
     {
-        answer(&mut self.workspace, alloc, trim_return(line), sink)
+        answer(
+            &mut self.workspace,
+            rt,
+            alloc,
+            pool,
+            trim_return(line),
+            sink,
+        )
     }
 }
 
 /// Answers a line without its carriage return.
-fn answer<S: Sink>(
+fn answer<R: Threads + Sync, C: Cut + Sync, G: Gate + Sync, S: Sink>(
     workspace: &mut Workspace,
+    rt: &R,
     alloc: Global,
+    pool: &Pool<C, G>,
     line: &[u8],
     sink: &mut S,
 ) -> Result<Next, RunFault>
@@ -79,7 +92,9 @@ fn answer<S: Sink>(
     match read(alloc, line) {
         Ok(Line::Blank) => Ok(Next::Go),
         Ok(Line::Command(command)) => obey(workspace, command, line, sink),
-        Ok(Line::Statement(program)) => answer_statement(workspace, alloc, &program, line, sink),
+        Ok(Line::Statement(program)) => answer_statement(
+            workspace, rt, alloc, pool, &program, line, sink,
+        ),
         Err(ReadStop::Character { bytes, column }) => {
             go_on(put_report(sink, Report::Character, &line[..bytes], Some(column)))
         }
@@ -141,9 +156,11 @@ fn origin_reply(origin: Origin) -> Reply
 }
 
 /// Answers a line that is this statement.
-fn answer_statement<S: Sink>(
+fn answer_statement<R: Threads + Sync, C: Cut + Sync, G: Gate + Sync, S: Sink>(
     workspace: &mut Workspace,
+    rt: &R,
     alloc: Global,
+    pool: &Pool<C, G>,
     program: &Program,
     line: &[u8],
     sink: &mut S,
@@ -152,7 +169,7 @@ fn answer_statement<S: Sink>(
     ensures given { IsGiven workspace.old workspace.new line.now (S.taken sink.old) (S.taken sink.new) result }
     ensures failures { CountsFailure (S.failures sink.old) (S.failures sink.new) result }
 {
-    match eval(workspace, alloc, program) {
+    match eval(workspace, rt, alloc, pool, program) {
         Ok(Shown::Silent) => Ok(Next::Go),
         Ok(Shown::Text(text)) => go_on(put_all(sink, text.as_bytes())),
         Err(EvalStop::Error { report, column }) => {

@@ -1,106 +1,59 @@
-//! Runs of a small interpreter that writes each line back.
-ghost use Rattle.std.specs.Prelude.{◌<◌};
-
-use super::interpreter::{Interpreter, Next, RunFault};
-use super::lines::trim_return;
-use super::memory::MemorySource;
-use super::runs::{BLOCK, run_with};
-use super::sources::{Source, SourceFault};
-use super::streams::In;
-use apl_print::{MemorySink, Sink, put_all};
+//! Sources, sinks and lines of any length, and the program's command line.
+use crate::{
+    BLOCK, In, MemorySource, RunFault, Settings, Source, SourceFault, refusal, run, settings,
+};
+use apl_pool::{Every, Open, Pool};
+use apl_print::MemorySink;
+use clap::error::ErrorKind;
 use std::alloc::Global;
 use std::process::Abort;
 use std::test::Fail;
-
-/// Writes each line back. The line `)OFF` ends the run.
-#[derive(Clone, Copy, Debug, PartialEq, Eq)]
-struct Echo;
-
-impl Interpreter for Echo {
-    // any answer will do here
-    ghost semantics = { record { IsStep = λ state line answer. Unit {0}; IsRefusable = λ line. Unit {0} } };
-
-    fn answer<S: Sink>(&mut self, line: &[u8], sink: &mut S) -> Result<Next, RunFault> {
-        let line = trim_return(line);
-        if line == b")OFF".as_slice() {
-            return Ok(Next::End);
-        }
-        match put_all(sink, line) {
-            Ok(()) => {}
-            Err(_) => return Err(RunFault::Write),
-        }
-        match put_all(sink, b"\n") {
-            Ok(()) => Ok(Next::Go),
-            Err(_) => Err(RunFault::Write),
-        }
-    }
-}
+use std::thread::Threads;
 
 /// What a run over the text writes, with room for `most` bytes a call, and its result.
-fn written(
+fn written<R: Threads + Sync>(
+    rt: &R,
     alloc: Global,
     text: &[u8],
     most: usize,
     read_fails: Option<u64>,
     write_fails: Option<u64>,
-) -> (Result<(), RunFault>, MemorySink)
-    requires { 0 < most }
-{
-    let mut source = MemorySource::new(text, most, read_fails);
-    let mut sink = MemorySink::new(alloc, most, write_fails);
-    let outcome = run_with(alloc, &mut Echo, &mut source, &mut sink);
+) -> (Result<(), RunFault>, MemorySink) {
+    let pool = Pool::new(1, Every(4096), Open);
+    let mut source = MemorySource::new(text, most.max(1), read_fails);
+    let mut sink = MemorySink::new(alloc, most.max(1), write_fails);
+    let outcome = run(rt, alloc, &pool, &mut source, &mut sink);
     (outcome, sink)
 }
 
-#[test]
-fn answers_each_line(rt: HostRuntime) -> Result<(), Fail> {
-    let rows: [(&[u8], &[u8]); 9] = [
-        (b"", b""),
-        (b"\n", b"\n"),
-        (b"\n\n", b"\n\n"),
-        (b"a", b"a\n"),
-        (b"a\r\nb\n", b"a\nb\n"),
-        (b"a\r\r\n", b"a\r\n"),
-        (b"a\r", b"a\n"),
-        (b"a\n)OFF\nb\n", b"a\n"),
-        (
-            b"a long line of bytes\nshort\n\n\nlast",
-            b"a long line of bytes\nshort\n\n\nlast\n",
-        ),
-    ];
-    for (text, want) in &rows {
-        for most in [1, 2, 3, 7, 100_000] {
-            let (outcome, sink) = written(rt.alloc(), text, most, None, None);
-            assert_eq!(rt; outcome, Ok(()));
-            assert_eq!(rt; sink.bytes(), *want, "{most} at a time");
-        }
-    }
-    Ok(())
-}
-
+/// A name without a value is told with the line as it came.
 #[test]
 fn answers_lines_across_blocks(rt: HostRuntime) -> Result<(), Fail> {
     let alloc = rt.alloc();
     let shapes = [
-        (1, 140_000),
-        (7, 40_000),
-        (BLOCK - 2, 5),
-        (BLOCK - 1, 5),
-        (BLOCK, 5),
+        (1, 20_000),
+        (7, 10_000),
+        (BLOCK - 2, 3),
+        (BLOCK - 1, 3),
+        (BLOCK, 3),
         (3 * BLOCK, 2),
     ];
     for (width, count) in shapes {
-        let mut line = vec![in alloc; b'x'; width]?;
-        line.push(b'\n')?;
+        let line = vec![in alloc; b'x'; width]?;
         let mut text = Vec::new(alloc);
+        let mut wanted = Vec::new(alloc);
         for _ in 0..count {
             text.extend_from_slice(line.as_slice())?;
+            text.push(b'\n')?;
+            wanted.extend_from_slice(b"VALUE ERROR\n      ")?;
+            wanted.extend_from_slice(line.as_slice())?;
+            wanted.extend_from_slice("\n      ∧\n".as_bytes())?;
         }
         for most in [4097, BLOCK, 10 * BLOCK] {
-            let (outcome, sink) = written(alloc, text.as_slice(), most, None, None);
+            let (outcome, sink) = written(&rt, alloc, text.as_slice(), most, None, None);
             assert_eq!(rt; outcome, Ok(()));
             assert!(rt;
-                sink.bytes() == text.as_slice(),
+                sink.bytes() == wanted.as_slice(),
                 "lines of {width}, {most} at a time"
             );
         }
@@ -110,55 +63,30 @@ fn answers_lines_across_blocks(rt: HostRuntime) -> Result<(), Fail> {
 
 #[test]
 fn answers_whole_lines_before_a_failed_read(rt: HostRuntime) -> Result<(), Fail> {
-    let (outcome, sink) = written(rt.alloc(), b"ab\ncd", 100, Some(2), None);
+    let alloc = rt.alloc();
+    let (outcome, sink) = written(&rt, alloc, b"12\n34", 100, Some(2), None);
     assert_eq!(rt; outcome, Err(RunFault::Read));
-    assert_eq!(rt; sink.bytes(), b"ab\n".as_slice());
+    assert_eq!(rt; sink.bytes(), b"12\n".as_slice());
     for fail_at in 1..7 {
-        let (outcome, sink) = written(rt.alloc(), b"ab\ncd", 1, Some(fail_at), None);
+        let (outcome, sink) = written(&rt, alloc, b"12\n34", 1, Some(fail_at), None);
         assert_eq!(rt; outcome, Err(RunFault::Read));
-        let want: &[u8] = if fail_at > 3 { b"ab\n" } else { b"" };
-        assert_eq!(rt; sink.bytes(), want);
+        let wanted: &[u8] = if fail_at > 3 { b"12\n" } else { b"" };
+        assert_eq!(rt; sink.bytes(), wanted);
     }
-    let (outcome, sink) = written(rt.alloc(), b"ab\ncd", 1, Some(7), None);
+    let (outcome, sink) = written(&rt, alloc, b"12\n34", 1, Some(7), None);
     assert_eq!(rt; outcome, Ok(()));
-    assert_eq!(rt; sink.bytes(), b"ab\ncd\n".as_slice());
+    assert_eq!(rt; sink.bytes(), b"12\n34\n".as_slice());
     Ok(())
-}
-
-#[test]
-fn writes_a_beginning_before_a_failed_write(rt: HostRuntime) -> Result<(), Fail> {
-    for (most, calls) in [(1, 6), (7, 4)] {
-        let failed = failed_writes(&rt, rt.alloc(), b"ab\ncd", b"ab\ncd\n", most);
-        assert_eq!(rt; failed, calls);
-    }
-    Ok(())
-}
-
-/// Fails each write in turn, until a run has no failure, and says how many had one.
-fn failed_writes(rt: &impl Abort, alloc: Global, text: &[u8], want: &[u8], most: usize) -> u64
-    requires { 0 < most }
-{
-    for fail_at in 1..1000 {
-        let (outcome, sink) = written(alloc, text, most, None, Some(fail_at));
-        assert!(rt; want.starts_with(sink.bytes()));
-        if outcome == Ok(()) {
-            assert_eq!(rt; sink.bytes(), want);
-            return fail_at - 1;
-        }
-        assert_eq!(rt; outcome, Err(RunFault::Write));
-    }
-    1000
 }
 
 #[test]
 fn gives_the_bytes_of_a_reader(rt: HostRuntime) -> Result<(), Fail> {
-    let mut source = In::new(b"ab\r\n\ncd".as_slice());
+    let pool = Pool::new(1, Every(4096), Open);
+    let mut source = In::new(b"12\r\n\n34".as_slice());
     let mut sink = MemorySink::new(rt.alloc(), 100, None);
-    assert_eq!(rt;
-        run_with(rt.alloc(), &mut Echo, &mut source, &mut sink),
-        Ok(())
-    );
-    assert_eq!(rt; sink.bytes(), b"ab\n\ncd\n".as_slice());
+    let outcome = run(&rt, rt.alloc(), &pool, &mut source, &mut sink);
+    assert_eq!(rt; outcome, Ok(()));
+    assert_eq!(rt; sink.bytes(), b"12\n34\n".as_slice());
     Ok(())
 }
 
@@ -183,6 +111,69 @@ fn tells_why_a_run_stopped(rt: HostRuntime) -> Result<(), Fail> {
     ];
     for (fault, words) in rows {
         assert_eq!(rt; format!(in rt.alloc(); "{fault}")?.as_str(), words);
+    }
+    Ok(())
+}
+
+#[test]
+fn options_and_their_defaults(rt: HostRuntime) -> Result<(), Fail> {
+    let rows: [(&[&str], u8, u32); 5] = [
+        (&["aplcalc"], 4, 4096),
+        (&["aplcalc", "--workers", "3", "--piece", "7"], 3, 7),
+        (&["aplcalc", "--piece=1", "--workers=64"], 64, 1),
+        (&["aplcalc", "--workers", "1"], 1, 4096),
+        (&["aplcalc", "--piece", "1048576"], 4, 1_048_576),
+    ];
+    for (words, workers, piece) in &rows {
+        assert!(rt; !words.is_empty());
+        let given = settings(rt.alloc(), words)?;
+        assert_eq!(rt; (given.workers, given.piece), (*workers, *piece));
+    }
+    Ok(())
+}
+
+#[test]
+fn words_that_are_refused(rt: HostRuntime) -> Result<(), Fail> {
+    let rows: [&[&str]; 9] = [
+        &["aplcalc", "--workers", "0"],
+        &["aplcalc", "--workers", "65"],
+        &["aplcalc", "--piece", "0"],
+        &["aplcalc", "--piece", "1048577"],
+        &["aplcalc", "x"],
+        &["aplcalc", "--workers", "x"],
+        &["aplcalc", "--workers"],
+        &["aplcalc", "--workers", "2", "--workers", "3"],
+        &["aplcalc", "--schedule", "deques"],
+    ];
+    for words in &rows {
+        assert!(rt; !words.is_empty());
+        let error = settings(rt.alloc(), words).err().ok_or("words were taken")?;
+        assert_ne!(rt; error.kind(), ErrorKind::OutOfMemory);
+        assert_eq!(rt; refusal(&error), 2);
+    }
+    Ok(())
+}
+
+/// The help has one text for each option, with its range and its default, and names the exit statuses.
+#[test]
+fn help_names_what_there_is(rt: HostRuntime) -> Result<(), Fail> {
+    let help = settings(rt.alloc(), &["aplcalc", "--help"])
+        .err()
+        .ok_or("no help")?;
+    assert_eq!(rt; refusal(&help), 0);
+    let text = format!(in rt.alloc(); "{help}")?;
+    for part in [
+        "standard input",
+        "standard output",
+        "--workers <N>",
+        "from 1 to 64",
+        "[default: 4]",
+        "--piece <N>",
+        "from 1 to 1048576",
+        "[default: 4096]",
+        "Exit status:",
+    ] {
+        assert!(rt; text.contains(part), "{part}");
     }
     Ok(())
 }

@@ -1,16 +1,67 @@
 //! Answers a session from standard input on standard output.
 #![tactic(auto)]
 
+use apl_pool::{Every, Open, Pool};
 use apl_print::Out;
-use apl_session::{In, ending, run};
+use apl_session::{In, RunFault, Settings, ending, refusal, run, settings};
+use clap::error::ErrorKind;
+use clap::{Command, Error};
+use std::alloc::{AllocError, Global};
+use std::env::Env;
 use std::process::ExitCode;
+use std::{env, io};
 
 fn main(rt: HostRuntime) -> ExitCode {
-    let mut source = In::new(rt.stdin());
-    let mut sink = Out::new(rt.stdout());
-    let (status, message) = ending(&run(rt.alloc(), &mut source, &mut sink));
+    let status = match given_settings(&rt) {
+        Ok(settings) => {
+            let pool = Pool::new(settings.workers, Every(settings.piece as usize), Open);
+            let mut source = In::new(rt.stdin());
+            let mut sink = Out::new(rt.stdout());
+            end(&rt, &run(&rt, rt.alloc(), &pool, &mut source, &mut sink))
+        }
+        Err(error) => refuse(&rt, &error),
+    };
+    ExitCode::from(status)
+}
+
+/// What the words of the command line ask for. Where the system gives no word, the program's name stands for it.
+fn given_settings<R: Env + AllocGlobal>(rt: &R) -> Result<Settings, Error> {
+    let alloc = rt.alloc();
+    let words: Vec<String> = match env::args(rt) {
+        Ok(words) => words.collect(alloc)?,
+        Err(error) => return Err(words_refused(alloc, &error)?),
+    };
+    let mut texts: Vec<&str> = words.iter().map(|word| word.as_str()).collect(alloc)?;
+    if texts.is_empty() {
+        texts.push("aplcalc")?;
+    }
+    settings(alloc, texts.as_slice())
+}
+
+/// Why the system gives no words: want of memory, or a word that is no text.
+fn words_refused(alloc: Global, error: &io::Error) -> Result<Error, AllocError> {
+    match error.kind() {
+        io::ErrorKind::OutOfMemory => Err(AllocError),
+        _ => Command::new(alloc, "aplcalc").error(ErrorKind::InvalidValue, "a word is not UTF-8"),
+    }
+}
+
+/// Tells why there are no settings, and answers the exit status.
+fn refuse<R: Print + Eprint>(rt: &R, error: &Error) -> u8 {
+    match refusal(error) {
+        1 => end(rt, &Err(RunFault::Memory)),
+        status => match error.print(rt) {
+            Err(_) if status == 0 => end(rt, &Err(RunFault::Write)),
+            _ => status,
+        },
+    }
+}
+
+/// Tells how a run ended, and answers the exit status.
+fn end<R: Eprint>(rt: &R, outcome: &Result<(), RunFault>) -> u8 {
+    let (status, message) = ending(outcome);
     if status != 0 {
         let _ = eprintln!(rt; "{message}");
     }
-    ExitCode::from(status)
+    status
 }

@@ -25,6 +25,41 @@ pub(super) const VALUES: [(&str, &str); 15] = [
     ("1-'A'\n", "DOMAIN ERROR\n      1-'A'\n       ∧\n"),
 ];
 
+/// The scalar functions.
+pub(super) const SCALARS: [(&str, &str); 22] = [
+    (
+        "1 ¯9223372036854775808÷0 ¯1\n",
+        "DOMAIN ERROR\n      1 ¯9223372036854775808÷0 ¯1\n                            ∧\n",
+    ),
+    (
+        "¯9223372036854775808 1÷¯1 0\n",
+        "LIMIT ERROR\n      ¯9223372036854775808 1÷¯1 0\n                            ∧\n",
+    ),
+    ("0÷0\n", "1\n"),
+    ("7÷2\n", "DOMAIN ERROR\n      7÷2\n       ∧\n"),
+    ("3|¯7 7\n", "2 1\n"),
+    ("¯3|7\n", "¯2\n"),
+    ("0|¯5\n", "¯5\n"),
+    ("!20\n", "2432902008176640000\n"),
+    ("!21\n", "LIMIT ERROR\n      !21\n      ∧\n"),
+    ("2!5\n", "10\n"),
+    ("¯2*63\n", "¯9223372036854775808\n"),
+    ("2*63\n", "LIMIT ERROR\n      2*63\n       ∧\n"),
+    ("2*¯1\n", "DOMAIN ERROR\n      2*¯1\n       ∧\n"),
+    ("~0 1 1\n", "1 0 0\n"),
+    ("×¯7 0 7\n", "¯1 0 1\n"),
+    ("÷2\n", "DOMAIN ERROR\n      ÷2\n      ∧\n"),
+    (
+        "-¯9223372036854775808\n",
+        "LIMIT ERROR\n      -¯9223372036854775808\n      ∧\n",
+    ),
+    ("5|¯9223372036854775808\n", "2\n"),
+    ("1='A'\n", "0\n"),
+    ("'AB'='AC'\n", "1 0\n"),
+    ("33!66\n", "7219428434016265740\n"),
+    ("33!67\n", "LIMIT ERROR\n      33!67\n        ∧\n"),
+];
+
 /// Ends of lines, blank lines and comments.
 pub(super) const LINES: [(&str, &str); 9] = [
     ("", ""),
@@ -143,8 +178,7 @@ pub(super) const CARETS: [(&str, &str); 47] = [
 ];
 
 /// Forms that are not evaluated yet: their operands are, and then their caret is shown.
-pub(super) const FORMS_TO_COME: [(&str, &str); 14] = [
-    ("+3\n", "SYNTAX ERROR\n      +3\n      ∧\n"),
+pub(super) const FORMS_TO_COME: [(&str, &str); 13] = [
     ("⍴3\n", "SYNTAX ERROR\n      ⍴3\n      ∧\n"),
     ("1 2[1]\n", "SYNTAX ERROR\n      1 2[1]\n         ∧\n"),
     ("Q[1]←2\n", "SYNTAX ERROR\n      Q[1]←2\n          ∧\n"),

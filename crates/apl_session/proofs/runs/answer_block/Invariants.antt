@@ -1,11 +1,12 @@
 use Rattle.std.proofs.Common.{◌≡◌, ◌≤◌, ◌++◌, length}
 use Rattle.apl_session.specs.Lines.{IsUnbroken}
 use Rattle.apl_session.specs.Progress.{Progress}
+use Rattle.apl_session.specs.Step.{session_semantics}
 use Rattle.apl_session.proofs.runs.answer_block.Given as goal
 
 abbrev pub invariant-lines : goal.invariant-lines
 invariant-lines g l = record {
-  progress : Progress g.I.Interpreter.semantics l.initial.interpreter l.interpreter (l.initial.held.items ++ l.block) (l.held.items ++ l.rest)
+  progress : Progress session_semantics l.initial.interpreter l.interpreter (l.initial.held.items ++ l.block) (l.held.items ++ l.rest)
       (g.S.Sink.taken l.initial.sink) (g.S.Sink.taken l.sink);
   unbroken : IsUnbroken l.held.items;
   few : length l.rest ≤ length l.block;

@@ -8,6 +8,9 @@ use Rattle.apl_session.specs.Step.{reports}
 use Rattle.apl_session.proofs.Steps.{given_silent, given_reading, given_refused, at_both}
 use Rattle.apl_session.proofs.sessions.answer.Goals as goal
 
+pub answer_statement-requires-after_bounds : goal.answer_statement-requires-after_bounds
+answer_statement-requires-after_bounds g c κs within = let read = rw c.in-Ok-Statement.field-0-is at c.in-Ok-Statement.ensures.line in (read.0, read.1, read.2)
+
 pub returns-in-Ok-Blank-clause-given : goal.returns-in-Ok-Blank-clause-given
 returns-in-Ok-Blank-clause-given g c =
     given_silent c.args.workspace.now c.args.workspace.now c.args.line.now _ blank (rw c.in-Ok-Blank.field-0-is at c.in-Ok-Blank.ensures.line) refl
