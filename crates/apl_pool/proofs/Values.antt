@@ -1,18 +1,21 @@
 -- One more value, one more stretch of values, and the first fault among them.
-use Rattle.std.proofs.Common.{◌≡◌, ℕ, ◌+◌, ◌-◌, ◌<◌, ◌≤◌, List, [], ◌∷◌, ◌++◌, length, get_or, Result, Ok, Err, refl, sym, ap, ◌∙◌, subst, ⊎_elim, arith, length-append}
-use Rattle.std.specs.Prelude.{IsOk}
-use Rattle.std.specs.declared.vec.Vec.{Vec}
+use Rattle.std.proofs.Common.{◌≡◌, ℕ, ◌+◌, ◌-◌, ◌<◌, ◌≤◌, List, [], ◌∷◌, ◌++◌, length, get_or, Result, Ok, refl, sym, ap, ◌∙◌, subst, ⊎_elim, arith, length-append}
+use Rattle.std.specs.Prelude.{IsOk, OnOk}
 use Rattle.std.proofs.lemmas.List.{length_push, get_or_push, get_or_append_left, get_or-append_right}
 use Rattle.std.proofs.lemmas.Bool.{cases_lt}
 use Rattle.apl_pool.specs.declared.kernel.Fault.{Fault}
 use Rattle.apl_pool.specs.declared.kernel.Stop.{Stop}
 use Rattle.apl_pool.specs.declared.kernel.Stop.TheVariants.{Fault as FaultAt, Memory}
 use Rattle.apl_pool.specs.Pool.{AreValues, IsStopOf}
-use Rattle.apl_pool.specs.Parts.{AppendsValues, AreValuesFrom, IsStopFrom, IsPart}
+use Rattle.apl_pool.specs.Parts.{AppendsValues, AreValuesFrom, AreWritten, IsStopFrom}
 
 some_element : {T : Type 0} → (xs : List T) → 0 < length xs → T
 some_element [] h = absurd (omega arith)
 some_element (x ∷ xs) h = x
+
+-- what holds where there is a value
+pub on_ok_is : {T E P : Type 0} (result : Result T E) (x : T) → result ≡ Ok x → OnOk result P → P
+on_ok_is {P = P} result x is holds = let Q : Result _ _ → Type 0 = λ r. OnOk r P in subst Q is holds
 
 module _ {T : Type 0} (outcome : ℕ → Result T Fault) where
   ok_from_equal : (k : ℕ) (x : T) → outcome k ≡ Ok x → IsOk (outcome k)
@@ -110,6 +113,36 @@ module _ {T : Type 0} (outcome : ℕ → Result T Fault) where
   }
   IsStopFrom-wider from mid to end values Memory low high all first = tt
 
+  -- no place whose value is written has a fault
+  pub IsOk-from_written : (from to : ℕ) (values : List T) → AreWritten outcome from to values
+      → (k : ℕ) → from ≤ k → k < to → IsOk (outcome k)
+  IsOk-from_written from to values all k low high =
+      let some : 0 < length values = omega (arith, all.room) in
+      let d = some_element values some in
+      let same : from + (k - from) ≡ k = omega arith in
+      let inside : from + (k - from) < to = omega arith in
+      let P : ℕ → Type 0 = λ n. IsOk (outcome n) in
+      subst P same (ok_from_equal (from + (k - from)) _ (all.each (k - from) d inside))
+
+  -- the first fault of a later stretch is that of the whole, where the values before it are written
+  pub IsStopFrom-after_written : (from mid to end : ℕ) (values : List T) (stop : Stop) → from ≤ mid → to ≤ end → AreWritten outcome from mid values
+      → IsStopFrom outcome mid to stop → IsStopFrom outcome from end stop
+  IsStopFrom-after_written from mid to end values (FaultAt place fault) low high all first = record {
+    at_least = omega (arith, first.at_least);
+    below = omega (arith, first.below);
+    faulty = first.faulty;
+    earlier = λ k l h.
+        ⊎_elim
+        (λ below. IsOk-from_written from mid values all k l below)
+        (λ above. first.earlier k above h)
+        (cases_lt k mid);
+  }
+  IsStopFrom-after_written from mid to end values Memory low high all first = tt
+
+  pub AreValuesFrom-from_written : (from to : ℕ) (values : List T) → from + length values ≡ to → AreWritten outcome from to values
+      → AreValuesFrom outcome from to values
+  AreValuesFrom-from_written from to values len all = record { len = len; each = λ k d h. all.each k d (omega arith) }
+
   pub AreValues-from_zero : (count : ℕ) (values : List T) → AreValuesFrom outcome 0 count values → AreValues outcome count values
   AreValues-from_zero count values all = record {
     len = omega (arith, all.len);
@@ -123,23 +156,3 @@ module _ {T : Type 0} (outcome : ℕ → Result T Fault) where
   IsStopOf-from_zero count (FaultAt place fault) first =
       record { below = first.below; faulty = first.faulty; earlier = λ k h. first.earlier k (omega arith) h }
   IsStopOf-from_zero count Memory first = tt
-
--- what is known of a part that was read from the list of parts
-module _ {T Z : Type 0} (outcome : ℕ → Result T Fault) (bound : ℕ → ℕ) (n : ℕ) (parts : List (Result (Vec T Z) Stop))
-    (each : (t : ℕ) (d : Result (Vec T Z) Stop) → t < n → IsPart outcome (bound t) (bound (t + 1)) (get_or parts t d)) where
-  part_read : (k : ℕ) (part : Result (Vec T Z) Stop) → k < n → part ≡ get_or parts k part → IsPart outcome (bound k) (bound (k + 1)) part
-  part_read k part inside is =
-      let P : Result (Vec T Z) Stop → Type 0 = λ r. IsPart outcome (bound k) (bound (k + 1)) r in
-      subst P (sym is) (each k part inside)
-
-  pub values_read : (k : ℕ) (part : Result (Vec T Z) Stop) (v : Vec T Z) → k < n → part ≡ get_or parts k part → part ≡ Ok v
-      → AreValuesFrom outcome (bound k) (bound (k + 1)) v.items
-  values_read k part v inside is ok =
-      let P : Result (Vec T Z) Stop → Type 0 = λ r. IsPart outcome (bound k) (bound (k + 1)) r in
-      subst P ok (part_read k part inside is)
-
-  pub stop_read : (k : ℕ) (part : Result (Vec T Z) Stop) (stop : Stop) → k < n → part ≡ get_or parts k part → part ≡ Err stop
-      → IsStopFrom outcome (bound k) (bound (k + 1)) stop
-  stop_read k part stop inside is err =
-      let P : Result (Vec T Z) Stop → Type 0 = λ r. IsPart outcome (bound k) (bound (k + 1)) r in
-      subst P err (part_read k part inside is)

@@ -1,4 +1,4 @@
--- What a worker answers for a stretch of places, and where the workers' stretches begin.
+-- What a worker answers or writes for a stretch of places, and where the workers' stretches begin.
 use Rattle.std.specs.Prelude.{◌≡◌, ℕ, ◌+◌, ◌<◌, ◌≤◌, List, length, Result, Ok, Err, IsOk, MatchResult, slice_index, slice_index_or}
 use Rattle.std.specs.declared.vec.Vec.{Vec}
 use Rattle.apl_pool.specs.declared.kernel.Fault.{Fault}
@@ -38,3 +38,8 @@ module _ {T : Type 0} (outcome : ℕ → Result T Fault) where
   -- what a worker answers for these places
   abbrev pub IsPart : {Z : Type 0} → ℕ → ℕ → Result (Vec T Z) Stop → Type 0
   IsPart from to part = MatchResult part (λ v. AreValuesFrom from to v.items) (IsStopFrom from to)
+
+  -- the values at the places from `from` up to before `to` stand at the front of a list
+  pub record AreWritten (from to : ℕ) (values : List T) : Type 0 where
+    pub room : to ≤ from + length values
+    pub each : (k : ℕ) (d : T) → from + k < to → outcome (from + k) ≡ Ok (slice_index_or values k d)

@@ -1,12 +1,25 @@
-//! What one worker does, and how the workers' parts are put together.
-ghost use Rattle.std.specs.Prelude.{◌≡◌, ◌++◌, slice_index_or, ℕ, ◌+◌, ◌-◌, ◌*◌, ◌/◌, ◌<◌, ◌≤◌, ◌^◌, IfOk, OnOk, IfErr, slice_index, vec_len, vec_capacity};
-ghost use Rattle.apl_pool.specs.Parts.{AppendsValues, IsStopFrom, IsPart};
+//! What one worker does, and what several do at once in the room for all values.
+ghost use Rattle.std.specs.Thread.{IsSync};
+ghost use Rattle.std.specs.Prelude.{◌≡◌, ◌++◌, ℕ, ◌+◌, ◌-◌, ◌<◌, ◌≤◌, ◌^◌, OnOk, IfErr, length, slice_index, vec_len, vec_capacity};
+ghost use Rattle.apl_pool.specs.Parts.{AppendsValues, AreValuesFrom, AreWritten, IsStopFrom, IsPart};
 
 use super::cut::Cut;
 use super::gate::Gate;
-use super::kernel::{Kernel, MOST_PLACES, Stop};
+use super::kernel::{Fault, Kernel, MOST_PLACES, Stop};
 use super::shares::{Share, Shares, piece_end};
-use std::alloc::{AllocError, Global};
+use std::alloc::Global;
+use std::thread::{Threads, join_mut};
+
+/// The stop at a place that has a fault.
+fn stop_at(place: usize, fault: Fault) -> Stop
+    requires { place ≤ MOST_PLACES }
+    ensures { result ≡ Stop.Fault place fault }
+{
+    Stop::Fault {
+        place: place as u32,
+        fault,
+    }
+}
 
 /// Puts the values of the places from `from` up to before `to` at the end of `values`.
 fn append_values<K: Kernel>(
@@ -26,12 +39,7 @@ fn append_values<K: Kernel>(
     for place in from..to {
         match kernel.at(place) {
             Ok(value) => values.push_reserved(value),
-            Err(fault) => {
-                return Err(Stop::Fault {
-                    place: place as u32,
-                    fault,
-                });
-            }
+            Err(fault) => return Err(stop_at(place, fault)),
         }
     }
     Ok(())
@@ -68,62 +76,157 @@ where
     Ok(values)
 }
 
-/// What the worker with share number `task` answers. The first makes room for all values, so that
-/// the others' are put behind its own with no further growth.
-pub fn compute_task<K: Kernel, C: Cut, G: Gate>(
-    alloc: Global,
+/// Puts the values of the places from `start` up to before `end` into `values`, which are those of the places from `first` on.
+fn write_values<K: Kernel>(
+    kernel: &K,
+    first: usize,
+    start: usize,
+    end: usize,
+    values: &mut [K::Out],
+) -> Result<(), Stop>
+where
+    K::Out: Copy,
+    requires order { start ≤ end }
+    requires places { end ≤ K.place_count kernel.now }
+    requires most { end ≤ MOST_PLACES }
+    requires after { first ≤ start }
+    requires room { end ≤ first + length values.old }
+    requires so_far { AreWritten (K.outcome kernel.now) first start values.old }
+    ensures ok { OnOk result (AreWritten (K.outcome kernel.now) first end values.new) }
+    ensures stop { IfErr result (IsStopFrom (K.outcome kernel.now) start end) }
+    ensures len { length values.new ≡ length values.old }
+{
+    for place in start..end {
+        match kernel.at(place) {
+            Ok(value) => values[place - first] = value,
+            Err(fault) => return Err(stop_at(place, fault)),
+        }
+    }
+    Ok(())
+}
+
+/// What a worker writes into the room for its share, piece by piece.
+fn write_share<K: Kernel, C: Cut, G: Gate>(
+    kernel: &K,
+    cut: &C,
+    gate: &G,
+    share: Share,
+    values: &mut [K::Out],
+) -> Result<(), Stop>
+where
+    K::Out: Copy,
+    requires places { share.to ≤ K.place_count kernel.now }
+    requires piece { share.piece ≤ MOST_PLACES }
+    requires room { share.from + length values.old ≡ share.to }
+    ensures ok { OnOk result (AreValuesFrom (K.outcome kernel.now) share.from share.to values.new) }
+    ensures stop { IfErr result (IsStopFrom (K.outcome kernel.now) share.from share.to) }
+    ensures len { length values.new ≡ length values.old }
+{
+    let count = kernel.count();
+    let mut piece = share.piece;
+    let mut start = share.from;
+    while start < share.to {
+        gate.pass(share.worker, piece as u32);
+        let end = piece_end(cut, start, count).min(share.to);
+        write_values(kernel, share.from, start, end, values)?;
+        start = end;
+        piece += 1;
+    }
+    Ok(())
+}
+
+/// What `tasks` workers, of whom the first has share number `first`, write into the room for their shares, each in a thread.
+#[cycle(halves)]
+pub fn write_shares<
+    R: Threads + Sync,
+    T: Copy + Send,
+    K: Kernel<Out = T> + Sync,
+    C: Cut + Sync,
+    G: Gate + Sync,
+>(
+    rt: &R,
     kernel: &K,
     cut: &C,
     gate: &G,
     shares: &Shares,
-    task: usize,
-) -> Result<Vec<K::Out>, Stop>
-where
-    K::Out: Drop,
-    requires task { task < shares.now.tasks }
+    first: usize,
+    tasks: usize,
+    values: &mut [T],
+) -> Result<(), Stop>
+    requires some { 0 < tasks }
+    requires within { first + tasks ≤ shares.now.tasks }
     requires count { shares.now.count ≡ K.place_count kernel.now }
-    ensures { IsPart (K.outcome kernel.now) (slice_index shares.now.bounds.items task) (slice_index shares.now.bounds.items (task + 1)) result }
+    requires room { slice_index shares.now.bounds.items first + length values.old ≡ slice_index shares.now.bounds.items (first + tasks) }
+    ensures ok { OnOk result (AreValuesFrom (K.outcome kernel.now) (slice_index shares.now.bounds.items first) (slice_index shares.now.bounds.items (first + tasks)) values.new) }
+    ensures stop { IfErr result (IsStopFrom (K.outcome kernel.now) (slice_index shares.now.bounds.items first) (slice_index shares.now.bounds.items (first + tasks))) }
+    ensures len { length values.new ≡ length values.old }
 {
-    let share = shares.share(task);
-    let room = if task == 0 {
-        shares.count()
-    } else {
-        share.to - share.from
-    };
-    compute_share(alloc, kernel, cut, gate, share, room)
-}
-
-/// Puts `part` behind `all`, where there mostly is room.
-fn join_parts<T: Drop>(mut all: Vec<T>, mut part: Vec<T>) -> Result<Vec<T>, AllocError>
-    ensures { IfOk result (λ v. v.items ≡ all.items ++ part.items) }
-{
-    if all.is_empty() {
-        return Ok(part);
+    if tasks == 1 {
+        return write_share(kernel, cut, gate, shares.share(first), values);
     }
-    all.append(&mut part)?;
-    Ok(all)
+    let low = tasks / 2;
+    let middle = shares.share(first + low).from - shares.share(first).from;
+    let (front, back) = values.split_at_mut(middle);
+    write_halves(
+        rt,
+        kernel,
+        cut,
+        gate,
+        shares,
+        first,
+        low,
+        front,
+        tasks - low,
+        back,
+    )
 }
 
-/// Puts the parts together, each let go as soon as its values are moved, or gives the first stop
-/// among them.
-pub fn collect_parts<K: Kernel>(
-    alloc: Global,
+/// The same for the first `low` and the other `high` workers, who write behind them.
+#[cycle(halves)]
+fn write_halves<
+    R: Threads + Sync,
+    T: Copy + Send,
+    K: Kernel<Out = T> + Sync,
+    C: Cut + Sync,
+    G: Gate + Sync,
+>(
+    rt: &R,
     kernel: &K,
+    cut: &C,
+    gate: &G,
     shares: &Shares,
-    parts: Vec<Result<Vec<K::Out>, Stop>>,
-) -> Result<Vec<K::Out>, Stop>
-where
-    K::Out: Drop,
+    first: usize,
+    low: usize,
+    front: &mut [T],
+    high: usize,
+    back: &mut [T],
+) -> Result<(), Stop>
+    requires some { (0 < low) × (0 < high) }
+    requires within { first + low + high ≤ shares.now.tasks }
     requires count { shares.now.count ≡ K.place_count kernel.now }
-    requires len { vec_len parts ≡ shares.now.tasks }
-    requires each { (t : ℕ) (d : _) → t < vec_len parts → IsPart (K.outcome kernel.now)
-        (slice_index shares.now.bounds.items t) (slice_index shares.now.bounds.items (t + 1)) (slice_index_or parts.items t d) }
-    ensures { IsPart (K.outcome kernel.now) 0 (K.place_count kernel.now) result }
+    requires front_room { slice_index shares.now.bounds.items first + length front.old ≡ slice_index shares.now.bounds.items (first + low) }
+    requires back_room { slice_index shares.now.bounds.items (first + low) + length back.old ≡ slice_index shares.now.bounds.items (first + low + high) }
+    ensures ok { OnOk result (AreValuesFrom (K.outcome kernel.now) (slice_index shares.now.bounds.items first) (slice_index shares.now.bounds.items (first + low + high)) (front.new ++ back.new)) }
+    ensures stop { IfErr result (IsStopFrom (K.outcome kernel.now) (slice_index shares.now.bounds.items first) (slice_index shares.now.bounds.items (first + low + high))) }
+    ensures front_len { length front.new ≡ length front.old }
+    ensures back_len { length back.new ≡ length back.old }
 {
-    let _count = shares.count();
-    let mut all = Vec::new(alloc);
-    for part in parts {
-        all = join_parts(all, part?)?;
-    }
-    Ok(all)
+    let middle = first + low;
+    let mut lower = || -> Result<(), Stop>
+        requires { IsSync R.row × IsSync K.row × IsSync C.row × IsSync G.row × (0 < low) × (first + low ≤ shares.now.tasks) × (shares.now.count ≡ K.place_count kernel.now)
+            × (slice_index shares.now.bounds.items first + length front.now ≡ slice_index shares.now.bounds.items (first + low)) }
+        ensures { OnOk result (AreValuesFrom (K.outcome kernel.entry.now) (slice_index shares.entry.now.bounds.items first) (slice_index shares.entry.now.bounds.items (first + low)) front.exit.now)
+            × IfErr result (IsStopFrom (K.outcome kernel.entry.now) (slice_index shares.entry.now.bounds.items first) (slice_index shares.entry.now.bounds.items (first + low)))
+            × (length front.exit.now ≡ length front.entry.now) }
+    { write_shares(rt, kernel, cut, gate, shares, first, low, front) };
+    let mut upper = || -> Result<(), Stop>
+        requires { IsSync R.row × IsSync K.row × IsSync C.row × IsSync G.row × (0 < high) × (middle + high ≤ shares.now.tasks) × (shares.now.count ≡ K.place_count kernel.now)
+            × (slice_index shares.now.bounds.items middle + length back.now ≡ slice_index shares.now.bounds.items (middle + high)) }
+        ensures { OnOk result (AreValuesFrom (K.outcome kernel.entry.now) (slice_index shares.entry.now.bounds.items middle) (slice_index shares.entry.now.bounds.items (middle + high)) back.exit.now)
+            × IfErr result (IsStopFrom (K.outcome kernel.entry.now) (slice_index shares.entry.now.bounds.items middle) (slice_index shares.entry.now.bounds.items (middle + high)))
+            × (length back.exit.now ≡ length back.entry.now) }
+    { write_shares(rt, kernel, cut, gate, shares, middle, high, back) };
+    let (lower, upper) = join_mut(rt, &mut lower, &mut upper);
+    lower?;
+    upper
 }

@@ -1,15 +1,13 @@
 //! The pool: how many workers there are, how the places are cut, and what a worker passes before each piece.
-ghost use Rattle.std.specs.Prelude.{◌≡◌, ℕ, ◌+◌, ◌<◌, ◌≤◌, ◌^◌, IfOk, IfErr, slice_index};
+ghost use Rattle.std.specs.Prelude.{◌≡◌, ℕ, ◌+◌, ◌<◌, ◌≤◌, ◌^◌, IfOk, OnOk, IfErr, length};
 ghost use Rattle.apl_pool.specs.Pool.{AreValues, IsStopOf};
-ghost use Rattle.apl_pool.specs.Parts.{IsPart};
 
 use super::cut::Cut;
 use super::gate::Gate;
 use super::kernel::{Kernel, Stop};
-use super::parts::{collect_parts, compute_share, compute_task};
+use super::parts::{compute_share, write_shares};
 use super::shares::{Share, Shares, count_pieces};
 use std::alloc::Global;
-use std::thread;
 use std::thread::Threads;
 
 /// The most workers.
@@ -48,7 +46,7 @@ impl<C: Cut + Sync, G: Gate + Sync> Pool<C, G> {
         kernel: &K,
     ) -> Result<Vec<K::Out>, Stop>
     where
-        K::Out: Send + Drop,
+        K::Out: Copy + Send,
         ensures values { IfOk result (λ v. AreValues (K.outcome kernel.now) (K.place_count kernel.now) v.items) }
         ensures stop { IfErr result (IsStopOf (K.outcome kernel.now) (K.place_count kernel.now)) }
     {
@@ -56,14 +54,17 @@ impl<C: Cut + Sync, G: Gate + Sync> Pool<C, G> {
         if count == 0 {
             return Ok(Vec::new(alloc));
         }
-        if let Err(fault) = kernel.at(0) {
-            return Err(Stop::Fault { place: 0, fault });
-        }
+        let value = match kernel.at(0) {
+            Ok(value) => value,
+            Err(fault) => return Err(Stop::Fault { place: 0, fault }),
+        };
         if self.workers > 1 {
             let pieces = count_pieces(&self.cut, count);
             if pieces > 1 {
                 let shares = Shares::new(alloc, &self.cut, count, pieces, self.workers)?;
-                return self.fill_shares(rt, alloc, kernel, &shares);
+                let mut values = vec![in alloc; value; count]?;
+                self.fill_shares(rt, kernel, &shares, values.as_mut_slice())?;
+                return Ok(values);
             }
         }
         let whole = Share {
@@ -75,26 +76,22 @@ impl<C: Cut + Sync, G: Gate + Sync> Pool<C, G> {
         compute_share(alloc, kernel, &self.cut, &self.gate, whole, count)
     }
 
-    /// The same by several workers.
+    /// Puts the value at each place into `values`, by several workers.
     fn fill_shares<R: Threads + Sync, K: Kernel + Sync>(
         &self,
         rt: &R,
-        alloc: Global,
         kernel: &K,
         shares: &Shares,
-    ) -> Result<Vec<K::Out>, Stop>
+        values: &mut [K::Out],
+    ) -> Result<(), Stop>
     where
-        K::Out: Send + Drop,
-        requires { shares.now.count ≡ K.place_count kernel.now }
-        ensures { IsPart (K.outcome kernel.now) 0 (K.place_count kernel.now) result }
+        K::Out: Copy + Send,
+        requires count { shares.now.count ≡ K.place_count kernel.now }
+        requires room { length values.old ≡ K.place_count kernel.now }
+        ensures ok { OnOk result (AreValues (K.outcome kernel.now) (K.place_count kernel.now) values.new) }
+        ensures stop { IfErr result (IsStopOf (K.outcome kernel.now) (K.place_count kernel.now)) }
     {
-        let cut = &self.cut;
-        let gate = &self.gate;
-        let part = move |task: usize| -> Result<Vec<K::Out>, Stop>
-            requires { (task < shares.now.tasks) × (shares.now.count ≡ K.place_count kernel.now) }
-            ensures { IsPart (K.outcome kernel.entry.now) (slice_index shares.entry.now.bounds.items task) (slice_index shares.entry.now.bounds.items (task + 1)) result }
-        { compute_task(alloc, kernel, cut, gate, shares, task) };
-        let parts = thread::map_indices(rt, alloc, shares.len(), &part)?;
-        collect_parts(alloc, kernel, shares, parts)
+        let (cut, gate) = (&self.cut, &self.gate);
+        write_shares(rt, kernel, cut, gate, shares, 0, shares.len(), values)
     }
 }

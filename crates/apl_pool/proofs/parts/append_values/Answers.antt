@@ -3,7 +3,7 @@ use Rattle.apl_pool.proofs.Values.{AppendsValues_more, IsOk-from_appended}
 use Rattle.apl_pool.proofs.parts.append_values.Goals as goal
 
 pub returns-in-Err-clause-stop : goal.returns-in-Err-clause-stop
-returns-in-Err-clause-stop g c = record {
+returns-in-Err-clause-stop g c = rw c.stop_at.ensures record {
   at_least = omega arith;
   below = omega arith;
   faulty = sym c.in-Err.ensures;
