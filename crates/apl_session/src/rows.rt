@@ -33,8 +33,8 @@ const ALL: usize = 1 << 20;
 
 const WORKERS: [u8; 4] = [1, 2, 3, 64];
 
-/// How many elements a piece has.
-const PIECES: [usize; 4] = [1, 2, 3, 4096];
+/// What a cut answers to how many elements a piece has. One of none and one of more than there are cut too.
+const PIECES: [usize; 6] = [1, 2, 3, 4096, 0, usize::MAX];
 
 /// Checks what each session of a table writes, by takes and puts of each size, and on each pool.
 fn check<R: Abort + Threads + Sync>(rt: &R, alloc: Global, sessions: &[(&str, &str)]) {
