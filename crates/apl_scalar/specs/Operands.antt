@@ -1,4 +1,4 @@
--- An argument in row order, one element of which may serve at all places.
+-- An argument in row order, one element of which may serve at all places. No contract of a public function cites this file.
 use Rattle.std.specs.Prelude.{ℕ, ℤ, pos, Bool, List, Result, slice_index_or, if◌then◌else◌}
 use Rattle.apl_array.specs.declared.array.Elem.{Elem}
 use Rattle.apl_array.specs.declared.array.Elem.TheVariants.{Int}

@@ -7,10 +7,11 @@ ghost use Rattle.apl_scalar.specs.Operands.{operand_at};
 
 use apl_array::{Array, Elem, Shape, places_match_index_lists};
 
-/// What an array of one kind contains: numbers or characters.
+/// What an array of one kind contains: a number or a character.
 pub trait Element: Copy {
     ghost use Rattle.apl_array.specs.declared.array.Elem.{Elem};
 
+    // The same as an element of any kind.
     ghost elem_of: { Self → Elem };
 
     fn elem(self) -> Elem
@@ -89,7 +90,8 @@ impl<T: Element> Operand for Value<T> {
     }
 }
 
-/// The elements of two arguments of one kind, at least one of which is whole at each of `count` places.
+/// Two arguments of one kind in row order. One that is whole has an element for each of `count`
+/// places; the other has one element, which serves at all of them.
 #[derive(Drop)]
 pub struct Pairs<'a, T> {
     pub left: &'a [T],
