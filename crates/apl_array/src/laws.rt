@@ -1,8 +1,51 @@
-//! What is true of all arrays, each law the contract of a function that does nothing.
-ghost use Rattle.std.specs.Prelude.{◌≡◌};
+//! What is true of all arrays, their places and their numbers, each law the contract of a function
+//! that does nothing.
+ghost use Rattle.std.specs.Prelude.{◌≡◌, ◌↔◌, ◌<◌, ◌+◌, ◌*◌, ◌/◌, ◌%◌, ℕ, ℤ, List, true, length, take, drop, slice_index, slice_set, insert, remove, FitsSigned};
+ghost use Rattle.std.specs.Int.{w64};
+ghost use Rattle.apl_array.specs.Range.{IsInRange, in_range};
+ghost use Rattle.apl_array.specs.Shape.{IsIndexOf, count_of, place_of, index_at};
 ghost use Rattle.apl_array.specs.Array.{ArrayValue, IsArray, HaveSameElements};
 
 /// An array is determined by its shape, its kind and the element at each index list.
 pub fn elements_determine_array()
     ensures { (a b : ArrayValue) → IsArray a → IsArray b → HaveSameElements a b → a ≡ b }
+{}
+
+/// The places and the index lists of a shape correspond one to one: each index list has a place
+/// below the count, each such place an index list, and each is found again from the other.
+pub fn places_match_index_lists()
+    ensures below { (shape index : List ℕ) → IsIndexOf shape index → place_of shape index < count_of shape }
+    ensures same_index { (shape index : List ℕ) → IsIndexOf shape index → index_at shape (place_of shape index) ≡ index }
+    ensures lawful { (shape : List ℕ) (place : ℕ) → place < count_of shape → IsIndexOf shape (index_at shape place) }
+    ensures same_place { (shape : List ℕ) (place : ℕ) → place < count_of shape → place_of shape (index_at shape place) ≡ place }
+{}
+
+/// An index put in at an axis of an index list of the shape without that axis: the place is counted
+/// in steps of the axis, and back again the index is left out.
+pub fn inserted_index_has_place()
+    ensures count { (shape : List ℕ) (k : ℕ) → k < length shape
+        → count_of (remove shape k) ≡ count_of (take k shape) * count_of (drop (k + 1) shape) }
+    ensures lawful { (shape index : List ℕ) (k i : ℕ) → k < length shape → IsIndexOf (remove shape k) index → i < slice_index shape k
+        → IsIndexOf shape (insert index k i) }
+    ensures without { (shape index : List ℕ) (k : ℕ) → k < length shape → IsIndexOf shape index
+        → IsIndexOf (remove shape k) (remove index k) }
+    ensures place { (shape : List ℕ) (k place i : ℕ) → k < length shape → place < count_of (remove shape k)
+        → place_of shape (insert (index_at (remove shape k) place) k i)
+        ≡ (place / count_of (drop (k + 1) shape) * slice_index shape k + i) * count_of (drop (k + 1) shape) + place % count_of (drop (k + 1) shape) }
+{}
+
+/// An index put in the place of another along an axis.
+pub fn replaced_index_has_place()
+    ensures count { (shape : List ℕ) (k : ℕ) → k < length shape
+        → count_of shape ≡ count_of (take k shape) * slice_index shape k * count_of (drop (k + 1) shape) }
+    ensures lawful { (shape index : List ℕ) (k i : ℕ) → IsIndexOf shape index → i < slice_index shape k → IsIndexOf shape (slice_set index k i) }
+    ensures place { (shape : List ℕ) (k place i : ℕ) → k < length shape → place < count_of shape
+        → place_of shape (slice_set (index_at shape place) k i)
+        ≡ (place / (slice_index shape k * count_of (drop (k + 1) shape)) * slice_index shape k + i) * count_of (drop (k + 1) shape) + place % count_of (drop (k + 1) shape) }
+{}
+
+/// The test decides what is in the range, and the range is what 64 bits hold.
+pub fn range_is_decided()
+    ensures decided { (z : ℤ) → (in_range z ≡ true) ↔ IsInRange z }
+    ensures bits { (z : ℤ) → IsInRange z ↔ FitsSigned w64 z }
 {}

@@ -1,4 +1,5 @@
--- What a worker answers or writes for a stretch of places, and where the workers' stretches begin.
+-- What a worker answers or writes for a stretch of places, and where the workers' stretches begin. No contract of a public function
+-- cites this file.
 use Rattle.std.specs.Prelude.{◌≡◌, ℕ, ◌+◌, ◌<◌, ◌≤◌, List, length, Result, Ok, Err, IsOk, MatchResult, slice_index, slice_index_or}
 use Rattle.std.specs.declared.vec.Vec.{Vec}
 use Rattle.apl_pool.specs.declared.kernel.Fault.{Fault}

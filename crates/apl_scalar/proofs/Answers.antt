@@ -6,7 +6,6 @@ use Rattle.apl_array.specs.declared.array.Elem.TheVariants.{Int}
 use Rattle.apl_array.specs.declared.array.Kind.{Kind}
 use Rattle.apl_array.specs.Shape.{IsIndexOf, count_of, place_of, index_at}
 use Rattle.apl_array.specs.Array.{ArrayValue, IsArray, element_in}
-use Rattle.apl_array.proofs.Shapes.{place_of-bound, index_at-place_of, place_of-index_at, IsIndexOf-index_at}
 use Rattle.apl_pool.specs.declared.kernel.Fault.{Fault}
 use Rattle.apl_pool.specs.declared.kernel.Fault.TheVariants.{Domain, Limit, Index}
 use Rattle.apl_scalar.specs.Faults.{op_fault_of}
@@ -42,7 +41,14 @@ shaped_fault : (shape : List ℕ) (kind : Kind) (r : Result (List Elem) Fault) (
 shaped_fault shape kind (Ok xs) fault is = absurd cc
 shaped_fault shape kind (Err other) fault is = ap Err (op_fault_of-injective other fault cc)
 
-module _ (shape : List ℕ) (outcome : List ℕ → Result Elem Fault) where
+-- the places and the index lists of a shape correspond one to one
+pub record PlacesLaw : Type 0 where
+  pub below : (shape index : List ℕ) → IsIndexOf shape index → place_of shape index < count_of shape
+  pub same_index : (shape index : List ℕ) → IsIndexOf shape index → index_at shape (place_of shape index) ≡ index
+  pub lawful : (shape : List ℕ) (place : ℕ) → place < count_of shape → IsIndexOf shape (index_at shape place)
+  pub same_place : (shape : List ℕ) (place : ℕ) → place < count_of shape → place_of shape (index_at shape place) ≡ place
+
+module _ (places : PlacesLaw) (shape : List ℕ) (outcome : List ℕ → Result Elem Fault) where
   d : Elem
   d = Int (pos 0)
 
@@ -60,7 +66,7 @@ module _ (shape : List ℕ) (outcome : List ℕ → Result Elem Fault) where
   at_index : (index : List ℕ) → IsIndexOf shape index → get_or outcomes (place_of shape index) e ≡ outcome index
   unfolding outcomes
   at_index index lawful =
-      get_or-outcomes shape outcome (place_of shape index) e (place_of-bound shape index lawful) ∙ ap outcome (index_at-place_of shape index lawful)
+      get_or-outcomes shape outcome (place_of shape index) e (places.below shape index lawful) ∙ ap outcome (places.same_index shape index lawful)
 
   array_each : (kind : Kind) (xs : List Elem) → AreElements d e outcomes xs → IsArrayOf shape outcome kind (made shape kind xs)
   unfolding made d
@@ -68,7 +74,7 @@ module _ (shape : List ℕ) (outcome : List ℕ → Result Elem Fault) where
     shape_is = refl;
     kind_is = refl;
     each = λ index lawful.
-        sym (at_index index lawful) ∙ all.each (place_of shape index) (omega (arith, place_of-bound shape index lawful, len));
+        sym (at_index index lawful) ∙ all.each (place_of shape index) (omega (arith, places.below shape index lawful, len));
   }
 
   array_from_answer : (kind : Kind) (a : ArrayValue) → answer_of shape outcome kind ≡ Ok a → IsArrayOf shape outcome kind a
@@ -88,8 +94,8 @@ module _ (shape : List ℕ) (outcome : List ℕ → Result Elem Fault) where
         each = λ place inside.
             let below : place < count_of shape = omega (arith, len) in
             let index = index_at shape place in
-            let own : place_of a.shape index ≡ place = ap (λ s. place_of s index) all.shape_is ∙ place_of-index_at shape place below in
-            get_or-outcomes shape outcome place e below ∙ all.each index (IsIndexOf-index_at shape place (omega (arith, below)))
+            let own : place_of a.shape index ≡ place = ap (λ s. place_of s index) all.shape_is ∙ places.same_place shape place below in
+            get_or-outcomes shape outcome place e below ∙ all.each index (places.lawful shape place below)
             ∙ ap (λ p. Ok (element_in a p)) own;
       } in
       ap (shaped shape kind) gathered ∙ ap Ok (same_array a shape kind all.shape_is all.kind_is)
@@ -101,25 +107,25 @@ module _ (shape : List ℕ) (outcome : List ℕ → Result Elem Fault) where
       let below : first.place < count_of shape = omega (arith, first.below, len) in
       record {
         index = index_at shape first.place;
-        lawful = IsIndexOf-index_at shape first.place (omega (arith, below));
+        lawful = places.lawful shape first.place below;
         faulty = sym (get_or-outcomes shape outcome first.place e below) ∙ first.faulty;
         earlier = λ other lawful before.
             let P : Result Elem Fault → Type 0 = λ r. IsOk r in
-            subst P (at_index other lawful) (first.earlier (place_of shape other) (omega (arith, before, place_of-index_at shape first.place below)));
+            subst P (at_index other lawful) (first.earlier (place_of shape other) (omega (arith, before, places.same_place shape first.place below)));
       }
 
   answer_from_fault : (kind : Kind) (fault : Fault) → IsLeastFaultOf shape outcome fault → answer_of shape outcome kind ≡ Err (op_fault_of fault)
   unfolding outcomes
   answer_from_fault kind fault least =
       let place = place_of shape least.index in
-      let below : place < count_of shape = place_of-bound shape least.index least.lawful in
+      let below : place < count_of shape = places.below shape least.index least.lawful in
       let first : all_or_first outcomes ≡ Err fault =
       first_from_least d e outcomes fault place (omega (arith, below, len)) (at_index least.index least.lawful ∙ least.faulty)
       (λ k before.
       let inside : k < count_of shape = omega (arith, before, below) in
       let P : Result Elem Fault → Type 0 = λ r. IsOk r in
       subst P (sym (get_or-outcomes shape outcome k e inside))
-      (least.earlier (index_at shape k) (IsIndexOf-index_at shape k (omega (arith, inside))) (omega (arith, before, place_of-index_at shape k inside)))) in
+      (least.earlier (index_at shape k) (places.lawful shape k inside) (omega (arith, before, places.same_place shape k inside)))) in
       ap (shaped shape kind) first
 
   pub array_iff : (kind : Kind) (a : ArrayValue) → IsArray a → (answer_of shape outcome kind ≡ Ok a) ↔ IsArrayOf shape outcome kind a

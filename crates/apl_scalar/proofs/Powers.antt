@@ -6,7 +6,7 @@ use Rattle.std.proofs.lemmas.Int.{ints}
 use Rattle.std.proofs.Math.Nat.{pow-suc, pow-le-pow_left, pow-le-pow_right}
 use Rattle.apl_pool.specs.declared.kernel.Fault.TheVariants.{Limit}
 use Rattle.apl_scalar.specs.Scalar.{exact}
-use Rattle.apl_scalar.proofs.Exact.{exact_past}
+use Rattle.apl_scalar.proofs.Exact.{RangeLaw, exact_past}
 
 one_pow : (n : ℕ) → 1 ^ n ≡ 1
 one_pow zero = refl
@@ -45,9 +45,9 @@ beyond_either : (m : ℕ) (even : Bool) → 2 ^ 64 ≤ m → FitsSigned w64 (if 
 beyond_either m true far fits = beyond m far fits
 beyond_either m false far fits = beyond_negative m far fits
 
-pub large_power_past : (x : ℤ) (n : ℕ) → 2 ≤ unsigned_abs x → 64 ≤ n → exact (int_pow x n) ≡ Err Limit
-large_power_past (pos a) n two most = exact_past (pos (a ^ n)) (beyond (a ^ n) (large a n two most))
-large_power_past (negsuc a) n two most = exact_past (int_pow (negsuc a) n) (beyond_either (suc a ^ n) (n % 2 == 0) (large (suc a) n two most))
+pub large_power_past : (range : RangeLaw) (x : ℤ) (n : ℕ) → 2 ≤ unsigned_abs x → 64 ≤ n → exact (int_pow x n) ≡ Err Limit
+large_power_past range (pos a) n two most = exact_past range (pos (a ^ n)) (beyond (a ^ n) (large a n two most))
+large_power_past range (negsuc a) n two most = exact_past range (int_pow (negsuc a) n) (beyond_either (suc a ^ n) (n % 2 == 0) (large (suc a) n two most))
 
 -- those of 0 and 1 are themselves
 pub power_of_bit : (x : ℤ) (n : ℕ) → pos 0 ≤ℤ x → unsigned_abs x ≤ 1 → 0 < n → Ok x ≡ exact (int_pow x n)

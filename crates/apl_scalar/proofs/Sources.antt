@@ -1,80 +1,168 @@
--- The element of an argument that stands at a place of the extended shape.
-use Rattle.std.proofs.Common.{◌≡◌, ℕ, ◌<◌, Bool, true, false, List, [], ◌∷◌, length, replicate, refl, sym, ap, ◌∙◌, arith, if◌then◌else◌, ℤ, pos, not, get_or}
+-- The elements of arguments that serve at a place of the extended shape.
+use Rattle.std.proofs.Common.{◌≡◌, ℕ, ◌<◌, ◌==◌, ◌&&◌, Bool, true, false, List, [], ◌∷◌, length, map, replicate, Result, Ok, Err, refl, sym, ap, ◌∙◌, ⊎_elim, arith, if◌then◌else◌, ℤ, pos, get_or}
 use Rattle.std.proofs.lemmas.List.{get_or-map, length-map}
-use Rattle.apl_array.specs.declared.array.Elem.TheVariants.{Int}
 use Rattle.std.proofs.lemmas.Slice.Eq.{bytes_eq-Decides}
-use Rattle.std.proofs.lemmas.Bool.{true≢false, false≢true}
+use Rattle.std.proofs.lemmas.Bool.{cases_Bool, true≢false}
+use Rattle.std.specs.Prelude.{nat_lt}
+use Rattle.apl_array.specs.declared.array.Elem.{Elem}
+use Rattle.apl_array.specs.declared.array.Elem.TheVariants.{Int, Chr}
+use Rattle.apl_array.specs.declared.array.Kind.TheVariants.{Character}
 use Rattle.apl_array.specs.Shape.{count_of, place_of, index_at}
-use Rattle.apl_array.specs.Array.{ArrayValue, IsArray, element_in, element_at, number_array}
-use Rattle.apl_array.proofs.Shapes.{place_of-index_at}
-use Rattle.apl_scalar.specs.Extension.{is_same_shape, source_index}
-use Rattle.apl_scalar.specs.Operands.{operand_at}
+use Rattle.apl_array.specs.Array.{ArrayValue, IsArray, element_in, element_at, kind_of}
+use Rattle.apl_pool.specs.declared.kernel.Fault.TheVariants.{Domain}
+use Rattle.apl_scalar.specs.declared.function.OpFault.{OpFault}
+use Rattle.apl_scalar.specs.declared.function.OpFault.TheVariants.{Rank, Length}
 use Rattle.apl_scalar.specs.declared.function.ScalarFunction.{ScalarFunction}
-use Rattle.apl_scalar.specs.Scalar.{monadic_number, monadic_of, dyadic_numbers}
+use Rattle.apl_scalar.specs.declared.function.ScalarFunction.TheVariants.{Equal, NotEqual}
+use Rattle.apl_scalar.specs.Extension.{is_same_shape, has_one_element, extended_shape, source_index}
+use Rattle.apl_scalar.specs.Operands.{operand_at, pair_at}
+use Rattle.apl_scalar.specs.Scalar.{monadic_number, monadic_of, dyadic_of, compare_elements}
 use Rattle.apl_scalar.specs.Monadic.{monadic_element}
 use Rattle.apl_scalar.specs.Dyadic.{dyadic_number}
 
 pub same_from_test : (a b : List ℕ) → is_same_shape a b ≡ true → a ≡ b
 same_from_test a b e = (bytes_eq-Decides a b).0 e
 
+same_to_test : (a b : List ℕ) → a ≡ b → is_same_shape a b ≡ true
+same_to_test a b e = (bytes_eq-Decides a b).1 e
+
+differ_from_test : (a b : List ℕ) → is_same_shape a b ≡ false → a ≡ b → ⊥
+differ_from_test a b other e = true≢false (sym (same_to_test a b e) ∙ other)
+
+-- ---- which argument is extended
+
+-- the extended shape, by its tests
+chosen : (same one_left one_right less tie : Bool) → List ℕ → List ℕ → Result (List ℕ) OpFault
+chosen same one_left one_right less tie a b =
+    if same then Ok a
+    else if one_left && one_right then (if less then Ok b else Ok a)
+    else if one_left then Ok b
+    else if one_right then Ok a
+    else if tie then Err Length
+    else Err Rank
+
+chosen_right : (same one_left one_right less tie : Bool) (a b shape : List ℕ) → chosen same one_left one_right less tie a b ≡ Ok shape → (a ≡ shape → ⊥)
+    → (one_left ≡ true) × (b ≡ shape)
+unfolding chosen
+chosen_right true one_left one_right less tie a b shape is other = absurd (other cc)
+chosen_right false true true true tie a b shape is other = (refl, cc)
+chosen_right false true true false tie a b shape is other = absurd (other cc)
+chosen_right false true false less tie a b shape is other = (refl, cc)
+chosen_right false false true less tie a b shape is other = absurd (other cc)
+chosen_right false false false less true a b shape is other = absurd cc
+chosen_right false false false less false a b shape is other = absurd cc
+
+chosen_left : (same one_left one_right less tie : Bool) (a b shape : List ℕ) → chosen same one_left one_right less tie a b ≡ Ok shape → (same ≡ true → a ≡ b) → (b ≡ shape → ⊥)
+    → one_right ≡ true
+unfolding chosen
+chosen_left true one_left one_right less tie a b shape is alike other = let e = alike refl in absurd (other cc)
+chosen_left false one_left true less tie a b shape is alike other = refl
+chosen_left false true false less tie a b shape is alike other = absurd (other cc)
+chosen_left false false false less true a b shape is alike other = absurd cc
+chosen_left false false false less false a b shape is alike other = absurd cc
+
+one_from_test : (n : ℕ) → (n == 1) ≡ true → n ≡ 1
+one_from_test n e = grind arith
+
+-- the left argument is extended only where it has one element, and then the right one is whole
+pub left_extended : (a b shape : List ℕ) → extended_shape a b ≡ Ok shape → is_same_shape a shape ≡ false → (count_of a ≡ 1) × (is_same_shape b shape ≡ true)
+unfolding chosen
+left_extended a b shape is other =
+    let found = chosen_right (is_same_shape a b) (has_one_element a) (has_one_element b) (nat_lt (length a) (length b)) (length a == length b) a b shape is (differ_from_test a shape other) in
+    (one_from_test (count_of a) found.0, same_to_test b shape found.1)
+
+pub right_extended : (a b shape : List ℕ) → extended_shape a b ≡ Ok shape → is_same_shape b shape ≡ false → count_of b ≡ 1
+unfolding chosen
+right_extended a b shape is other =
+    one_from_test (count_of b)
+    (chosen_left (is_same_shape a b) (has_one_element a) (has_one_element b) (nat_lt (length a) (length b)) (length a == length b) a b shape is (same_from_test a b) (differ_from_test b shape other))
+
+pub count_of_items : {T : Type 0} (a : ArrayValue) (elem_of : T → Elem) (items : List T) → a.ravel ≡ map elem_of items → IsArray a → length items ≡ count_of a.shape
+count_of_items a elem_of items is lawful = sym (length-map items elem_of) ∙ sym (ap length is) ∙ lawful.len
+
+-- ---- the elements that serve at a place
+
 -- the first index list has place 0
-pub place_of-zeros : (shape : List ℕ) → place_of shape (replicate (length shape) 0) ≡ 0
+place_of-zeros : (shape : List ℕ) → place_of shape (replicate (length shape) 0) ≡ 0
 place_of-zeros [] = refl
 place_of-zeros (n ∷ ns) = omega (arith, place_of-zeros ns)
 
-pub element_from_source : (a : ArrayValue) (shape : List ℕ) (place : ℕ) (whole : Bool) → place < count_of shape → is_same_shape a.shape shape ≡ whole
-    → element_in a (if whole then place else 0) ≡ element_at a (source_index a.shape shape (index_at shape place))
-element_from_source a shape place true inside e =
-    let same : a.shape ≡ shape = same_from_test a.shape shape e in
-    let own : place_of a.shape (index_at shape place) ≡ place =
-    ap (λ s. place_of s (index_at shape place)) same ∙ place_of-index_at shape place inside in
-    rw e (ap (element_in a) (sym own))
-element_from_source a shape place false inside e = rw e (ap (element_in a) (sym (place_of-zeros a.shape)))
+-- ---- by the law that a place is found again from its index list
 
--- an element of an array of numbers
-pub element_of_numbers : (a : ArrayValue) (numbers : List ℤ) (place : ℕ) → a ≡ number_array a.shape numbers → place < length numbers
-    → element_in a place ≡ Int (get_or numbers place (pos 0))
-element_of_numbers a numbers place is inside = ap (λ b. element_in b place) is ∙ get_or-map Int numbers place (pos 0) (Int (pos 0)) inside
+module _ (same_place : (shape : List ℕ) (place : ℕ) → place < count_of shape → place_of shape (index_at shape place) ≡ place) where
+  element_from_source : (a : ArrayValue) (shape : List ℕ) (place : ℕ) (whole : Bool) → place < count_of shape → is_same_shape a.shape shape ≡ whole
+      → element_in a (if whole then place else 0) ≡ element_at a (source_index a.shape shape (index_at shape place))
+  element_from_source a shape place true inside e =
+      let same : a.shape ≡ shape = same_from_test a.shape shape e in
+      let own : place_of a.shape (index_at shape place) ≡ place =
+      ap (λ s. place_of s (index_at shape place)) same ∙ same_place shape place inside in
+      rw e (ap (element_in a) (sym own))
+  element_from_source a shape place false inside e = rw e (ap (element_in a) (sym (place_of-zeros a.shape)))
 
--- the number of an argument that serves at a place of the extended shape
-pub element_of_operand : (a : ArrayValue) (numbers : List ℤ) (shape : List ℕ) (place : ℕ) (repeats : Bool)
-    → a ≡ number_array a.shape numbers → place < count_of shape → is_same_shape a.shape shape ≡ not repeats
-    → (repeats ≡ false → length numbers ≡ count_of shape) → (repeats ≡ true → length numbers ≡ 1)
-    → element_at a (source_index a.shape shape (index_at shape place)) ≡ Int (operand_at numbers repeats place)
-element_of_operand a numbers shape place true is inside same whole one =
-    sym (element_from_source a shape place false inside same) ∙ element_of_numbers a numbers 0 is (omega (arith, one refl))
-element_of_operand a numbers shape place false is inside same whole one =
-    sym (element_from_source a shape place true inside same) ∙ element_of_numbers a numbers place is (omega (arith, whole refl))
+  -- the element of an argument that serves at a place
+  pub operand_from_source : (a : ArrayValue) (elements : List Elem) (shape : List ℕ) (whole : Bool) → a.ravel ≡ elements → is_same_shape a.shape shape ≡ whole
+      → (place : ℕ) → place < count_of shape → operand_at elements whole place ≡ element_at a (source_index a.shape shape (index_at shape place))
+  operand_from_source a elements shape whole is same place inside =
+      ap (λ es. operand_at es whole place) (sym is) ∙ element_from_source a shape place whole inside same
 
-pub count_of_numbers : (b : ArrayValue) (numbers : List ℤ) → b ≡ number_array b.shape numbers → IsArray b → length numbers ≡ count_of b.shape
-count_of_numbers b numbers is lawful = sym (length-map numbers Int) ∙ sym (ap (λ a. length a.ravel) is) ∙ lawful.len
+  element_at_place : (b : ArrayValue) (place : ℕ) → place < count_of b.shape → element_at b (index_at b.shape place) ≡ element_in b place
+  element_at_place b place below = ap (element_in b) (same_place b.shape place below)
 
--- a monadic function at a place, by the numbers alone
-pub monadic_place : (f : ScalarFunction) (b : ArrayValue) (numbers : List ℤ) → b ≡ number_array b.shape numbers → IsArray b
-    → (place : ℕ) → place < length numbers → monadic_number f (get_or numbers place (pos 0)) ≡ monadic_element f b (index_at b.shape place)
-monadic_place f b numbers is lawful place inside =
-    let below : place < count_of b.shape = omega (arith, count_of_numbers b numbers is lawful) in
-    let there : element_at b (index_at b.shape place) ≡ element_in b place = ap (element_in b) (place_of-index_at b.shape place below) in
-    ap (monadic_of f) (sym (element_of_numbers b numbers place is inside) ∙ sym there)
+  -- it is of the argument's kind
+  pub kind_of_source : (a : ArrayValue) (shape : List ℕ) → IsArray a → (is_same_shape a.shape shape ≡ false → count_of a.shape ≡ 1)
+      → (place : ℕ) → place < count_of shape → kind_of (element_at a (source_index a.shape shape (index_at shape place))) ≡ a.kind
+  kind_of_source a shape lawful one place inside =
+      ⊎_elim
+      (λ whole.
+      let counts : count_of a.shape ≡ count_of shape = ap count_of (same_from_test a.shape shape whole) in
+      ap kind_of (sym (element_from_source a shape place true inside whole)) ∙ lawful.kinds place (Int (pos 0)) (omega (arith, lawful.len, counts)))
+      (λ other. ap kind_of (sym (element_from_source a shape place false inside other)) ∙ lawful.kinds 0 (Int (pos 0)) (omega (arith, lawful.len, one other)))
+      (cases_Bool (is_same_shape a.shape shape))
 
--- a dyadic function at a place, by the numbers alone
-pub dyadic_place : (f : ScalarFunction) (a b : ArrayValue) (xs ys : List ℤ) (shape : List ℕ) (left_repeats right_repeats : Bool)
-    → ((place : ℕ) → place < count_of shape → element_at a (source_index a.shape shape (index_at shape place)) ≡ Int (operand_at xs left_repeats place))
-    → ((place : ℕ) → place < count_of shape → element_at b (source_index b.shape shape (index_at shape place)) ≡ Int (operand_at ys right_repeats place))
-    → (place : ℕ) → place < count_of shape
-    → dyadic_numbers f (operand_at xs left_repeats place) (operand_at ys right_repeats place) ≡ dyadic_number f a b shape (index_at shape place)
-dyadic_place f a b xs ys shape left_repeats right_repeats left right place inside = rw (left place inside, right place inside) refl
+  -- a monadic function at a place, by the numbers alone
+  pub monadic_place : (f : ScalarFunction) (b : ArrayValue) (numbers : List ℤ) → b.ravel ≡ map Int numbers → IsArray b
+      → (place : ℕ) → place < length numbers → monadic_number f (get_or numbers place (pos 0)) ≡ monadic_element f b (index_at b.shape place)
+  monadic_place f b numbers is lawful place inside =
+      let below : place < count_of b.shape = omega (arith, count_of_items b Int numbers is lawful) in
+      let here : element_in b place ≡ Int (get_or numbers place (pos 0)) =
+      ap (λ es. get_or es place (Int (pos 0))) is ∙ get_or-map Int numbers place (pos 0) (Int (pos 0)) inside in
+      ap (monadic_of f) (sym here ∙ sym (element_at_place b place below))
 
-pub operand_whole : (b : ArrayValue) (numbers : List ℤ) (shape : List ℕ) (whole : Bool) → b ≡ number_array b.shape numbers → IsArray b
-    → is_same_shape b.shape shape ≡ whole → not whole ≡ false → length numbers ≡ count_of shape
-operand_whole b numbers shape true is lawful same served = count_of_numbers b numbers is lawful ∙ ap count_of (same_from_test b.shape shape same)
-operand_whole b numbers shape false is lawful same served = absurd (true≢false served)
+  -- a dyadic function of a number and a character
+  pub dyadic_mixed : (f : ScalarFunction) (a b : ArrayValue) (shape : List ℕ) → extended_shape a.shape b.shape ≡ Ok shape → IsArray a → IsArray b → (a.kind ≡ b.kind → ⊥)
+      → (place : ℕ) → place < count_of shape → compare_elements f false ≡ dyadic_number f a b shape (index_at shape place)
+  dyadic_mixed f a b shape extended left right differ place inside =
+      mixed (element_at a (source_index a.shape shape (index_at shape place))) (element_at b (source_index b.shape shape (index_at shape place)))
+      (kind_of_source a shape left (λ other. (left_extended a.shape b.shape shape extended other).0) place inside)
+      (kind_of_source b shape right (right_extended a.shape b.shape shape extended) place inside)
+    where
+      mixed : (x y : Elem) → kind_of x ≡ a.kind → kind_of y ≡ b.kind → compare_elements f false ≡ dyadic_of f x y
+      mixed (Int x) (Int y) first second = absurd (differ (sym first ∙ second))
+      mixed (Int x) (Chr d) first second = refl
+      mixed (Chr c) (Int y) first second = refl
+      mixed (Chr c) (Chr d) first second = absurd (differ (sym first ∙ second))
 
-pub operand_one : (b : ArrayValue) (numbers : List ℤ) (whole : Bool) → b ≡ number_array b.shape numbers → IsArray b
-    → (whole ≡ false → count_of b.shape ≡ 1) → not whole ≡ true → length numbers ≡ 1
-operand_one b numbers true is lawful one served = absurd (false≢true served)
-operand_one b numbers false is lawful one served = count_of_numbers b numbers is lawful ∙ one refl
+-- a function that does not compare refuses characters
+refused_alike : (f : ScalarFunction) (same : Bool) → (f ≡ Equal → ⊥) → (f ≡ NotEqual → ⊥) → Err Domain ≡ compare_elements f same
+refused_alike Equal same equal not_equal = absurd (equal refl)
+refused_alike NotEqual same equal not_equal = absurd (not_equal refl)
+refused_alike _ same equal not_equal = refl
 
-pub not_not : (b : Bool) → b ≡ not (not b)
-not_not true = refl
-not_not false = refl
+refused_pair : (f : ScalarFunction) (x y : Elem) → (f ≡ Equal → ⊥) → (f ≡ NotEqual → ⊥) → kind_of x ≡ Character → kind_of y ≡ Character → Err Domain ≡ dyadic_of f x y
+refused_pair f (Int x) y equal not_equal first second = absurd cc
+refused_pair f (Chr c) (Int y) equal not_equal first second = absurd cc
+refused_pair f (Chr c) (Chr d) equal not_equal first second = refused_alike f (c == d) equal not_equal
+
+character_operand : (characters : List ℕ) (is_whole : Bool) (count place : ℕ) → place < count → (is_whole ≡ true → length characters ≡ count) → (is_whole ≡ false → length characters ≡ 1)
+    → kind_of (operand_at (map Chr characters) is_whole place) ≡ Character
+character_operand characters true count place inside whole one = ap kind_of (get_or-map Chr characters place 0 (Int (pos 0)) (omega (arith, whole refl)))
+character_operand characters false count place inside whole one = ap kind_of (get_or-map Chr characters 0 0 (Int (pos 0)) (omega (arith, one refl)))
+
+pub refused_characters : (f : ScalarFunction) (left right : List ℕ) (left_is_whole right_is_whole : Bool) (count : ℕ) → (f ≡ Equal → ⊥) → (f ≡ NotEqual → ⊥)
+    → (left_is_whole ≡ true → length left ≡ count) → (left_is_whole ≡ false → length left ≡ 1)
+    → (right_is_whole ≡ true → length right ≡ count) → (right_is_whole ≡ false → length right ≡ 1)
+    → (place : ℕ) → place < count → Err Domain ≡ pair_at f (map Chr left) left_is_whole (map Chr right) right_is_whole place
+refused_characters f left right left_is_whole right_is_whole count equal not_equal left_whole left_one right_whole right_one place inside =
+    refused_pair f (operand_at (map Chr left) left_is_whole place) (operand_at (map Chr right) right_is_whole place) equal not_equal
+    (character_operand left left_is_whole count place inside left_whole left_one)
+    (character_operand right right_is_whole count place inside right_whole right_one)

@@ -1,5 +1,15 @@
--- An argument in row order, one number of which may serve at all places.
-use Rattle.std.specs.Prelude.{ℕ, ℤ, pos, Bool, List, slice_index_or, if◌then◌else◌}
+-- An argument in row order, one element of which may serve at all places. No contract of a public function cites this file.
+use Rattle.std.specs.Prelude.{ℕ, ℤ, pos, Bool, List, Result, slice_index_or, if◌then◌else◌}
+use Rattle.apl_array.specs.declared.array.Elem.{Elem}
+use Rattle.apl_array.specs.declared.array.Elem.TheVariants.{Int}
+use Rattle.apl_pool.specs.declared.kernel.Fault.{Fault}
+use Rattle.apl_scalar.specs.declared.function.ScalarFunction.{ScalarFunction}
+use Rattle.apl_scalar.specs.Scalar.{dyadic_of}
 
-abbrev pub operand_at : List ℤ → Bool → ℕ → ℤ
-operand_at numbers repeats place = slice_index_or numbers (if repeats then 0 else place) (pos 0)
+-- the element at its own place where the argument is whole, else the first
+abbrev pub operand_at : List Elem → Bool → ℕ → Elem
+operand_at elements is_whole place = slice_index_or elements (if is_whole then place else 0) (Int (pos 0))
+
+-- a dyadic function of the elements that serve at a place
+abbrev pub pair_at : ScalarFunction → List Elem → Bool → List Elem → Bool → ℕ → Result ℤ Fault
+pair_at f left left_is_whole right right_is_whole place = dyadic_of f (operand_at left left_is_whole place) (operand_at right right_is_whole place)

@@ -6,6 +6,7 @@ ghost use Rattle.apl_scalar.specs.Arithmetic.{factorial, binomial, residue};
 ghost use Rattle.apl_scalar.specs.Scalar.{exact, reciprocal, quotient, power, factorial_of, combinations};
 ghost use Rattle.apl_scalar.specs.Limits.{limited_value};
 
+use apl_array::range_is_decided;
 use apl_pool::Fault;
 
 /// The exact value, where 64 bits hold it.
@@ -88,6 +89,7 @@ fn large_power(x: i64, n: u64) -> Result<i64, Fault>
     requires { 64 ≤ n }
     ensures { result ≡ exact (int_pow x n) }
 {
+    range_is_decided();
     if x.unsigned_abs() > 1 {
         return Err(Fault::Limit);
     }
@@ -102,6 +104,7 @@ pub fn factorial(x: i64) -> Result<i64, Fault>
         return Err(Fault::Domain);
     }
     let n = x.unsigned_abs();
+    range_is_decided();
     if n > 20 {
         return Err(Fault::Limit);
     }
@@ -155,6 +158,7 @@ fn choices(n: u64, k: u64) -> Option<i64>
     requires half { k + k ≤ n }
     ensures { limited_value result ≡ exact (pos (binomial n k)) }
 {
+    range_is_decided();
     let mut count: u128 = 1;
     for i in 0..k {
         count = count * (n - i) as u128 / (i + 1) as u128;

@@ -10,10 +10,11 @@ ghost use Rattle.apl_scalar.specs.Dyadic.{dyadic_answer, dyadic_number};
 
 use crate::extend::extended;
 use crate::function::{OpFault, ScalarFunction};
-use crate::kernels::{ElementKernel, ElementPairs};
-use crate::passes::{fill_number_pairs, fill_numbers};
-use apl_array::{Array, Shape};
-use apl_pool::{Cut, Gate, Pool, Stop};
+use crate::operands::Pairs;
+use crate::passes::{fill_character_pairs, fill_number_pairs, fill_numbers, fill_uniform};
+use crate::tables::compare;
+use apl_array::{Array, Shape, places_match_index_lists};
+use apl_pool::{Cut, Fault, Gate, Pool, Stop};
 use std::alloc::Global;
 use std::thread::Threads;
 
@@ -47,15 +48,10 @@ fn fill_monadic<R: Threads + Sync, C: Cut + Sync, G: Gate + Sync>(
     ensures values { IfOk result (λ v. AreValues (λ place. monadic_element f right.now (index_at right.now.shape place)) (count_of right.now.shape) v.items) }
     ensures stop { IfErr result (IsStopOf (λ place. monadic_element f right.now (index_at right.now.shape place)) (count_of right.now.shape)) }
 {
+    places_match_index_lists();
     match right.numbers() {
         Some(numbers) => fill_numbers(rt, alloc, pool, f, numbers),
-        None => {
-            let kernel = ElementKernel {
-                function: f,
-                array: right,
-            };
-            pool.fill(rt, alloc, &kernel)
-        }
+        None => fill_uniform(rt, alloc, pool, right.shape().count(), Err(Fault::Domain)),
     }
 }
 
@@ -96,9 +92,19 @@ fn fill_dyadic<R: Threads + Sync, C: Cut + Sync, G: Gate + Sync>(
     ensures values { IfOk result (λ v. AreValues (λ place. dyadic_number f left.now right.now shape.now (index_at shape.now place)) (count_of shape.now) v.items) }
     ensures stop { IfErr result (IsStopOf (λ place. dyadic_number f left.now right.now shape.now (index_at shape.now place)) (count_of shape.now)) }
 {
-    let elements = ElementPairs::new(f, left, right, shape);
-    match elements.numbers() {
-        Some(pairs) => fill_number_pairs(rt, alloc, pool, f, pairs),
-        None => pool.fill(rt, alloc, &elements),
+    places_match_index_lists();
+    match (left.numbers(), right.numbers()) {
+        (Some(xs), Some(ys)) => {
+            let pairs = Pairs::new(left, xs, right, ys, shape);
+            fill_number_pairs(rt, alloc, pool, f, &pairs)
+        }
+        (None, None) => {
+            let (Some(xs), Some(ys)) = (left.characters(), right.characters()) else {
+                unreachable!()
+            };
+            let pairs = Pairs::new(left, xs, right, ys, shape);
+            fill_character_pairs(rt, alloc, pool, f, &pairs)
+        }
+        _ => fill_uniform(rt, alloc, pool, shape.count(), compare(f, false)),
     }
 }

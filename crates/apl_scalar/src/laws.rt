@@ -8,6 +8,8 @@ ghost use Rattle.apl_pool.specs.declared.kernel.Fault.{Fault};
 ghost use Rattle.apl_scalar.specs.Faults.{op_fault_of};
 ghost use Rattle.apl_scalar.specs.Pointwise.{answer_of, IsArrayOf, IsLeastFaultOf};
 
+use apl_array::places_match_index_lists;
+
 /// The answer is an array exactly where that array has the outcome at each index list, and a fault
 /// exactly where that is the fault of the least place that has one.
 pub fn answer_is_each_outcome()
@@ -15,4 +17,6 @@ pub fn answer_is_each_outcome()
         → IsArray a → (answer_of shape outcome kind ≡ Ok a) ↔ IsArrayOf shape outcome kind a }
     ensures fault { (shape : List ℕ) (outcome : List ℕ → Result Elem Fault) (kind : Kind) (fault : Fault)
         → (answer_of shape outcome kind ≡ Err (op_fault_of fault)) ↔ IsLeastFaultOf shape outcome fault }
-{}
+{
+    places_match_index_lists();
+}

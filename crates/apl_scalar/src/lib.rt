@@ -11,6 +11,7 @@ mod function;
 mod glyphs;
 mod kernels;
 mod laws;
+mod operands;
 mod passes;
 mod tables;
 mod truth;

@@ -1,16 +1,18 @@
-//! The passes over numbers, one compiled for each function.
-ghost use Rattle.std.specs.Prelude.{◌≡◌, ℕ, pos, ◌≤◌, ◌^◌, length, IfOk, IfErr, slice_index_or, IsTrue};
+//! The passes over numbers and over characters, one compiled for each function.
+ghost use Rattle.std.specs.Prelude.{◌≡◌, ℕ, pos, ◌≤◌, ◌^◌, length, map, IfOk, IfErr, slice_index_or, IsTrue};
+ghost use Rattle.apl_array.specs.declared.array.Elem.TheVariants.{Int, Chr};
 ghost use Rattle.apl_pool.specs.Pool.{AreValues, IsStopOf};
-ghost use Rattle.apl_scalar.specs.Scalar.{monadic_number, dyadic_numbers, has_monadic, has_dyadic};
-ghost use Rattle.apl_scalar.specs.Operands.{operand_at};
+ghost use Rattle.apl_scalar.specs.Scalar.{monadic_number, dyadic_of, has_monadic, has_dyadic};
+ghost use Rattle.apl_scalar.specs.Operands.{pair_at};
 
 use crate::function::ScalarFunction;
 use crate::glyphs::{
     And, Bang, Ceiling, Divide, Equal, Floor, Function, Greater, GreaterOrEqual, Less, LessOrEqual,
     Minus, Nand, Nor, NotEqual, Or, Plus, Star, Stile, Tilde, Times,
 };
-use crate::kernels::{NumberKernel, NumberPairs, NumberPairsKernel};
-use apl_pool::{Cut, Gate, Pool, Stop};
+use crate::kernels::{NumberKernel, PairsKernel, UniformKernel};
+use crate::operands::{Element, Operand, Pairs, Value, Whole};
+use apl_pool::{Cut, Fault, Gate, Pool, Stop};
 use std::alloc::Global;
 use std::marker::PhantomData;
 use std::thread::Threads;
@@ -32,19 +34,72 @@ fn fill_each<F: Function + Sync, R: Threads + Sync, C: Cut + Sync, G: Gate + Syn
     pool.fill(rt, alloc, &kernel)
 }
 
-fn fill_pairs<F: Function + Sync, R: Threads + Sync, C: Cut + Sync, G: Gate + Sync>(
+fn fill_operands<
+    F: Function + Sync,
+    A: Operand + Sync,
+    B: Operand + Sync,
+    R: Threads + Sync,
+    C: Cut + Sync,
+    G: Gate + Sync,
+>(
     rt: &R,
     alloc: Global,
     pool: &Pool<C, G>,
-    pairs: NumberPairs,
+    left: A,
+    right: B,
+    count: usize,
 ) -> Result<Vec<i64>, Stop>
-    ensures values { IfOk result (λ v. AreValues (λ place. dyadic_numbers F.FUNCTION (operand_at pairs.entry.left.now pairs.entry.left_repeats place) (operand_at pairs.entry.right.now pairs.entry.right_repeats place)) pairs.entry.count v.items) }
-    ensures stop { IfErr result (IsStopOf (λ place. dyadic_numbers F.FUNCTION (operand_at pairs.entry.left.now pairs.entry.left_repeats place) (operand_at pairs.entry.right.now pairs.entry.right_repeats place)) pairs.entry.count) }
+    requires most { count ≤ 2 ^ 30 }
+    requires left { count ≤ A.served left }
+    requires right { count ≤ B.served right }
+    ensures values { IfOk result (λ v. AreValues (λ place. dyadic_of F.FUNCTION (A.element left place) (B.element right place)) count v.items) }
+    ensures stop { IfErr result (IsStopOf (λ place. dyadic_of F.FUNCTION (A.element left place) (B.element right place)) count) }
 {
-    let kernel = NumberPairsKernel::<F> {
-        pairs,
+    let kernel = PairsKernel::<A, B, F> {
+        left,
+        right,
+        count,
         function: PhantomData,
     };
+    pool.fill(rt, alloc, &kernel)
+}
+
+/// A pass is compiled for each way in which the arguments may be extended.
+fn fill_pairs<
+    F: Function + Sync,
+    T: Element + Sync,
+    R: Threads + Sync,
+    C: Cut + Sync,
+    G: Gate + Sync,
+>(rt: &R, alloc: Global, pool: &Pool<C, G>, pairs: &Pairs<T>) -> Result<Vec<i64>, Stop>
+    ensures values { IfOk result (λ v. AreValues (λ place. pair_at F.FUNCTION (map T.elem_of pairs.now.left.now) pairs.now.left_is_whole (map T.elem_of pairs.now.right.now) pairs.now.right_is_whole place) pairs.now.count v.items) }
+    ensures stop { IfErr result (IsStopOf (λ place. pair_at F.FUNCTION (map T.elem_of pairs.now.left.now) pairs.now.left_is_whole (map T.elem_of pairs.now.right.now) pairs.now.right_is_whole place) pairs.now.count) }
+{
+    let (left, right) = (Whole(pairs.left), Whole(pairs.right));
+    if pairs.left_is_whole && pairs.right_is_whole {
+        fill_operands::<F, Whole<T>, Whole<T>, R, C, G>(rt, alloc, pool, left, right, pairs.count)
+    } else if pairs.left_is_whole {
+        let right = Value(pairs.right[0]);
+        fill_operands::<F, Whole<T>, Value<T>, R, C, G>(rt, alloc, pool, left, right, pairs.count)
+    } else {
+        let left = Value(pairs.left[0]);
+        fill_operands::<F, Value<T>, Whole<T>, R, C, G>(rt, alloc, pool, left, right, pairs.count)
+    }
+}
+
+/// The same at each place.
+pub fn fill_uniform<R: Threads + Sync, C: Cut + Sync, G: Gate + Sync>(
+    rt: &R,
+    alloc: Global,
+    pool: &Pool<C, G>,
+    count: usize,
+    outcome: Result<i64, Fault>,
+) -> Result<Vec<i64>, Stop>
+    requires { count ≤ 2 ^ 30 }
+    ensures values { IfOk result (λ v. AreValues (λ place. outcome) count v.items) }
+    ensures stop { IfErr result (IsStopOf (λ place. outcome) count) }
+{
+    let kernel = UniformKernel { count, outcome };
     pool.fill(rt, alloc, &kernel)
 }
 
@@ -81,34 +136,54 @@ pub fn fill_number_pairs<R: Threads + Sync, C: Cut + Sync, G: Gate + Sync>(
     alloc: Global,
     pool: &Pool<C, G>,
     f: ScalarFunction,
-    pairs: NumberPairs,
+    pairs: &Pairs<i64>,
 ) -> Result<Vec<i64>, Stop>
     requires { IsTrue (has_dyadic f) }
-    ensures values { IfOk result (λ v. AreValues (λ place. dyadic_numbers f (operand_at pairs.entry.left.now pairs.entry.left_repeats place) (operand_at pairs.entry.right.now pairs.entry.right_repeats place)) pairs.entry.count v.items) }
-    ensures stop { IfErr result (IsStopOf (λ place. dyadic_numbers f (operand_at pairs.entry.left.now pairs.entry.left_repeats place) (operand_at pairs.entry.right.now pairs.entry.right_repeats place)) pairs.entry.count) }
+    ensures values { IfOk result (λ v. AreValues (λ place. pair_at f (map Int pairs.now.left.now) pairs.now.left_is_whole (map Int pairs.now.right.now) pairs.now.right_is_whole place) pairs.now.count v.items) }
+    ensures stop { IfErr result (IsStopOf (λ place. pair_at f (map Int pairs.now.left.now) pairs.now.left_is_whole (map Int pairs.now.right.now) pairs.now.right_is_whole place) pairs.now.count) }
 {
     match f {
-        ScalarFunction::Plus => fill_pairs::<Plus, R, C, G>(rt, alloc, pool, pairs),
-        ScalarFunction::Minus => fill_pairs::<Minus, R, C, G>(rt, alloc, pool, pairs),
-        ScalarFunction::Times => fill_pairs::<Times, R, C, G>(rt, alloc, pool, pairs),
-        ScalarFunction::Divide => fill_pairs::<Divide, R, C, G>(rt, alloc, pool, pairs),
-        ScalarFunction::Stile => fill_pairs::<Stile, R, C, G>(rt, alloc, pool, pairs),
-        ScalarFunction::Star => fill_pairs::<Star, R, C, G>(rt, alloc, pool, pairs),
-        ScalarFunction::Bang => fill_pairs::<Bang, R, C, G>(rt, alloc, pool, pairs),
-        ScalarFunction::Floor => fill_pairs::<Floor, R, C, G>(rt, alloc, pool, pairs),
-        ScalarFunction::Ceiling => fill_pairs::<Ceiling, R, C, G>(rt, alloc, pool, pairs),
-        ScalarFunction::And => fill_pairs::<And, R, C, G>(rt, alloc, pool, pairs),
-        ScalarFunction::Or => fill_pairs::<Or, R, C, G>(rt, alloc, pool, pairs),
-        ScalarFunction::Nand => fill_pairs::<Nand, R, C, G>(rt, alloc, pool, pairs),
-        ScalarFunction::Nor => fill_pairs::<Nor, R, C, G>(rt, alloc, pool, pairs),
-        ScalarFunction::Less => fill_pairs::<Less, R, C, G>(rt, alloc, pool, pairs),
-        ScalarFunction::LessOrEqual => fill_pairs::<LessOrEqual, R, C, G>(rt, alloc, pool, pairs),
-        ScalarFunction::Equal => fill_pairs::<Equal, R, C, G>(rt, alloc, pool, pairs),
-        ScalarFunction::GreaterOrEqual => fill_pairs::<GreaterOrEqual, R, C, G>(
+        ScalarFunction::Plus => fill_pairs::<Plus, i64, R, C, G>(rt, alloc, pool, pairs),
+        ScalarFunction::Minus => fill_pairs::<Minus, i64, R, C, G>(rt, alloc, pool, pairs),
+        ScalarFunction::Times => fill_pairs::<Times, i64, R, C, G>(rt, alloc, pool, pairs),
+        ScalarFunction::Divide => fill_pairs::<Divide, i64, R, C, G>(rt, alloc, pool, pairs),
+        ScalarFunction::Stile => fill_pairs::<Stile, i64, R, C, G>(rt, alloc, pool, pairs),
+        ScalarFunction::Star => fill_pairs::<Star, i64, R, C, G>(rt, alloc, pool, pairs),
+        ScalarFunction::Bang => fill_pairs::<Bang, i64, R, C, G>(rt, alloc, pool, pairs),
+        ScalarFunction::Floor => fill_pairs::<Floor, i64, R, C, G>(rt, alloc, pool, pairs),
+        ScalarFunction::Ceiling => fill_pairs::<Ceiling, i64, R, C, G>(rt, alloc, pool, pairs),
+        ScalarFunction::And => fill_pairs::<And, i64, R, C, G>(rt, alloc, pool, pairs),
+        ScalarFunction::Or => fill_pairs::<Or, i64, R, C, G>(rt, alloc, pool, pairs),
+        ScalarFunction::Nand => fill_pairs::<Nand, i64, R, C, G>(rt, alloc, pool, pairs),
+        ScalarFunction::Nor => fill_pairs::<Nor, i64, R, C, G>(rt, alloc, pool, pairs),
+        ScalarFunction::Less => fill_pairs::<Less, i64, R, C, G>(rt, alloc, pool, pairs),
+        ScalarFunction::LessOrEqual => fill_pairs::<LessOrEqual, i64, R, C, G>(
             rt, alloc, pool, pairs,
         ),
-        ScalarFunction::Greater => fill_pairs::<Greater, R, C, G>(rt, alloc, pool, pairs),
-        ScalarFunction::NotEqual => fill_pairs::<NotEqual, R, C, G>(rt, alloc, pool, pairs),
+        ScalarFunction::Equal => fill_pairs::<Equal, i64, R, C, G>(rt, alloc, pool, pairs),
+        ScalarFunction::GreaterOrEqual => fill_pairs::<GreaterOrEqual, i64, R, C, G>(
+            rt, alloc, pool, pairs,
+        ),
+        ScalarFunction::Greater => fill_pairs::<Greater, i64, R, C, G>(rt, alloc, pool, pairs),
+        ScalarFunction::NotEqual => fill_pairs::<NotEqual, i64, R, C, G>(rt, alloc, pool, pairs),
         ScalarFunction::Tilde => unreachable!(),
+    }
+}
+
+/// A dyadic function of each pair of characters.
+pub fn fill_character_pairs<R: Threads + Sync, C: Cut + Sync, G: Gate + Sync>(
+    rt: &R,
+    alloc: Global,
+    pool: &Pool<C, G>,
+    f: ScalarFunction,
+    pairs: &Pairs<char>,
+) -> Result<Vec<i64>, Stop>
+    ensures values { IfOk result (λ v. AreValues (λ place. pair_at f (map Chr pairs.now.left.now) pairs.now.left_is_whole (map Chr pairs.now.right.now) pairs.now.right_is_whole place) pairs.now.count v.items) }
+    ensures stop { IfErr result (IsStopOf (λ place. pair_at f (map Chr pairs.now.left.now) pairs.now.left_is_whole (map Chr pairs.now.right.now) pairs.now.right_is_whole place) pairs.now.count) }
+{
+    match f {
+        ScalarFunction::Equal => fill_pairs::<Equal, char, R, C, G>(rt, alloc, pool, pairs),
+        ScalarFunction::NotEqual => fill_pairs::<NotEqual, char, R, C, G>(rt, alloc, pool, pairs),
+        _ => fill_uniform(rt, alloc, pool, pairs.count, Err(Fault::Domain)),
     }
 }

@@ -56,7 +56,7 @@ pub fn number2(f: ScalarFunction, x: i64, y: i64) -> Result<i64, Fault>
 
 /// A monadic function of an element.
 #[inline(always)]
-pub fn element1(f: ScalarFunction, x: Elem) -> Result<i64, Fault>
+fn element1(f: ScalarFunction, x: Elem) -> Result<i64, Fault>
     ensures { result ≡ monadic_of f x }
 {
     match x {
@@ -78,7 +78,8 @@ pub fn element2(f: ScalarFunction, x: Elem, y: Elem) -> Result<i64, Fault>
 }
 
 /// A dyadic function where a character is among the arguments.
-fn compare(f: ScalarFunction, same: bool) -> Result<i64, Fault>
+#[inline(always)]
+pub fn compare(f: ScalarFunction, same: bool) -> Result<i64, Fault>
     ensures { result ≡ compare_elements f same }
 {
     match f {

@@ -79,6 +79,7 @@ fn dyadic_functions(rt: HostRuntime) -> Result<(), Fail> {
         (-1, Prim::Star, -3, Ok(-1)),
         (0, Prim::Star, MOST, Ok(0)),
         (-1, Prim::Star, LEAST, Ok(1)),
+        (-1, Prim::Star, MOST, Ok(-1)),
         (2, Prim::Star, MOST, Err(Fault::Limit)),
         (2, Prim::Bang, 5, Ok(10)),
         (33, Prim::Bang, 66, Ok(7219428434016265740)),
@@ -88,7 +89,7 @@ fn dyadic_functions(rt: HostRuntime) -> Result<(), Fail> {
         (-1, Prim::Bang, 3, Err(Fault::Domain)),
         (3, Prim::Bang, -1, Err(Fault::Domain)),
         (MOST - 1, Prim::Bang, MOST, Ok(MOST)),
-        (MOST / 2, Prim::Bang, MOST, Err(Fault::Limit)),
+        (4611686018427387904, Prim::Bang, MOST, Err(Fault::Limit)),
         (2, Prim::Floor, -3, Ok(-3)),
         (2, Prim::Ceiling, -3, Ok(2)),
         (1, Prim::And, 1, Ok(1)),
@@ -228,23 +229,59 @@ fn one_argument(rt: HostRuntime) {
 }
 
 #[test]
-fn extended_shapes(rt: HostRuntime) {
+fn scalar_rank(rt: HostRuntime) {
     let alloc = rt.alloc();
     let square = table(alloc, &[2, 2], &[1, 2, 3, 4]);
     let sums = both(&rt, alloc, square, Prim::Plus, table(alloc, &[1], &[10]));
     assert!(rt; is(sums, &[2, 2], &[11, 12, 13, 14]));
-    let square = table(alloc, &[2, 2], &[1, 2, 3, 4]);
-    let rests = both(&rt, alloc, table(alloc, &[1], &[10]), Prim::Minus, square);
-    assert!(rt; is(rests, &[2, 2], &[9, 8, 7, 6]));
     let one = table(alloc, &[1, 1], &[5]);
     let larger = both(&rt, alloc, table(alloc, &[1], &[3]), Prim::Plus, one);
     assert!(rt; is(larger, &[1, 1], &[8]));
+    let square = table(alloc, &[2, 2], &[0, 0, 0, 0]);
+    let ranks = both(&rt, alloc, table(alloc, &[2], &[1, 2]), Prim::Plus, square);
+    assert_eq!(rt; ranks.err(), Some(OpFault::Rank));
+    let wide = table(alloc, &[2, 3], &[0, 0, 0, 0, 0, 0]);
+    let high = table(alloc, &[3, 2], &[0, 0, 0, 0, 0, 0]);
+    let lengths = both(&rt, alloc, wide, Prim::Plus, high);
+    assert_eq!(rt; lengths.err(), Some(OpFault::Length));
+    let shape = Shape::new(alloc, &[2, 3, 4]).expect(&rt, "a shape");
+    assert_eq!(rt; shape.place(&[1, 2, 3]), 23);
+    assert_eq!(rt; shape.coordinate(23, 1), 2);
+}
+
+#[test]
+fn extended_arguments(rt: HostRuntime) {
+    let alloc = rt.alloc();
+    let square = table(alloc, &[2, 2], &[1, 2, 3, 4]);
+    let rests = both(&rt, alloc, table(alloc, &[1], &[10]), Prim::Minus, square);
+    assert!(rt; is(rests, &[2, 2], &[9, 8, 7, 6]));
+    let square = table(alloc, &[2, 2], &[1, 2, 3, 4]);
+    let rests = both(&rt, alloc, square, Prim::Minus, table(alloc, &[], &[10]));
+    assert!(rt; is(rests, &[2, 2], &[-9, -8, -7, -6]));
     let cube = table(alloc, &[1, 1, 1], &[5]);
     let vector = both(&rt, alloc, cube, Prim::Plus, table(alloc, &[3], &[1, 2, 3]));
     assert!(rt; is(vector, &[3], &[6, 7, 8]));
+    let scalar = table(alloc, &[], &[5]);
+    let vector = both(&rt, alloc, scalar, Prim::Minus, table(alloc, &[1], &[3]));
+    assert!(rt; is(vector, &[1], &[2]));
     let cube = table(alloc, &[1, 1, 1], &[5]);
     let empty = both(&rt, alloc, table(alloc, &[2, 0], &[]), Prim::Plus, cube);
     assert!(rt; is(empty, &[2, 0], &[]));
+    let letters = text(alloc, &['A', 'B', 'A']);
+    let found = both(&rt, alloc, letters, Prim::Equal, text(alloc, &['A']));
+    assert!(rt; is(found, &[3], &[1, 0, 1]));
+    let letters = text(alloc, &['A', 'B', 'A']);
+    let found = both(&rt, alloc, text(alloc, &['B']), Prim::NotEqual, letters);
+    assert!(rt; is(found, &[3], &[1, 0, 1]));
+    let letters = text(alloc, &['A', 'B', 'A']);
+    let none = both(
+        &rt,
+        alloc,
+        table(alloc, &[], &[65]),
+        Prim::NotEqual,
+        letters,
+    );
+    assert!(rt; is(none, &[3], &[1, 1, 1]));
 }
 
 #[test]
@@ -284,43 +321,24 @@ fn arrays_of_characters(rt: HostRuntime) {
         table(alloc, &[2], &[1, 2]),
     );
     assert_eq!(rt; letters.err(), Some(OpFault::Domain));
-    let lengths = both(
-        &rt,
-        alloc,
-        text(alloc, &['A', 'B']),
-        Prim::Plus,
-        table(alloc, &[3], &[1, 2, 3]),
-    );
-    assert_eq!(rt; lengths.err(), Some(OpFault::Length));
 }
 
 #[test]
-fn shapes_that_do_not_agree(rt: HostRuntime) {
+fn shapes_come_before_elements(rt: HostRuntime) {
     let alloc = rt.alloc();
-    let lengths = both(
-        &rt,
-        alloc,
-        table(alloc, &[2], &[1, 2]),
-        Prim::Plus,
-        table(alloc, &[3], &[1, 2, 3]),
-    );
+    let numbers = table(alloc, &[3], &[1, 2, 3]);
+    let lengths = both(&rt, alloc, text(alloc, &['A', 'B']), Prim::Plus, numbers);
     assert_eq!(rt; lengths.err(), Some(OpFault::Length));
-    let wide = table(alloc, &[2, 3], &[0, 0, 0, 0, 0, 0]);
-    let lengths = both(
+    let none = both(
         &rt,
         alloc,
-        wide,
+        text(alloc, &[]),
         Prim::Plus,
-        table(alloc, &[3, 2], &[0, 0, 0, 0, 0, 0]),
-    );
-    assert_eq!(rt; lengths.err(), Some(OpFault::Length));
-    let ranks = both(
-        &rt,
-        alloc,
         table(alloc, &[2], &[1, 2]),
-        Prim::Plus,
-        table(alloc, &[2, 2], &[0, 0, 0, 0]),
     );
+    assert_eq!(rt; none.err(), Some(OpFault::Length));
+    let square = table(alloc, &[2, 2], &[0, 0, 0, 0]);
+    let ranks = both(&rt, alloc, text(alloc, &['A', 'B']), Prim::Less, square);
     assert_eq!(rt; ranks.err(), Some(OpFault::Rank));
 }
 

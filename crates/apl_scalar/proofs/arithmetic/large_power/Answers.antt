@@ -1,6 +1,7 @@
 use Rattle.std.proofs.Common.{◌≤◌, pos, Ok, ◌≤ℤ◌, ◌<ℤ◌, FitsSigned, w64, sym, ap, ◌∙◌, arith}
 use Rattle.std.specs.Prelude.{unsigned_abs}
 use Rattle.std.proofs.lemmas.Int.{ints, to_z-of_z}
+use Rattle.apl_scalar.proofs.Exact.{RangeLaw}
 use Rattle.apl_scalar.proofs.Powers.{power_of_bit, minus_one, minus_one_is, large_power_past}
 use Rattle.apl_scalar.proofs.arithmetic.large_power.Goals as goal
 
@@ -9,7 +10,8 @@ returns-then-unsigned_abs-gt1 c =
     let fits : FitsSigned w64 c.args.x = c.ranges.x in
     let size = simp to_z-of_z at c.unsigned_abs.ensures.value in
     let two : 2 ≤ unsigned_abs c.args.x = omega (arith, size, c.if-unsigned_abs-gt1.true) in
-    sym (large_power_past c.args.x c.args.n two c.requires)
+    let range : RangeLaw = record { decided = c.range_is_decided.ensures.decided; bits = c.range_is_decided.ensures.bits } in
+    sym (large_power_past range c.args.x c.args.n two c.requires)
 
 pub returns-then-x-lt0 : goal.returns-then-x-lt0
 returns-then-x-lt0 c =

@@ -1,0 +1,139 @@
+//! The arguments of a dyadic function in row order. An argument of one element that is extended is
+//! that element, and no list is read for it.
+ghost use Rattle.std.specs.Prelude.{◌≡◌, ℕ, ◌<◌, ◌≤◌, ◌^◌, Bool, true, false, Ok, map, length};
+ghost use Rattle.apl_array.specs.Shape.{count_of, index_at};
+ghost use Rattle.apl_scalar.specs.Extension.{extended_shape, source_index};
+ghost use Rattle.apl_scalar.specs.Operands.{operand_at};
+
+use apl_array::{Array, Elem, Shape, places_match_index_lists};
+
+/// What an array of one kind contains: a number or a character.
+pub trait Element: Copy {
+    ghost use Rattle.apl_array.specs.declared.array.Elem.{Elem};
+
+    // The same as an element of any kind.
+    ghost elem_of: { Self → Elem };
+
+    fn elem(self) -> Elem
+        ensures { result ≡ elem_of self };
+}
+
+impl Element for i64 {
+    ghost use Rattle.apl_array.specs.declared.array.Elem.TheVariants.{Int};
+
+    ghost elem_of = { Int };
+
+    #[inline(always)]
+    fn elem(self) -> Elem {
+        Elem::Int(self)
+    }
+}
+
+impl Element for char {
+    ghost use Rattle.apl_array.specs.declared.array.Elem.TheVariants.{Chr};
+
+    ghost elem_of = { Chr };
+
+    #[inline(always)]
+    fn elem(self) -> Elem {
+        Elem::Chr(self)
+    }
+}
+
+/// An argument at each place.
+pub trait Operand: Copy {
+    ghost use Rattle.apl_array.specs.declared.array.Elem.{Elem};
+
+    // The element at a place.
+    ghost element: { Self → ℕ → Elem };
+
+    // How many places it serves.
+    ghost served: { Self → ℕ };
+
+    fn at(&self, place: usize) -> Elem
+        requires { place < served self.now }
+        ensures { result ≡ element self.now place };
+}
+
+/// Each element serves at its own place.
+#[derive(Clone, Copy)]
+pub struct Whole<'a, T>(pub &'a [T]);
+
+impl<T: Element> Operand for Whole<'_, T> {
+    ghost use Rattle.std.specs.Prelude.{length, map, pos, slice_index_or};
+    ghost use Rattle.apl_array.specs.declared.array.Elem.TheVariants.{Int};
+
+    ghost element = { λ k place. slice_index_or (map T.elem_of k.0.now) place (Int (pos 0)) };
+
+    ghost served = { λ k. length k.0.now };
+
+    #[inline(always)]
+    fn at(&self, place: usize) -> Elem {
+        self.0[place].elem()
+    }
+}
+
+/// One element serves at all places.
+#[derive(Clone, Copy)]
+pub struct Value<T>(pub T);
+
+impl<T: Element> Operand for Value<T> {
+    ghost use Rattle.std.specs.Prelude.{◌^◌};
+
+    ghost element = { λ k place. T.elem_of k.0 };
+
+    ghost served = { λ k. 2 ^ 30 };
+
+    #[inline(always)]
+    fn at(&self, _place: usize) -> Elem {
+        self.0.elem()
+    }
+}
+
+/// Two arguments of one kind in row order. One that is whole has an element for each of `count`
+/// places; the other has one element, which serves at all of them.
+#[derive(Drop)]
+pub struct Pairs<'a, T> {
+    pub left: &'a [T],
+    pub right: &'a [T],
+    pub left_is_whole: bool,
+    pub right_is_whole: bool,
+    pub count: usize,
+    ghost most: { count ≤ 2 ^ 30 },
+    ghost left_whole: { left_is_whole ≡ true → length left.now ≡ count },
+    ghost left_one: { left_is_whole ≡ false → length left.now ≡ 1 },
+    ghost right_whole: { right_is_whole ≡ true → length right.now ≡ count },
+    ghost right_one: { right_is_whole ≡ false → length right.now ≡ 1 },
+    ghost one_whole: { left_is_whole ≡ false → right_is_whole ≡ true },
+}
+
+impl<'a, T: Element> Pairs<'a, T> {
+    ghost use Rattle.apl_array.specs.Array.{element_at};
+
+    /// The pairs of the elements of two arrays, which `shape` extends.
+    pub fn new(
+        left_array: &Array,
+        left: &'a [T],
+        right_array: &Array,
+        right: &'a [T],
+        shape: &Shape,
+    ) -> Pairs<'a, T>
+        requires shape { extended_shape left_array.now.shape right_array.now.shape ≡ Ok shape.now }
+        requires left { left_array.now.ravel ≡ map T.elem_of left.now }
+        requires right { right_array.now.ravel ≡ map T.elem_of right.now }
+        ensures count { result.count ≡ count_of shape.now }
+        ensures left { (place : ℕ) → place < count_of shape.now → operand_at (map T.elem_of result.left.now) result.left_is_whole place
+            ≡ element_at left_array.now (source_index left_array.now.shape shape.now (index_at shape.now place)) }
+        ensures right { (place : ℕ) → place < count_of shape.now → operand_at (map T.elem_of result.right.now) result.right_is_whole place
+            ≡ element_at right_array.now (source_index right_array.now.shape shape.now (index_at shape.now place)) }
+    {
+        places_match_index_lists();
+        Pairs {
+            left,
+            right,
+            left_is_whole: left_array.shape().lengths() == shape.lengths(),
+            right_is_whole: right_array.shape().lengths() == shape.lengths(),
+            count: shape.count(),
+        }
+    }
+}
