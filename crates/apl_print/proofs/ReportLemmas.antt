@@ -33,3 +33,12 @@ caret_pieces column =
 
 pub reported_pieces : (report : Report) (line : List ℕ) (column : Option ℕ) → (report_name report ++ codes "\n      ") ++ (line ++ line_feed ∷ caret_line column) ≡ reported report line column
 reported_pieces report line column = simp append_assoc
+
+-- a text, the end of its line, and the line with the caret
+pub caret_added : (text : List ℕ) (column : ℕ) → column ≤ 64
+    → ((text ++ codes "\n      ") ++ take column (blanks 64)) ++ (226 ∷ 136 ∷ 167 ∷ line_feed ∷ []) ≡ text ++ line_feed ∷ caret_line (Some column)
+caret_added text column short =
+    append_assoc (text ++ codes "\n      ") (take column (blanks 64)) (226 ∷ 136 ∷ 167 ∷ line_feed ∷ [])
+    ∙ append_assoc text (codes "\n      ") (take column (blanks 64) ++ (226 ∷ 136 ∷ 167 ∷ line_feed ∷ []))
+    ∙ ap (λ run. text ++ (codes "\n      " ++ (run ++ (226 ∷ 136 ∷ 167 ∷ line_feed ∷ [])))) (take-replicate column 64 blank short)
+    ∙ ap (λ more. text ++ more) (caret_pieces column)

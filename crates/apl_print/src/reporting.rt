@@ -1,5 +1,5 @@
 //! Writing reports and replies.
-ghost use Rattle.std.specs.Prelude.{◌≡◌, ℕ, ◌∷◌, Some};
+ghost use Rattle.std.specs.Prelude.{◌≡◌, ℕ, ◌∷◌, ◌++◌, Some, IfOk, OnOk};
 ghost use Rattle.apl_print.specs.Failures.{CountsFailure};
 ghost use Rattle.apl_print.specs.Put.{Writes};
 ghost use Rattle.apl_print.specs.Reported.{reported, caret_line};
@@ -10,14 +10,64 @@ ghost use Rattle.apl_print.specs.Text.{blanks, line_feed};
 use super::replies::Reply;
 use super::reports::Report;
 use super::sinks::{Sink, SinkFault, put_all};
+use arrayvec::{ArrayVec, CapacityError};
 use itoa::Buffer;
 
 /// A run of blanks, of which slices are put.
 static BLANKS: [u8; 64] = [b' '; 64];
 
+/// The most bytes that a report has which is put at once.
+const AT_ONCE: usize = 256;
+
 /// Puts a report: its name, the line as it came, and a caret below a column of the line, counted in characters from 0, where
 /// one is given. It takes no memory. After a fault the sink has taken a beginning of the report.
 pub fn report<S: Sink>(
+    sink: &mut S,
+    report: Report,
+    line: &[u8],
+    column: Option<usize>,
+) -> Result<(), SinkFault>
+    ensures writes { Writes (S.taken sink.old) (S.taken sink.new) (reported report line.now column) result }
+    ensures failures { CountsFailure (S.failures sink.old) (S.failures sink.new) result }
+{
+    match short_report(report, line, column) {
+        Ok(text) => put_all(sink, text.as_slice()),
+        Err(_) => put_report(sink, report, line, column),
+    }
+}
+
+/// A report that is short enough to be put at once.
+fn short_report(
+    report: Report,
+    line: &[u8],
+    column: Option<usize>,
+) -> Result<ArrayVec<u8, AT_ONCE>, CapacityError>
+    ensures { IfOk result (λ text. text.items ≡ reported report line.now column) }
+{
+    let mut text = ArrayVec::new();
+    text.try_extend_from_slice(report.heading())?;
+    text.try_extend_from_slice(line)?;
+    match column {
+        None => text.try_extend_from_slice(b"\n")?,
+        Some(column) => add_caret(&mut text, column)?,
+    }
+    Ok(text)
+}
+
+/// Ends a line, and adds the line with the caret.
+fn add_caret(text: &mut ArrayVec<u8, AT_ONCE>, column: usize) -> Result<(), CapacityError>
+    ensures { OnOk result (text.new.items ≡ text.old.items ++ line_feed ∷ caret_line (Some column)) }
+{
+    if column > BLANKS.len() {
+        return Err(CapacityError::new(()));
+    }
+    text.try_extend_from_slice(b"\n      ")?;
+    text.try_extend_from_slice(&BLANKS[..column])?;
+    text.try_extend_from_slice("∧\n".as_bytes())
+}
+
+/// Puts a report piece by piece.
+fn put_report<S: Sink>(
     sink: &mut S,
     report: Report,
     line: &[u8],

@@ -103,14 +103,17 @@ fn report_far_along_a_line(rt: HostRuntime) -> Result<(), Fail> {
     Ok(())
 }
 
+/// A short report is put at once, and a long one in pieces.
 #[test]
 fn report_to_a_sink_that_fails(rt: HostRuntime) -> Result<(), Fail> {
-    let wanted = "VALUE ERROR\n      B\n       ∧\n".as_bytes();
-    for fail_at in 1..7 {
-        let mut sink = MemorySink::new(rt.alloc(), 20, Some(fail_at));
-        let outcome = report(&mut sink, Report::Value, b"B", Some(1));
-        assert_eq!(rt; outcome.is_ok(), fail_at == 6, "call {fail_at}");
-        assert!(rt; wanted.starts_with(sink.bytes()));
+    for (column, most, calls) in [(1, 7, 5), (100, 40, 7)] {
+        let whole = reported(rt.alloc(), Report::Value, "B", Some(column))?;
+        for fail_at in 1..calls + 2 {
+            let mut sink = MemorySink::new(rt.alloc(), most, Some(fail_at));
+            let outcome = report(&mut sink, Report::Value, b"B", Some(column));
+            assert_eq!(rt; outcome.is_ok(), fail_at > calls, "call {fail_at}");
+            assert!(rt; whole.bytes().starts_with(sink.bytes()));
+        }
     }
     Ok(())
 }

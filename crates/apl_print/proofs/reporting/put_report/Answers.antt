@@ -4,7 +4,7 @@ use Rattle.apl_print.specs.Put.{AppendsFront, Writes}
 use Rattle.apl_print.specs.Reported.{reported}
 use Rattle.apl_print.proofs.PutLemmas.{AppendsFront-first, AppendsFront-after, Writes-after}
 use Rattle.apl_print.proofs.ReportLemmas.{reported_pieces}
-use Rattle.apl_print.proofs.reporting.report.Goals as goal
+use Rattle.apl_print.proofs.reporting.put_report.Goals as goal
 
 pub returns-in_err-put_all-clause-writes : goal.returns-in_err-put_all-clause-writes
 returns-in_err-put_all-clause-writes g c =
