@@ -249,6 +249,15 @@ fn number_constant_at(
     ensures token { IfOk result (λ t. IsTokenAt text.now t.length t.lexeme) }
     ensures stop { IfErr result (IsStopAt text.now column) }
 {
+    let Some(_) = next_numeral(&text[first.length..]) else {
+        return match first.number {
+            Some(number) => Ok(Scanned {
+                lexeme: Lexeme::Constant(Constant::number(number)),
+                length: first.length,
+            }),
+            None => Err(LexicalStop::Limit { column }),
+        };
+    };
     let row = row_at(alloc, text, first)?;
     if row.count > MOST_ELEMENTS {
         return Err(LexicalStop::Limit { column });
@@ -343,7 +352,7 @@ fn text_constant_at(alloc: Global, text: &[char], column: usize) -> Result<Scann
 fn name_of(alloc: Global, characters: &[char]) -> Result<Name, AllocError>
     ensures { IfOk result (λ name. name ≡ encode_utf8_all characters.now) }
 {
-    let mut text = String::new(alloc);
+    let mut text = String::with_capacity(alloc, characters.len())?;
     for c in characters {
         text.push(*c)?;
     }
@@ -378,6 +387,9 @@ fn token_at(alloc: Global, text: &[char], column: usize) -> Result<Scanned, Lexi
     }
 }
 
+/// Room for so many tokens is taken at once where a line has as many characters.
+const SHORT: usize = 24;
+
 /// The tokens of a line's characters.
 ///
 /// # Errors
@@ -388,7 +400,7 @@ pub fn tokens(alloc: Global, characters: &[char]) -> Result<Vec<Token>, LexicalS
     ensures tokens { IfOk result (λ tokens. Lexes characters.now tokens.items) }
     ensures stop { IfErr result (IsLexicalStopOf characters.now) }
 {
-    let mut tokens = Vec::new(alloc);
+    let mut tokens = Vec::with_capacity(alloc, characters.len().min(SHORT))?;
     let mut column = run_length(characters, Class::Blank);
     while column < characters.len() && !is_comment_mark(characters[column]) {
         let token = token_at(alloc, &characters[column..], column)?;
