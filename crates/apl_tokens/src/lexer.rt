@@ -1,6 +1,6 @@
 // Tokens from characters.
 ghost use Rattle.std.specs.Prelude.{if◌then◌else◌, ◌-◌, ◌≡◌, ◌⊎◌, ◌≤◌, ◌<◌, ◌+◌, ◌^◌, ◌∷◌, [], ◌++◌, ℕ, ℤ, pos, Bool, true, false, List, IsTrue, IfSome, IfNone, IfOk, IfErr, length, take, drop, encode_utf8_all, string_bytes};
-ghost use Rattle.apl_tokens.specs.Symbols.{is_digit, is_letter, is_name_character};
+ghost use Rattle.apl_tokens.specs.Symbols.{is_blank, is_digit, is_letter, is_name_character};
 ghost use Rattle.apl_tokens.specs.Fronts.{AllPass};
 ghost use Rattle.apl_array.specs.Array.{number_array, character_array};
 ghost use Rattle.apl_tokens.specs.Lexis.{BeginsWithNo, decimal, negated, HasNoNextNumeral, AreBlanks, EndsNumerals, constant_shape, Lexes};
@@ -75,6 +75,15 @@ fn run_length(text: &[char], class: Class) -> usize
         }
     }
     text.len()
+}
+
+/// How many blanks the text begins with.
+pub fn blanks_before(text: &[char]) -> usize
+    ensures within { result ≤ length text.now }
+    ensures blank { AllPass is_blank (take result text.now) }
+    ensures longest { BeginsWithNo is_blank (drop result text.now) }
+{
+    run_length(text, Class::Blank)
 }
 
 /// The number that digits spell, if it is at most 2 to the 63rd.
@@ -387,8 +396,8 @@ fn token_at(alloc: Global, text: &[char], column: usize) -> Result<Scanned, Lexi
     }
 }
 
-/// Room for so many tokens is taken at once where a line has as many characters.
-const SHORT: usize = 24;
+/// Room for so many tokens at most is taken at once, before they are counted.
+const ROOM: usize = 1 << 20;
 
 /// The tokens of a line's characters.
 ///
@@ -400,7 +409,7 @@ pub fn tokens(alloc: Global, characters: &[char]) -> Result<Vec<Token>, LexicalS
     ensures tokens { IfOk result (λ tokens. Lexes characters.now tokens.items) }
     ensures stop { IfErr result (IsLexicalStopOf characters.now) }
 {
-    let mut tokens = Vec::with_capacity(alloc, characters.len().min(SHORT))?;
+    let mut tokens = Vec::with_capacity(alloc, characters.len().min(ROOM))?;
     let mut column = run_length(characters, Class::Blank);
     while column < characters.len() && !is_comment_mark(characters[column]) {
         let token = token_at(alloc, &characters[column..], column)?;

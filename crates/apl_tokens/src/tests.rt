@@ -1,7 +1,7 @@
 //! Fronts and tokens of lines, as text: each token with its column, or the stop.
 use crate::{
-    Constant, FrontStop, Lexeme, LexicalStop, Token, front, front_is_total, front_is_unique,
-    lexing_is_total, lexing_is_unique, tokens,
+    Constant, FrontStop, Lexeme, LexicalStop, Token, blanks_before, front, front_is_total,
+    front_is_unique, is_digit, lexing_is_total, lexing_is_unique, tokens,
 };
 use std::alloc::{AllocError, Global};
 use std::test::Fail;
@@ -191,6 +191,15 @@ fn tokens_of_one_symbol(rt: HostRuntime) -> Result<(), Fail> {
         assert_eq!(rt; got.as_str(), want, "at {line}");
     }
     Ok(())
+}
+
+#[test]
+fn digits_and_blanks(rt: HostRuntime) {
+    for (c, is) in [('/', false), ('0', true), ('9', true), (':', false)] {
+        assert_eq!(rt; is_digit(c), is, "at {c}");
+    }
+    assert_eq!(rt; blanks_before(&[' ', ' ', 'A', ' ']), 2);
+    assert_eq!(rt; blanks_before(&[]), 0);
 }
 
 #[test]
