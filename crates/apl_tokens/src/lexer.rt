@@ -396,8 +396,8 @@ fn token_at(alloc: Global, text: &[char], column: usize) -> Result<Scanned, Lexi
     }
 }
 
-/// Room for so many tokens at most is taken at once, before they are counted.
-const ROOM: usize = 1 << 20;
+/// Room for so many tokens at most is taken before they are counted: a block that the heap still keeps for the next line.
+const ROOM: usize = 3 << 18;
 
 /// The tokens of a line's characters.
 ///
