@@ -7,12 +7,12 @@ use Rattle.std.proofs.lemmas.Option.{slice_get-get_or}
 use Rattle.std.proofs.Math.Seq.{get_or-append_seam}
 use Rattle.apl_grammar.specs.declared.program.Operation.{Operation}
 use Rattle.apl_grammar.specs.declared.program.Operation.TheVariants as op
-use Rattle.apl_grammar.specs.Tree.{Expr, value, dyadic, monadic, assign, assign_at, constant, name, group, index, brackets, axis_brackets, semicolons, operations, operand_operations, list_operations, axis_operations}
+use Rattle.apl_grammar.specs.Tree.{Expr, value, dyadic, monadic, assign, assign_at, constant, name, group, index, brackets, indexed_name, axis_brackets, semicolons, operations, operand_operations, list_operations, axis_operations}
 use Rattle.apl_eval.specs.Meaning.{is_assignment}
 
 abbrev pub assigns : Option Operation → Bool
 assigns (Some (op.Assign c n r)) = true
-assigns (Some (op.AssignAt c n cs b r)) = true
+assigns (Some (op.AssignAt target)) = true
 assigns _ = false
 
 record EndsWith (e : Expr) : Type 0 where
@@ -29,7 +29,7 @@ ends (value (index o l s r)) = record { front = list_operations s ++ operand_ope
 ends (dyadic o f a e) = record { front = operations e ++ (axis_operations a ++ operand_operations o); end = op.Dyadic f (axis_brackets a); split = simp append_assoc; is = refl }
 ends (monadic f a e) = record { front = operations e ++ axis_operations a; end = op.Monadic f (axis_brackets a); split = simp append_assoc; is = refl }
 ends (assign c n r e) = record { front = operations e; end = op.Assign c n r; split = refl; is = refl }
-ends (assign_at c n l s r a e) = record { front = operations e ++ list_operations s; end = op.AssignAt c n (semicolons s) (brackets l r) a; split = simp append_assoc; is = refl }
+ends (assign_at c n l s r a e) = record { front = operations e ++ list_operations s; end = op.AssignAt (indexed_name c n (semicolons s) (brackets l r) a); split = simp append_assoc; is = refl }
 
 last_of : (os : List Operation) (o : Operation) → slice_get (os ++ o ∷ []) (length (os ++ o ∷ []) - 1) ≡ Some o
 last_of os o =

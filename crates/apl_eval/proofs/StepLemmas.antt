@@ -6,7 +6,7 @@ use Rattle.apl_grammar.specs.declared.program.Operation.{Operation}
 use Rattle.apl_grammar.specs.declared.program.Operation.TheVariants as op
 use Rattle.apl_grammar.specs.declared.program.Form.{Form}
 use Rattle.apl_grammar.specs.declared.program.Form.TheVariants.{Plain, Reduce, Inner, Outer}
-use Rattle.apl_grammar.specs.Tree.{Expr, value, dyadic, monadic, assign, assign_at, Operand, constant, name, group, index, Slots, last, more, Slot, nothing, given, none, along, brackets, semicolons, operations, operand_operations, list_operations, slot_operations, IsProgram}
+use Rattle.apl_grammar.specs.Tree.{Expr, value, dyadic, monadic, assign, assign_at, Operand, constant, name, group, index, Slots, last, more, Slot, nothing, given, none, along, brackets, indexed_name, semicolons, operations, operand_operations, list_operations, slot_operations, IsProgram}
 use Rattle.apl_print.specs.declared.reports.Report.{Report}
 use Rattle.apl_print.specs.declared.reports.Report.TheVariants.{Syntax}
 use Rattle.apl_eval.specs.Workspace.{WorkspaceValue}
@@ -78,7 +78,7 @@ mutual
       ∙ steps-operations e (op.Assign c n r ∷ rest) below w
       ∙ after (mean e w) _ _ _ _ _ (λ b u. refl)
   steps-operations (assign_at c n l s r a e) rest below w =
-      let last_one : Operation = op.AssignAt c n (semicolons s) (brackets l r) a in
+      let last_one : Operation = op.AssignAt (indexed_name c n (semicolons s) (brackets l r) a) in
       let regrouped : (operations e ++ (list_operations s ++ last_one ∷ [])) ++ rest ≡ operations e ++ (list_operations s ++ last_one ∷ rest) = simp append_assoc in
       ap (λ os. steps os below w) regrouped
       ∙ steps-operations e (list_operations s ++ last_one ∷ rest) below w

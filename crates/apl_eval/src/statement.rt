@@ -66,10 +66,10 @@ impl<T: Drop> From<AllocFailed<T>> for EvalStop {
 }
 
 /// The value of a constant.
-fn constant_value(constant: &Constant) -> Result<Rc<Array>, EvalStop>
+fn constant_value(alloc: Global, constant: &Constant) -> Result<Rc<Array>, EvalStop>
     ensures { (w : WorkspaceValue) → IsOutcome (done constant.now w) w result }
 {
-    Ok(constant.array().clone()?)
+    Ok(constant.array(alloc)?)
 }
 
 /// The value of a name: the one that the line gave it, or else the workspace's.
@@ -151,7 +151,7 @@ fn carry_out<R: Threads + Sync, C: Cut + Sync, G: Gate + Sync>(
     ensures { IsState (step operation.now stack.old (staged_in staged.old workspace.now)) stack.new (staged_in staged.new workspace.now) result }
 {
     match operation {
-        Operation::Constant(_, constant) => put(stack, constant_value(constant)),
+        Operation::Constant(_, constant) => put(stack, constant_value(alloc, constant)),
         Operation::Name(column, name) => {
             put(stack, name_value(workspace, staged, *column, name.as_str()))
         }
@@ -162,22 +162,27 @@ fn carry_out<R: Threads + Sync, C: Cut + Sync, G: Gate + Sync>(
             staged.insert(alloc, name.as_str(), value)?;
             Ok(())
         }
-        Operation::Dyadic(form, None) => {
+        Operation::Dyadic(function, axis) => {
+            let form = function.form();
+            let None = axis.brackets() else {
+                return Err(not_built(caret_column(form)));
+            };
             let left = stack.pop_value();
             let right = stack.pop_value();
-            let result = dyadic(rt, alloc, pool, *form, &left, &right);
-            put(stack, judged(alloc, result, *form))
+            let result = dyadic(rt, alloc, pool, form, &left, &right);
+            put(stack, judged(alloc, result, form))
         }
-        Operation::Monadic(form, None) => {
+        Operation::Monadic(function, axis) => {
+            let form = function.form();
+            let None = axis.brackets() else {
+                return Err(not_built(caret_column(form)));
+            };
             let right = stack.pop_value();
-            let result = monadic(rt, alloc, pool, *form, &right);
-            put(stack, judged(alloc, result, *form))
-        }
-        Operation::Dyadic(form, Some(_)) | Operation::Monadic(form, Some(_)) => {
-            Err(not_built(caret_column(*form)))
+            let result = monadic(rt, alloc, pool, form, &right);
+            put(stack, judged(alloc, result, form))
         }
         Operation::Index(_, brackets) => Err(not_built(brackets.left)),
-        Operation::AssignAt { arrow, .. } => Err(not_built(*arrow)),
+        Operation::AssignAt(target) => Err(not_built(target.indexed_name().arrow)),
     }
 }
 
@@ -209,7 +214,7 @@ fn is_assignment_program(program: &Program) -> bool
 {
     matches!(
         program.operations().last(),
-        Some(Operation::Assign(..) | Operation::AssignAt { .. })
+        Some(Operation::Assign(..) | Operation::AssignAt(_))
     )
 }
 

@@ -14,7 +14,7 @@ use Rattle.apl_grammar.specs.declared.reader.State.TheVariants as state
 use Rattle.apl_grammar.specs.declared.reader.Entry.{Entry}
 use Rattle.apl_grammar.specs.declared.reader.Entry.TheVariants as entry
 use Rattle.apl_grammar.specs.Functions.{class_of, is_scalar, takes_axis, reduces, may_be_dyadic}
-use Rattle.apl_grammar.specs.Tree.{Expr, value, dyadic, monadic, assign, assign_at, Operand, constant, name, group, last, Slot, nothing, given, none, along, has_axis, brackets, axis_brackets, semicolons, operations, operand_operations, list_operations, slot_operations, axis_operations}
+use Rattle.apl_grammar.specs.Tree.{Expr, value, dyadic, monadic, assign, assign_at, Operand, constant, name, group, last, Slot, nothing, given, none, along, has_axis, brackets, indexed_name, axis_brackets, semicolons, operations, operand_operations, list_operations, slot_operations, axis_operations}
 use Rattle.apl_grammar.specs.Automaton.{Machine, machine, completed, with_dyadic, with_index, waiting, with_operand, with_name, settled, applied, filled, with_function, with_dot, with_jot, with_arrow, closed_group, with_open_paren, with_close_paren, with_close_bracket, with_slot, is_empty_slot, parted, with_semicolon, closed_list, with_open_bracket, step, step_lexeme, run, ended, finished}
 use Rattle.apl_grammar.proofs.Partial as partial
 use Rattle.apl_grammar.proofs.Partial.{Wanted, alone, applied as applied_to, indexed, fill, Level, wanted, whole, dotted, arrowed, beside, named, Tail, no_slots, slots, Frame, grouped, sliced, either, stored, Config, join, when, as_dyadic, with_index as indexed_by, as_wanted, level_by, level_for, at_operand, at_name, at_close, at_slice, at_close_bracket, only, at_function, at_dot, at_jot, at_arrow, at_open, slot_of, sliced_by, at_semicolon, wanted_by, at_open_bracket}
@@ -79,7 +79,7 @@ operand_follows fr l ps os o p eo h = by_waits (as_wanted l) (waiting (level_sta
 name_follows : (c : ℕ) (n : List ℕ) (fr : List Frame) (l : Level) (ps : List ℕ) (os : List (Option Operation)) → EmitsLevel fr l ps os → Follows (at_name fr c n l) (with_name os (level_entries fr l ps) (level_state l ps) c n)
 name_follows c n fr (arrowed r e) ps os h = record { places = ps; emits = Emits-append fr ps (operations e) os (Some (op.Assign c n r) ∷ []) h; entries = refl; state = refl }
 name_follows c n fr (named l s d r e) ps os h =
-    let p : Operation = op.AssignAt c n (semicolons s) (brackets l d) r in
+    let p : Operation = op.AssignAt (indexed_name c n (semicolons s) (brackets l d) r) in
     record { places = ps; emits = Emits-same fr ps ((operations e ++ list_operations s) ++ p ∷ []) (operations e ++ (list_operations s ++ p ∷ [])) (os ++ Some p ∷ []) (append_assoc (operations e) (list_operations s) (p ∷ [])) (Emits-append fr ps (operations e ++ list_operations s) os (Some p ∷ []) h); entries = refl; state = refl }
 name_follows c n fr (wanted w) ps os h = operand_follows fr (wanted w) ps os (name c n) (op.Name c n) refl h
 name_follows c n fr (whole (monadic f a e)) ps os h = operand_follows fr (whole (monadic f a e)) ps os (name c n) (op.Name c n) refl h

@@ -4,6 +4,7 @@ pub mod Sound
 pub mod Viable
 pub mod Operations
 pub mod Emitted
+pub mod Full
 pub mod HasRead
 pub mod Held
 pub mod Follows

@@ -6,7 +6,7 @@ use Rattle.apl_grammar.specs.declared.program.Brackets.{Brackets}
 use Rattle.apl_grammar.specs.declared.program.Form.{Form}
 use Rattle.apl_grammar.specs.declared.program.Operation.{Operation}
 use Rattle.apl_grammar.specs.declared.program.Operation.TheVariants as op
-use Rattle.apl_grammar.specs.Tree.{Expr, value, dyadic, monadic, assign, assign_at, Operand, constant, name, group, index, Slots, last, more, Slot, nothing, given, Axis, none, along, brackets, axis_brackets, semicolons, operations, operand_operations, list_operations, slot_operations, axis_operations}
+use Rattle.apl_grammar.specs.Tree.{Expr, value, dyadic, monadic, assign, assign_at, Operand, constant, name, group, index, Slots, last, more, Slot, nothing, given, Axis, none, along, brackets, indexed_name, axis_brackets, semicolons, operations, operand_operations, list_operations, slot_operations, axis_operations}
 
 -- a tree, or an empty slot
 data Item : Type 0 where
@@ -65,8 +65,8 @@ rebuild_one op.EmptySlot xs = missing ∷ xs
 rebuild_one (op.Index cs b) xs =
     found (value (index (operand_in (expr_of (top xs))) b.left (slots_in (reverse cs) (below xs)) b.right)) ∷ below_slots (reverse cs) (below xs)
 rebuild_one (op.Assign c n r) xs = found (assign c n r (expr_of (top xs))) ∷ below xs
-rebuild_one (op.AssignAt c n cs b r) xs =
-    found (assign_at c n b.left (slots_in (reverse cs) xs) b.right r (expr_of (top (below_slots (reverse cs) xs)))) ∷ below (below_slots (reverse cs) xs)
+rebuild_one (op.AssignAt t) xs =
+    found (assign_at t.column t.name t.brackets.left (slots_in (reverse t.semicolons) xs) t.brackets.right t.arrow (expr_of (top (below_slots (reverse t.semicolons) xs)))) ∷ below (below_slots (reverse t.semicolons) xs)
 rebuild_one (op.Monadic f a) xs = found (monadic f (axis_in a xs) (expr_of (top (below_axis a xs)))) ∷ below (below_axis a xs)
 rebuild_one (op.Dyadic f a) xs =
     found (dyadic (operand_in (expr_of (top xs))) f (axis_in a (below xs)) (expr_of (top (below_axis a (below xs))))) ∷ below (below_axis a (below xs))
@@ -110,7 +110,7 @@ index_one x l s r xs =
     ∙ ap (λ y. found (value (index x l y r)) ∷ below_slots (columns_of s) (items_of s xs)) (slots_in-items s xs)
     ∙ ap (λ y. found (value (index x l s r)) ∷ y) (below_slots-items s xs)
 
-assign_at_one : (c : ℕ) (n : List ℕ) (l : ℕ) (s : Slots) (r a : ℕ) (e : Expr) (xs : List Item) → rebuild_one (op.AssignAt c n (semicolons s) (brackets l r) a) (items_of s (found e ∷ xs)) ≡ found (assign_at c n l s r a e) ∷ xs
+assign_at_one : (c : ℕ) (n : List ℕ) (l : ℕ) (s : Slots) (r a : ℕ) (e : Expr) (xs : List Item) → rebuild_one (op.AssignAt (indexed_name c n (semicolons s) (brackets l r) a)) (items_of s (found e ∷ xs)) ≡ found (assign_at c n l s r a e) ∷ xs
 assign_at_one c n l s r a e xs =
     ap (λ cs. found (assign_at c n l (slots_in cs (items_of s (found e ∷ xs))) r a (expr_of (top (below_slots cs (items_of s (found e ∷ xs)))))) ∷ below (below_slots cs (items_of s (found e ∷ xs)))) (reverse-semicolons s)
     ∙ ap (λ y. found (assign_at c n l y r a (expr_of (top (below_slots (columns_of s) (items_of s (found e ∷ xs)))))) ∷ below (below_slots (columns_of s) (items_of s (found e ∷ xs)))) (slots_in-items s (found e ∷ xs))
@@ -146,7 +146,7 @@ mutual
       ap (λ x. rebuild x xs) (append_assoc (operations e) (op.Assign c n r ∷ []) rest)
       ∙ rebuild-operations e (op.Assign c n r ∷ rest) xs
   rebuild-operations (assign_at c n l s r a e) rest xs =
-      let last_one : Operation = op.AssignAt c n (semicolons s) (brackets l r) a in
+      let last_one : Operation = op.AssignAt (indexed_name c n (semicolons s) (brackets l r) a) in
       let regrouped : (operations e ++ (list_operations s ++ last_one ∷ [])) ++ rest ≡ operations e ++ (list_operations s ++ last_one ∷ rest) = simp append_assoc in
       ap (λ x. rebuild x xs) regrouped
       ∙ rebuild-operations e (list_operations s ++ last_one ∷ rest) xs

@@ -1,5 +1,5 @@
 -- Tokens have a tree or a caret.
-use Rattle.std.proofs.Common.{◌≡◌, ◌⊎◌, ◌++◌, ◌∷◌, [], List, Option, Some, None, Bool, true, false, refl, sym, ap, subst, inl, inr}
+use Rattle.std.proofs.Common.{◌≡◌, ◌⊎◌, ◌++◌, ◌∷◌, [], List, Option, Some, None, Bool, true, false, refl, ap, subst, inl, inr}
 use Rattle.std.specs.Prelude.{ℕ, option_and_then}
 use Rattle.apl_tokens.specs.declared.token.Token.{Token}
 use Rattle.apl_grammar.specs.Tree.{Expr, IsTree, spells}

@@ -18,7 +18,7 @@ use Rattle.apl_grammar.specs.declared.reader.Entry.TheVariants as entry
 use Rattle.apl_grammar.specs.declared.statement.GrammarStop.{GrammarStop}
 use Rattle.apl_grammar.specs.declared.statement.GrammarStop.TheVariants as stop
 use Rattle.apl_grammar.specs.Functions.{class_of, is_scalar, takes_axis, reduces, may_be_monadic, may_be_dyadic}
-use Rattle.apl_grammar.specs.Tree.{brackets}
+use Rattle.apl_grammar.specs.Tree.{brackets, indexed_name}
 
 -- The operations emitted so far, with empty places among them; what waits, the innermost first; and the state.
 pub record Machine : Type 0 where
@@ -34,7 +34,7 @@ abbrev pub stack_of : Reader → List Entry
 stack_of r = reverse r.entries.items
 
 abbrev pub held : Reader → State → Machine
-held r s = machine r.operations.items (stack_of r) s
+held r s = machine r.operations (stack_of r) s
 
 -- the operations without the empty places
 abbrev pub emitted : List (Option Operation) → List Operation
@@ -66,7 +66,7 @@ with_operand os es s o = option_map (completed (os ++ Some o ∷ [])) (waiting s
 
 abbrev pub with_name : List (Option Operation) → List Entry → State → ℕ → List ℕ → Option Machine
 with_name os es (state.Arrowed r) c n = Some (machine (os ++ Some (op.Assign c n r) ∷ []) es state.Whole)
-with_name os es (state.Named cs b r) c n = Some (machine (os ++ Some (op.AssignAt c n cs b r) ∷ []) es state.Whole)
+with_name os es (state.Named cs b r) c n = Some (machine (os ++ Some (op.AssignAt (indexed_name c n cs b r)) ∷ []) es state.Whole)
 with_name os es s c n = with_operand os es s (op.Name c n)
 
 -- the operations of an expression that ends here

@@ -7,6 +7,7 @@ use Rattle.apl_tokens.specs.declared.token.Lexeme.TheVariants as lexeme
 use Rattle.apl_grammar.specs.declared.program.Form.{Form}
 use Rattle.apl_grammar.specs.declared.program.Form.TheVariants.{Plain, Reduce, Inner, Outer}
 use Rattle.apl_grammar.specs.declared.program.Brackets.{Brackets}
+use Rattle.apl_grammar.specs.declared.program.IndexedName.{IndexedName}
 use Rattle.apl_grammar.specs.declared.program.Operation.{Operation}
 use Rattle.apl_grammar.specs.declared.program.Operation.TheVariants as op
 use Rattle.apl_grammar.specs.Functions.{may_be_monadic, may_be_dyadic}
@@ -45,6 +46,9 @@ mutual
 
 abbrev pub brackets : ℕ → ℕ → Brackets
 brackets l r = record { left = l; right = r }
+
+abbrev pub indexed_name : (column : ℕ) → (name semicolons : List ℕ) → Brackets → (arrow : ℕ) → IndexedName
+indexed_name c n cs b r = record { column = c; name = n; semicolons = cs; brackets = b; arrow = r }
 
 abbrev pub axis_brackets : Axis → Option Brackets
 axis_brackets none = None
@@ -129,7 +133,7 @@ abbrev mutual
   operations (dyadic o f a e) = operations e ++ (axis_operations a ++ (operand_operations o ++ op.Dyadic f (axis_brackets a) ∷ []))
   operations (monadic f a e) = operations e ++ (axis_operations a ++ op.Monadic f (axis_brackets a) ∷ [])
   operations (assign c n r e) = operations e ++ op.Assign c n r ∷ []
-  operations (assign_at c n o s d r e) = operations e ++ (list_operations s ++ op.AssignAt c n (semicolons s) (brackets o d) r ∷ [])
+  operations (assign_at c n o s d r e) = operations e ++ (list_operations s ++ op.AssignAt (indexed_name c n (semicolons s) (brackets o d) r) ∷ [])
 
   pub operand_operations : Operand → List Operation
   operand_operations (constant c v) = op.Constant c v ∷ []

@@ -2,11 +2,14 @@
 #![tactic(auto)]
 
 mod functions;
+mod places;
 mod program;
 mod reader;
 mod statement;
 #[cfg(test)]
 mod tests;
 
-pub use program::{Brackets, Columns, Form, Operation, Program};
+pub use program::{
+    Axis, Brackets, Columns, Form, Function, IndexedName, Operation, Program, Target,
+};
 pub use statement::{GrammarStop, one_caret, one_reading, one_tree, program_of, tree_or_caret};

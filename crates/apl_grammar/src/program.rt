@@ -1,4 +1,7 @@
 //! Operations in the order of evaluation.
+ghost use Rattle.std.specs.Prelude.{◌≡◌, IfOk};
+ghost use Rattle.apl_grammar.specs.declared.program.Operation.TheVariants.{Monadic, Dyadic};
+
 use apl_tokens::{Constant, Glyph, Name};
 use std::alloc::{AllocError, AllocFailed, Global};
 use std::marker::Model;
@@ -56,6 +59,133 @@ pub enum Form {
     },
 }
 
+/// One symbol takes no memory.
+#[derive(Drop)]
+enum HeldForm {
+    Plain(Glyph, usize),
+    Compound(Box<Form>),
+}
+
+/// A form, held in little room.
+#[derive(Drop)]
+pub struct Function {
+    held: HeldForm,
+}
+
+impl Model for Function {
+    ghost use Rattle.apl_grammar.specs.declared.program.Form.{Form};
+
+    ghost Value = { Form };
+
+    ghost use Rattle.apl_grammar.specs.Held.{held_form};
+
+    ghost view = { λ f. held_form f.held };
+}
+
+impl Function {
+    /// The function of this form.
+    pub(crate) fn new(alloc: Global, form: Form) -> Result<Function, AllocError>
+        ensures { IfOk result (λ function. function ≡ form) }
+    {
+        let held = match form {
+            Form::Plain { column, glyph } => HeldForm::Plain(glyph, column),
+            _ => HeldForm::Compound(Box::new(alloc, form)?),
+        };
+        Ok(Function { held })
+    }
+
+    /// Its form.
+    pub fn form(&self) -> Form
+        ensures { result ≡ self.now }
+    {
+        match &self.held {
+            HeldForm::Plain(glyph, column) => Form::Plain {
+                column: *column,
+                glyph: *glyph,
+            },
+            HeldForm::Compound(form) => **form,
+        }
+    }
+}
+
+/// The brackets of an axis, if there is one, held in little room.
+#[derive(Drop)]
+pub struct Axis {
+    held: Option<Box<Brackets>>,
+}
+
+impl Model for Axis {
+    ghost use Rattle.std.specs.Prelude.{Option, option_map};
+    ghost use Rattle.apl_grammar.specs.declared.program.Brackets.{Brackets};
+
+    ghost Value = { Option Brackets };
+
+    ghost view = { λ a. option_map (λ b. b.value) a.held };
+}
+
+impl Axis {
+    /// The axis of these brackets.
+    pub(crate) fn new(alloc: Global, brackets: Option<Brackets>) -> Result<Axis, AllocError>
+        ensures { IfOk result (λ axis. axis ≡ brackets) }
+    {
+        let held = match brackets {
+            Some(brackets) => Some(Box::new(alloc, brackets)?),
+            None => None,
+        };
+        Ok(Axis { held })
+    }
+
+    /// Its brackets.
+    pub fn brackets(&self) -> Option<Brackets>
+        ensures { result ≡ self.now }
+    {
+        match &self.held {
+            Some(brackets) => Some(**brackets),
+            None => None,
+        }
+    }
+}
+
+/// A name, the columns of its index and the column of the arrow.
+#[derive(Drop)]
+pub struct IndexedName {
+    pub column: usize,
+    pub name: Name,
+    pub semicolons: Columns,
+    pub brackets: Brackets,
+    pub arrow: usize,
+}
+
+/// What an indexed assignment is made to, held in little room.
+#[derive(Drop)]
+pub struct Target {
+    held: Box<IndexedName>,
+}
+
+impl Model for Target {
+    ghost use Rattle.apl_grammar.specs.declared.program.IndexedName.{IndexedName};
+
+    ghost Value = { IndexedName };
+
+    ghost view = { λ t. t.held.value };
+}
+
+impl Target {
+    pub(crate) fn new(alloc: Global, indexed: IndexedName) -> Result<Target, AllocError>
+        ensures { IfOk result (λ target. target ≡ indexed) }
+    {
+        let held = Box::new(alloc, indexed)?;
+        Ok(Target { held })
+    }
+
+    /// The name and the columns.
+    pub fn indexed_name(&self) -> &IndexedName
+        ensures { result.now ≡ self.now }
+    {
+        &self.held
+    }
+}
+
 /// One operation of a program, with the columns of its tokens.
 #[derive(Drop)]
 pub enum Operation {
@@ -72,17 +202,37 @@ pub enum Operation {
     /// The name at the first column gets the value; the arrow stands at the second.
     Assign(usize, Name, usize),
     /// The chosen elements of a name's array get the value.
-    AssignAt {
-        column: usize,
-        name: Name,
-        semicolons: Columns,
-        brackets: Brackets,
-        arrow: usize,
-    },
+    AssignAt(Target),
     /// The function of one argument, perhaps along an axis.
-    Monadic(Form, Option<Brackets>),
+    Monadic(Function, Axis),
     /// The function of two arguments, perhaps along an axis.
-    Dyadic(Form, Option<Brackets>),
+    Dyadic(Function, Axis),
+}
+
+impl Operation {
+    pub(crate) fn monadic(
+        alloc: Global,
+        form: Form,
+        axis: Option<Brackets>,
+    ) -> Result<Operation, AllocError>
+        ensures { IfOk result (λ operation. operation ≡ Monadic form axis) }
+    {
+        let function = Function::new(alloc, form)?;
+        let axis = Axis::new(alloc, axis)?;
+        Ok(Operation::Monadic(function, axis))
+    }
+
+    pub(crate) fn dyadic(
+        alloc: Global,
+        form: Form,
+        axis: Option<Brackets>,
+    ) -> Result<Operation, AllocError>
+        ensures { IfOk result (λ operation. operation ≡ Dyadic form axis) }
+    {
+        let function = Function::new(alloc, form)?;
+        let axis = Axis::new(alloc, axis)?;
+        Ok(Operation::Dyadic(function, axis))
+    }
 }
 
 impl Columns {

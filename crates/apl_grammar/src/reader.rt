@@ -5,17 +5,18 @@ ghost use Rattle.apl_grammar.specs.declared.program.Operation.{Operation};
 ghost use Rattle.apl_grammar.specs.declared.reader.State.TheVariants.{Whole, Wanted};
 
 use super::functions::{is_scalar, may_be_dyadic, may_be_monadic, reduces, takes_axis};
-use super::program::{Brackets, Columns, Form, Operation};
+use super::places::Places;
+use super::program::{Axis, Brackets, Columns, Form, Function, IndexedName, Operation, Target};
 use super::statement::GrammarStop;
 use apl_tokens::{Glyph, Lexeme, Name, Token};
 use std::alloc::{AllocError, AllocFailed, Global};
 
 /// A monadic function before a bracket: its operation has a place if the bracket holds an axis, and if it holds an index
 /// the function is dyadic.
-#[derive(Clone, Copy, Drop)]
+#[derive(Drop)]
 pub(crate) struct Pending {
-    form: Form,
-    axis: Option<Brackets>,
+    form: Function,
+    axis: Axis,
     place: usize,
 }
 
@@ -82,21 +83,38 @@ impl<T: Drop> From<AllocFailed<T>> for Refusal {
     }
 }
 
+/// Room for so many entries is taken at once where there are as many tokens.
+const SHORT: usize = 12;
+
 /// The operations emitted so far, with places kept among them, and what waits to the left of what was read.
 #[derive(Drop)]
 pub(crate) struct Reader {
     alloc: Global,
-    operations: Vec<Option<Operation>>,
+    operations: Places,
     entries: Vec<Entry>,
 }
 
 impl Reader {
+    /// A reader that has read nothing of so many tokens.
+    fn new(alloc: Global, count: usize) -> Result<Reader, AllocError>
+        ensures operations { IfOk result (λ r. r.operations ≡ []) }
+        ensures entries { IfOk result (λ r. stack_of r ≡ []) }
+    {
+        let operations = Places::with_capacity(alloc, count)?;
+        let entries = Vec::with_capacity(alloc, count.min(SHORT))?;
+        Ok(Reader {
+            alloc,
+            operations,
+            entries,
+        })
+    }
+
     fn emit(&mut self, operation: Operation) -> Result<(), Refusal>
-        ensures ok { OnOk result (self.new.operations.items ≡ self.old.operations.items ++ Some operation ∷ []) }
+        ensures ok { OnOk result (self.new.operations ≡ self.old.operations ++ Some operation ∷ []) }
         ensures entries { self.new.entries ≡ self.old.entries }
         ensures err { result ≡ Err Refusal.Syntax → ⊥ }
     {
-        self.operations.push(Some(operation))?;
+        self.operations.push(operation)?;
         Ok(())
     }
 
@@ -117,7 +135,7 @@ impl Reader {
 
     /// The operand's last operation, and those that waited for it.
     fn complete(&mut self, operand: Operation) -> Result<State, Refusal>
-        ensures ok { IfOk result (λ s. completed (self.old.operations.items ++ Some operand ∷ []) (stack_of self.old) ≡ held self.new s) }
+        ensures ok { IfOk result (λ s. completed (self.old.operations ++ Some operand ∷ []) (stack_of self.old) ≡ held self.new s) }
         ensures err { result ≡ Err Refusal.Syntax → ⊥ }
     {
         self.emit(operand)?;
@@ -136,8 +154,8 @@ impl Reader {
         if !may_be_dyadic(form, axis.is_some()) {
             return Err(Refusal::Syntax);
         }
-        self.entries
-            .push(Entry::Waiting(Operation::Dyadic(form, axis)))?;
+        let operation = Operation::dyadic(self.alloc, form, axis)?;
+        self.entries.push(Entry::Waiting(operation))?;
         Ok(())
     }
 
@@ -163,7 +181,7 @@ impl Reader {
             State::Wanted => Ok(()),
             State::Monadic(form, axis) => self.push_dyadic(form, axis),
             State::Beside(brackets, Some(pending)) => {
-                self.push_dyadic(pending.form, pending.axis)?;
+                self.push_dyadic(pending.form.form(), pending.axis.brackets())?;
                 self.push_index(brackets)
             }
             _ => Err(Refusal::Syntax),
@@ -171,26 +189,29 @@ impl Reader {
     }
 
     fn take_operand(&mut self, state: State, operand: Operation) -> Result<State, Refusal>
-        ensures ok { IfOk result (λ s. with_operand self.old.operations.items (stack_of self.old) state operand ≡ Some (held self.new s)) }
-        ensures err { result ≡ Err Refusal.Syntax → with_operand self.old.operations.items (stack_of self.old) state operand ≡ None }
+        ensures ok { IfOk result (λ s. with_operand self.old.operations (stack_of self.old) state operand ≡ Some (held self.new s)) }
+        ensures err { result ≡ Err Refusal.Syntax → with_operand self.old.operations (stack_of self.old) state operand ≡ None }
     {
         self.want_operand(state)?;
         self.complete(operand)
     }
 
     fn take_name(&mut self, state: State, column: usize, name: Name) -> Result<State, Refusal>
-        ensures ok { IfOk result (λ s. with_name self.old.operations.items (stack_of self.old) state column name ≡ Some (held self.new s)) }
-        ensures err { result ≡ Err Refusal.Syntax → with_name self.old.operations.items (stack_of self.old) state column name ≡ None }
+        ensures ok { IfOk result (λ s. with_name self.old.operations (stack_of self.old) state column name ≡ Some (held self.new s)) }
+        ensures err { result ≡ Err Refusal.Syntax → with_name self.old.operations (stack_of self.old) state column name ≡ None }
     {
         match state {
             State::Arrowed(arrow) => self.emit(Operation::Assign(column, name, arrow))?,
-            State::Named(semicolons, brackets, arrow) => self.emit(Operation::AssignAt {
-                column,
-                name,
-                semicolons,
-                brackets,
-                arrow,
-            })?,
+            State::Named(semicolons, brackets, arrow) => {
+                let indexed = IndexedName {
+                    column,
+                    name,
+                    semicolons,
+                    brackets,
+                    arrow,
+                };
+                self.emit(Operation::AssignAt(Target::new(self.alloc, indexed)?))?
+            }
             _ => return self.take_operand(state, Operation::Name(column, name)),
         }
         Ok(State::Whole)
@@ -198,39 +219,40 @@ impl Reader {
 
     /// An expression ends here: a function that begins it is monadic.
     fn settle(&mut self, state: State) -> Result<(), Refusal>
-        ensures ok { OnOk result (settled self.old.operations.items state ≡ Some self.new.operations.items) }
-        ensures err { result ≡ Err Refusal.Syntax → settled self.old.operations.items state ≡ None }
+        ensures ok { OnOk result (settled self.old.operations state ≡ Some self.new.operations) }
+        ensures err { result ≡ Err Refusal.Syntax → settled self.old.operations state ≡ None }
         ensures entries { self.new.entries ≡ self.old.entries }
     {
         match state {
             State::Whole => Ok(()),
-            State::Monadic(form, axis) => self.emit(Operation::Monadic(form, axis)),
+            State::Monadic(form, axis) => {
+                let operation = Operation::monadic(self.alloc, form, axis)?;
+                self.emit(operation)
+            }
             _ => Err(Refusal::Syntax),
         }
     }
 
     /// A function before an expression.
     fn apply(&mut self, form: Form, axis: Option<Brackets>) -> Result<State, Refusal>
-        ensures ok { IfOk result (λ s. applied form axis self.old.operations.items (stack_of self.old) ≡ held self.new s) }
+        ensures ok { IfOk result (λ s. applied form axis self.old.operations (stack_of self.old) ≡ held self.new s) }
         ensures err { result ≡ Err Refusal.Syntax → ⊥ }
     {
         if may_be_monadic(form, axis.is_some()) {
             return Ok(State::Monadic(form, axis));
         }
-        self.entries
-            .push(Entry::Waiting(Operation::Dyadic(form, axis)))?;
-        Ok(State::Wanted)
+        let operation = Operation::dyadic(self.alloc, form, axis)?;
+        self.push_entry(Entry::Waiting(operation))
     }
 
     /// The function before the axis is monadic.
     fn fill(&mut self, pending: Option<Pending>)
-        ensures operations { self.new.operations.items ≡ filled self.old.operations.items pending }
+        ensures operations { self.new.operations ≡ filled self.old.operations pending }
         ensures entries { self.new.entries ≡ self.old.entries }
     {
         if let Some(pending) = pending {
-            if let Some(place) = self.operations.get_mut(pending.place) {
-                *place = Some(Operation::Monadic(pending.form, pending.axis));
-            }
+            let operation = Operation::Monadic(pending.form, pending.axis);
+            self.operations.fill(pending.place, operation);
         }
     }
 
@@ -244,15 +266,25 @@ impl Reader {
         Ok(State::Wanted)
     }
 
+    /// Makes a product wait for its left argument.
+    fn push_product(&mut self, form: Form) -> Result<State, Refusal>
+        ensures ok { IfOk result (λ s. (s ≡ Wanted) × (stack_of self.new ≡ Entry.Waiting (Operation.Dyadic form None) ∷ stack_of self.old)) }
+        ensures err { result ≡ Err Refusal.Syntax → ⊥ }
+        ensures operations { self.new.operations ≡ self.old.operations }
+    {
+        let operation = Operation::dyadic(self.alloc, form, None)?;
+        self.push_entry(Entry::Waiting(operation))
+    }
+
     /// A function on the left of a slash that waits for its operand.
     fn take_reduced(&mut self, column: usize, glyph: Glyph) -> Result<State, Refusal>
-        ensures ok { IfOk result (λ s. with_function self.old.operations.items (stack_of self.old) Wanted column glyph ≡ Some (held self.new s)) }
-        ensures err { result ≡ Err Refusal.Syntax → with_function self.old.operations.items (stack_of self.old) Wanted column glyph ≡ None }
+        ensures ok { IfOk result (λ s. with_function self.old.operations (stack_of self.old) Wanted column glyph ≡ Some (held self.new s)) }
+        ensures err { result ≡ Err Refusal.Syntax → with_function self.old.operations (stack_of self.old) Wanted column glyph ≡ None }
     {
-        let Some(Entry::Waiting(Operation::Dyadic(form, axis))) = self.entries.pop() else {
+        let Some(Entry::Waiting(Operation::Dyadic(function, axis))) = self.entries.pop() else {
             return Err(Refusal::Syntax);
         };
-        match form {
+        match function.form() {
             Form::Plain {
                 column: slash_column,
                 glyph: slash,
@@ -263,15 +295,15 @@ impl Reader {
                     slash_column,
                     slash,
                 };
-                Ok(State::Monadic(form, axis))
+                Ok(State::Monadic(form, axis.brackets()))
             }
             _ => Err(Refusal::Syntax),
         }
     }
 
     fn take_function(&mut self, state: State, column: usize, glyph: Glyph) -> Result<State, Refusal>
-        ensures ok { IfOk result (λ s. with_function self.old.operations.items (stack_of self.old) state column glyph ≡ Some (held self.new s)) }
-        ensures err { result ≡ Err Refusal.Syntax → with_function self.old.operations.items (stack_of self.old) state column glyph ≡ None }
+        ensures ok { IfOk result (λ s. with_function self.old.operations (stack_of self.old) state column glyph ≡ Some (held self.new s)) }
+        ensures err { result ≡ Err Refusal.Syntax → with_function self.old.operations (stack_of self.old) state column glyph ≡ None }
     {
         match state {
             State::Beside(brackets, pending) => {
@@ -292,7 +324,7 @@ impl Reader {
                     right_column,
                     right,
                 };
-                self.push_entry(Entry::Waiting(Operation::Dyadic(form, None)))
+                self.push_product(form)
             }
             State::Wanted => self.take_reduced(column, glyph),
             _ => {
@@ -303,16 +335,22 @@ impl Reader {
     }
 
     fn take_dot(&mut self, state: State, dot: usize) -> Result<State, Refusal>
-        ensures ok { IfOk result (λ s. with_dot self.old.operations.items (stack_of self.old) state dot ≡ Some (held self.new s)) }
-        ensures err { result ≡ Err Refusal.Syntax → with_dot self.old.operations.items (stack_of self.old) state dot ≡ None }
+        ensures ok { IfOk result (λ s. with_dot self.old.operations (stack_of self.old) state dot ≡ Some (held self.new s)) }
+        ensures err { result ≡ Err Refusal.Syntax → with_dot self.old.operations (stack_of self.old) state dot ≡ None }
     {
         match state {
             State::Monadic(Form::Plain { column, glyph }, None) if is_scalar(glyph) => {
                 Ok(State::Dotted(dot, column, glyph))
             }
             State::Wanted => match self.entries.pop() {
-                Some(Entry::Waiting(Operation::Dyadic(Form::Plain { column, glyph }, None)))
-                    if is_scalar(glyph) => { Ok(State::Dotted(dot, column, glyph)) }
+                Some(Entry::Waiting(Operation::Dyadic(function, axis))) => {
+                    match (function.form(), axis.brackets()) {
+                        (Form::Plain { column, glyph }, None) if is_scalar(glyph) => {
+                            Ok(State::Dotted(dot, column, glyph))
+                        }
+                        _ => Err(Refusal::Syntax),
+                    }
+                }
                 _ => Err(Refusal::Syntax),
             },
             _ => Err(Refusal::Syntax),
@@ -320,8 +358,8 @@ impl Reader {
     }
 
     fn take_jot(&mut self, state: State, jot: usize) -> Result<State, Refusal>
-        ensures ok { IfOk result (λ s. with_jot self.old.operations.items (stack_of self.old) state jot ≡ Some (held self.new s)) }
-        ensures err { result ≡ Err Refusal.Syntax → with_jot self.old.operations.items (stack_of self.old) state jot ≡ None }
+        ensures ok { IfOk result (λ s. with_jot self.old.operations (stack_of self.old) state jot ≡ Some (held self.new s)) }
+        ensures err { result ≡ Err Refusal.Syntax → with_jot self.old.operations (stack_of self.old) state jot ≡ None }
     {
         match state {
             State::Dotted(dot, column, function) => {
@@ -331,23 +369,23 @@ impl Reader {
                     column,
                     function,
                 };
-                self.push_entry(Entry::Waiting(Operation::Dyadic(form, None)))
+                self.push_product(form)
             }
             _ => Err(Refusal::Syntax),
         }
     }
 
     fn take_arrow(&mut self, state: State, arrow: usize) -> Result<State, Refusal>
-        ensures ok { IfOk result (λ s. with_arrow self.old.operations.items (stack_of self.old) state arrow ≡ Some (held self.new s)) }
-        ensures err { result ≡ Err Refusal.Syntax → with_arrow self.old.operations.items (stack_of self.old) state arrow ≡ None }
+        ensures ok { IfOk result (λ s. with_arrow self.old.operations (stack_of self.old) state arrow ≡ Some (held self.new s)) }
+        ensures err { result ≡ Err Refusal.Syntax → with_arrow self.old.operations (stack_of self.old) state arrow ≡ None }
     {
         self.settle(state)?;
         Ok(State::Arrowed(arrow))
     }
 
     fn take_open_paren(&mut self, state: State, left: usize) -> Result<State, Refusal>
-        ensures ok { IfOk result (λ s. with_open_paren self.old.operations.items (stack_of self.old) state left ≡ Some (held self.new s)) }
-        ensures err { result ≡ Err Refusal.Syntax → with_open_paren self.old.operations.items (stack_of self.old) state left ≡ None }
+        ensures ok { IfOk result (λ s. with_open_paren self.old.operations (stack_of self.old) state left ≡ Some (held self.new s)) }
+        ensures err { result ≡ Err Refusal.Syntax → with_open_paren self.old.operations (stack_of self.old) state left ≡ None }
     {
         self.settle(state)?;
         match self.entries.pop() {
@@ -357,22 +395,23 @@ impl Reader {
     }
 
     fn take_close_paren(&mut self, state: State, right: usize) -> Result<State, Refusal>
-        ensures ok { IfOk result (λ s. with_close_paren self.old.operations.items (stack_of self.old) state right ≡ Some (held self.new s)) }
-        ensures err { result ≡ Err Refusal.Syntax → with_close_paren self.old.operations.items (stack_of self.old) state right ≡ None }
+        ensures ok { IfOk result (λ s. with_close_paren self.old.operations (stack_of self.old) state right ≡ Some (held self.new s)) }
+        ensures err { result ≡ Err Refusal.Syntax → with_close_paren self.old.operations (stack_of self.old) state right ≡ None }
     {
         self.want_operand(state)?;
         self.push_entry(Entry::Group(right))
     }
 
     fn take_close_bracket(&mut self, state: State, right: usize) -> Result<State, Refusal>
-        ensures ok { IfOk result (λ s. with_close_bracket self.old.operations.items (stack_of self.old) state right ≡ Some (held self.new s)) }
-        ensures err { result ≡ Err Refusal.Syntax → with_close_bracket self.old.operations.items (stack_of self.old) state right ≡ None }
+        ensures ok { IfOk result (λ s. with_close_bracket self.old.operations (stack_of self.old) state right ≡ Some (held self.new s)) }
+        ensures err { result ≡ Err Refusal.Syntax → with_close_bracket self.old.operations (stack_of self.old) state right ≡ None }
     {
         match state {
             State::Whole => self.push_entry(Entry::Either(right, None)),
             State::Monadic(form, axis) => {
-                let place = self.operations.len();
-                self.operations.push(None)?;
+                let form = Function::new(self.alloc, form)?;
+                let axis = Axis::new(self.alloc, axis)?;
+                let place = self.operations.keep_place(self.alloc)?;
                 self.push_entry(Entry::Either(right, Some(Pending { form, axis, place })))
             }
             State::Arrowed(arrow) => {
@@ -389,8 +428,8 @@ impl Reader {
 
     /// A slot ends here.
     fn end_slot(&mut self, state: State) -> Result<(), Refusal>
-        ensures ok { OnOk result (with_slot self.old.operations.items state ≡ Some self.new.operations.items) }
-        ensures err { result ≡ Err Refusal.Syntax → with_slot self.old.operations.items state ≡ None }
+        ensures ok { OnOk result (with_slot self.old.operations state ≡ Some self.new.operations) }
+        ensures err { result ≡ Err Refusal.Syntax → with_slot self.old.operations state ≡ None }
         ensures entries { self.new.entries ≡ self.old.entries }
     {
         match state {
@@ -401,8 +440,8 @@ impl Reader {
 
     /// One more semicolon of the list in the innermost brackets.
     fn part_slots(&mut self, column: usize) -> Result<State, Refusal>
-        ensures ok { IfOk result (λ s. parted column self.old.operations.items (stack_of self.old) ≡ Some (held self.new s)) }
-        ensures err { result ≡ Err Refusal.Syntax → parted column self.old.operations.items (stack_of self.old) ≡ None }
+        ensures ok { IfOk result (λ s. parted column self.old.operations (stack_of self.old) ≡ Some (held self.new s)) }
+        ensures err { result ≡ Err Refusal.Syntax → parted column self.old.operations (stack_of self.old) ≡ None }
     {
         match self.entries.pop() {
             Some(Entry::Slice(right, mut semicolons)) => {
@@ -414,7 +453,7 @@ impl Reader {
                 self.push_entry(Entry::Store(right, semicolons, arrow))
             }
             Some(Entry::Either(right, Some(pending))) => {
-                self.push_dyadic(pending.form, pending.axis)?;
+                self.push_dyadic(pending.form.form(), pending.axis.brackets())?;
                 let mut semicolons = Columns::new(self.alloc);
                 semicolons.push(column)?;
                 self.push_entry(Entry::Slice(right, semicolons))
@@ -424,8 +463,8 @@ impl Reader {
     }
 
     fn take_semicolon(&mut self, state: State, column: usize) -> Result<State, Refusal>
-        ensures ok { IfOk result (λ s. with_semicolon self.old.operations.items (stack_of self.old) state column ≡ Some (held self.new s)) }
-        ensures err { result ≡ Err Refusal.Syntax → with_semicolon self.old.operations.items (stack_of self.old) state column ≡ None }
+        ensures ok { IfOk result (λ s. with_semicolon self.old.operations (stack_of self.old) state column ≡ Some (held self.new s)) }
+        ensures err { result ≡ Err Refusal.Syntax → with_semicolon self.old.operations (stack_of self.old) state column ≡ None }
     {
         self.end_slot(state)?;
         self.part_slots(column)
@@ -433,8 +472,8 @@ impl Reader {
 
     /// The bracket on the left of the innermost list; whether its first slot is empty.
     fn close_list(&mut self, is_empty: bool, left: usize) -> Result<State, Refusal>
-        ensures ok { IfOk result (λ s. closed_list is_empty left self.old.operations.items (stack_of self.old) ≡ Some (held self.new s)) }
-        ensures err { result ≡ Err Refusal.Syntax → closed_list is_empty left self.old.operations.items (stack_of self.old) ≡ None }
+        ensures ok { IfOk result (λ s. closed_list is_empty left self.old.operations (stack_of self.old) ≡ Some (held self.new s)) }
+        ensures err { result ≡ Err Refusal.Syntax → closed_list is_empty left self.old.operations (stack_of self.old) ≡ None }
     {
         match self.entries.pop() {
             Some(Entry::Slice(right, semicolons)) => {
@@ -448,7 +487,7 @@ impl Reader {
                 Ok(State::Beside(Brackets { left, right }, pending))
             }
             Some(Entry::Either(right, Some(pending))) => {
-                self.push_dyadic(pending.form, pending.axis)?;
+                self.push_dyadic(pending.form.form(), pending.axis.brackets())?;
                 self.push_index(Brackets { left, right })?;
                 Ok(State::Wanted)
             }
@@ -457,8 +496,8 @@ impl Reader {
     }
 
     fn take_open_bracket(&mut self, state: State, left: usize) -> Result<State, Refusal>
-        ensures ok { IfOk result (λ s. with_open_bracket self.old.operations.items (stack_of self.old) state left ≡ Some (held self.new s)) }
-        ensures err { result ≡ Err Refusal.Syntax → with_open_bracket self.old.operations.items (stack_of self.old) state left ≡ None }
+        ensures ok { IfOk result (λ s. with_open_bracket self.old.operations (stack_of self.old) state left ≡ Some (held self.new s)) }
+        ensures err { result ≡ Err Refusal.Syntax → with_open_bracket self.old.operations (stack_of self.old) state left ≡ None }
     {
         let is_empty = matches!(state, State::Wanted);
         self.end_slot(state)?;
@@ -494,25 +533,9 @@ impl Reader {
         if !self.entries.is_empty() {
             return Err(Refusal::Syntax);
         }
-        let operations = without_empty(self.alloc, self.operations)?;
+        let operations = self.operations.into_operations(self.alloc)?;
         Ok(operations)
     }
-}
-
-/// The operations without the empty places.
-fn without_empty(
-    alloc: Global,
-    places: Vec<Option<Operation>>,
-) -> Result<Vec<Operation>, AllocError>
-    ensures { IfOk result (λ operations. operations.items ≡ emitted places.items) }
-{
-    let mut operations = Vec::new(alloc);
-    for place in places {
-        if let Some(operation) = place {
-            operations.push(operation)?;
-        }
-    }
-    Ok(operations)
 }
 
 /// The operations of the tokens, or why they are no statement.
@@ -522,10 +545,8 @@ pub(crate) fn parse(alloc: Global, tokens: Vec<Token>) -> Result<Vec<Operation>,
     ensures err { IfErr result (IsRefusedBy tokens.items) }
 {
     let mut rest = tokens;
-    let mut reader = Reader {
-        alloc,
-        operations: Vec::new(alloc),
-        entries: Vec::new(alloc),
+    let Ok(mut reader) = Reader::new(alloc, rest.len()) else {
+        return Err(GrammarStop::Memory);
     };
     let mut state = State::Wanted;
     let mut first = 0;

@@ -125,11 +125,11 @@ fn column_of(operation: &Operation) -> Option<usize> {
         Operation::Group(brackets) | Operation::Index(_, brackets) => Some(brackets.left),
         Operation::EmptySlot => None,
         Operation::Assign(column, _, _) => Some(*column),
-        Operation::AssignAt { arrow, .. } => Some(*arrow),
-        Operation::Monadic(form, _) | Operation::Dyadic(form, _) => match form {
-            Form::Plain { column, .. } => Some(*column),
-            Form::Reduce { slash_column, .. } => Some(*slash_column),
-            Form::Inner { dot, .. } | Form::Outer { dot, .. } => Some(*dot),
+        Operation::AssignAt(target) => Some(target.indexed_name().arrow),
+        Operation::Monadic(function, _) | Operation::Dyadic(function, _) => match function.form() {
+            Form::Plain { column, .. } => Some(column),
+            Form::Reduce { slash_column, .. } => Some(slash_column),
+            Form::Inner { dot, .. } | Form::Outer { dot, .. } => Some(dot),
         },
     }
 }

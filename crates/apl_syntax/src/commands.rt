@@ -1,26 +1,13 @@
 //! Commands of the session.
 ghost use Rattle.std.specs.Prelude.{◌≡◌, ◌≤◌, ◌<◌, ℕ, [], List, length, take, drop, codes, IfSome, IfNone};
-ghost use Rattle.apl_tokens.specs.Symbols.{is_blank, is_digit};
+ghost use Rattle.apl_tokens.specs.Symbols.{is_blank};
 ghost use Rattle.apl_tokens.specs.Fronts.{AllPass};
 ghost use Rattle.apl_tokens.specs.Lexis.{BeginsWithNo};
 ghost use Rattle.apl_syntax.specs.Commands.{IsCommandLine, is_no_blank, EndsWithNoBlank, HasWordAndArgument, AreDigitsOf, IsCommandOf, IsCommand};
 
 use super::lines::Command;
 use apl_array::Origin;
-
-/// How many blanks the text begins with.
-fn blanks_before(text: &[char]) -> usize
-    ensures within { result ≤ length text.now }
-    ensures blank { AllPass is_blank (take result text.now) }
-    ensures longest { BeginsWithNo is_blank (drop result text.now) }
-{
-    for (i, c) in text.iter().enumerate() {
-        if *c != ' ' {
-            return i;
-        }
-    }
-    text.len()
-}
+use apl_tokens::{blanks_before, is_digit};
 
 /// How many symbols stand before the first blank.
 fn word_length(text: &[char]) -> usize
@@ -47,12 +34,6 @@ fn length_without_blanks(text: &[char]) -> usize
         length -= 1;
     }
     length
-}
-
-fn is_digit(c: char) -> bool
-    ensures { result ≡ is_digit c }
-{
-    '0' <= c && c <= '9'
 }
 
 /// The number that the symbols spell as digits, if it fits a byte.

@@ -8,14 +8,15 @@ use Rattle.std.proofs.Math.Seq.{take-add}
 use Rattle.std.proofs.Math.Numerals.{sub-one}
 use Rattle.std.proofs.Common.{◌-◌}
 use Rattle.std.proofs.lemmas.List.{take-append-drop, append-nil, length-map, drop-drop}
+use Rattle.apl_tokens.proofs.Rows.{row_init}
 use Rattle.apl_tokens.proofs.Quotes.{no_quotation, doubled-append}
 use Rattle.apl_array.specs.Array.{number_array, character_array}
 use Rattle.apl_tokens.specs.declared.token.Lexeme.{Lexeme}
 use Rattle.apl_tokens.specs.declared.token.Lexeme.TheVariants.{Constant, Name}
 use Rattle.apl_tokens.specs.Symbols.{is_letter, is_name_character, quote, is_quote, symbol_lexeme}
 use Rattle.apl_tokens.specs.Fronts.{AllPass}
-use Rattle.apl_tokens.specs.Lexis.{BeginsWithNo, IsNumeral, Numeral, AreNumerals, EndsNumerals, most_elements, constant_shape, doubled, IsSymbol, BeginsWithNoToken, IsBeyondLimit}
-use Rattle.apl_tokens.specs.Scans.{HasNoNumeral, IsRow, IsSpelling, BeginsWithClosingQuote, IsQuotation, HasNoQuotation, BeginsWithQuote, IsTokenAt}
+use Rattle.apl_tokens.specs.Lexis.{BeginsWithNo, IsNumeral, Numeral, AreNumerals, HasNoNextNumeral, EndsNumerals, most_elements, constant_shape, doubled, IsSymbol, BeginsWithNoToken, IsBeyondLimit}
+use Rattle.apl_tokens.specs.Scans.{HasNoNumeral, IsNumeralAt, held_more, IsRow, IsSpelling, BeginsWithClosingQuote, IsQuotation, HasNoQuotation, BeginsWithQuote, IsTokenAt}
 use Rattle.apl_tokens.proofs.Leads.{Lead, letter, figure, quotation, sign, Begins, sign_of, symbol_is_token, numerals_begin, quote_begins, token_begins, one_lead}
 
 -- numerals begin with one
@@ -78,6 +79,16 @@ constant_token text len count values r ends few = record {
 }
 
 -- names
+-- a numeral by itself
+one_row : (text : List ℕ) (len : ℕ) (number : Option ℤ) (b : Option ℕ) (vs : List ℤ) → IsNumeralAt text len number → held_more [] None 0 number ≡ (vs, b) → IsRow text len 1 b vs
+one_row text len number b vs n e = row_init text len number b [] vs n refl e
+
+pub one_number : (text : List ℕ) (len : ℕ) (z : ℤ) → IsNumeralAt text len (Some z) → HasNoNextNumeral (drop len text) → IsTokenAt text len (Constant (number_array [] (z ∷ [])))
+one_number text len z n alone = constant_token text len 1 (z ∷ []) (one_row text len (Some z) None (z ∷ []) n refl) (record { digits = n.longest; numerals = alone }) (omega arith)
+
+pub one_beyond : (text : List ℕ) (len : ℕ) → IsNumeralAt text len None → HasNoNextNumeral (drop len text) → IsBeyondLimit text 0
+one_beyond text len n alone = beyond_place text len 1 0 [] (one_row text len None (Some 0) [] n refl) (record { digits = n.longest; numerals = alone }) (omega arith)
+
 letters_pass : (c : ℕ) → IsTrue (is_letter c) → IsTrue (is_name_character c)
 letters_pass c h = rw h refl
 

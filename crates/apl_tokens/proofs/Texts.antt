@@ -6,7 +6,7 @@ use Rattle.std.specs.Char.{IsScalar}
 use Rattle.std.specs.Str.{StartsWithNoChar, IsValidUpTo, IsUtf8, chars}
 use Rattle.std.proofs.Math.Seq.{take-add}
 use Rattle.std.proofs.lemmas.Str.{IsUtf8-append, IsUtf8-encode, length-encode, len_utf8_bounds, encodes-append}
-use Rattle.std.proofs.lemmas.Str.{length-le-encodes, encode_same, encodes_same, encodes-chars}
+use Rattle.std.proofs.lemmas.Str.{length-le-encodes, encode_same, encodes_same, encodes-chars, chars_from_encodes}
 use Rattle.std.proofs.lemmas.List.{append-nil, take-append-drop}
 use Rattle.std.specs.Prelude.{◌==◌, ◌&&◌, ◌||◌, nat_lt}
 use Rattle.std.specs.Bool.{passes}
@@ -43,6 +43,16 @@ all_more p (d ∷ cs) c h k = (h.0, all_more p cs c h.1 k)
 
 one_encoded : (c : ℕ) → encode_utf8_all (c ∷ []) ≡ encode_utf8 c
 one_encoded c = append-nil (encode_utf8 c)
+
+-- one more character of a text
+pub Encodes-more : (text rest after cs : List ℕ) (c : ℕ) → text ≡ encode_utf8_all cs ++ rest → rest ≡ encode_utf8 c ++ after → text ≡ encode_utf8_all (cs ++ c ∷ []) ++ after
+Encodes-more text rest after cs c e f =
+    let one : encode_utf8_all (cs ++ c ∷ []) ≡ encode_utf8_all cs ++ encode_utf8 c = encodes-append cs (c ∷ []) ∙ ap (λ x. encode_utf8_all cs ++ x) (one_encoded c) in
+    e ∙ ap (λ x. encode_utf8_all cs ++ x) f ∙ sym (append_assoc (encode_utf8_all cs) (encode_utf8 c) after) ∙ ap (λ x. x ++ after) (sym one)
+
+pub Encodes-all : (text rest cs : List ℕ) → IsUtf8 text → text ≡ encode_utf8_all cs ++ rest → length rest ≡ 0 → cs ≡ chars text
+Encodes-all text [] cs u e none = chars_from_encodes cs text u (sym (append-nil (encode_utf8_all cs)) ∙ sym e)
+Encodes-all text (c ∷ rest) cs u e none = absurd (omega arith)
 
 pub ListsUpTo-more : (text rest after : List ℕ) (bytes count c n : ℕ) → ListsUpTo text rest bytes count → rest ≡ encode_utf8 c ++ after → IsTrue (is_listed c) → n ≡ length (encode_utf8 c) → ListsUpTo text after (bytes + n) (count + 1)
 ListsUpTo-more text rest after bytes count c n h e listed len =

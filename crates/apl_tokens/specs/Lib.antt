@@ -2,4 +2,5 @@ pub mod Symbols
 pub mod Fronts
 pub mod Lexis
 pub mod Stops
+pub mod Held
 pub mod Scans

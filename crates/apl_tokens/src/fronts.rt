@@ -68,7 +68,11 @@ fn listed_front(text: &str) -> Extent
 fn characters_of(alloc: Global, text: &str) -> Result<Vec<char>, AllocError>
     ensures { IfOk result (λ characters. characters.items ≡ chars text.now) }
 {
-    text.chars().collect(alloc)
+    let mut characters = Vec::with_capacity(alloc, text.len())?;
+    for c in text.chars() {
+        characters.push(c)?;
+    }
+    Ok(characters)
 }
 
 /// The characters of a line of listed symbols.

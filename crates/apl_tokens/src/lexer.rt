@@ -1,6 +1,6 @@
 // Tokens from characters.
 ghost use Rattle.std.specs.Prelude.{if◌then◌else◌, ◌-◌, ◌≡◌, ◌⊎◌, ◌≤◌, ◌<◌, ◌+◌, ◌^◌, ◌∷◌, [], ◌++◌, ℕ, ℤ, pos, Bool, true, false, List, IsTrue, IfSome, IfNone, IfOk, IfErr, length, take, drop, encode_utf8_all, string_bytes};
-ghost use Rattle.apl_tokens.specs.Symbols.{is_digit, is_letter, is_name_character};
+ghost use Rattle.apl_tokens.specs.Symbols.{is_blank, is_digit, is_letter, is_name_character};
 ghost use Rattle.apl_tokens.specs.Fronts.{AllPass};
 ghost use Rattle.apl_array.specs.Array.{number_array, character_array};
 ghost use Rattle.apl_tokens.specs.Lexis.{BeginsWithNo, decimal, negated, HasNoNextNumeral, AreBlanks, EndsNumerals, constant_shape, Lexes};
@@ -75,6 +75,15 @@ fn run_length(text: &[char], class: Class) -> usize
         }
     }
     text.len()
+}
+
+/// How many blanks the text begins with.
+pub fn blanks_before(text: &[char]) -> usize
+    ensures within { result ≤ length text.now }
+    ensures blank { AllPass is_blank (take result text.now) }
+    ensures longest { BeginsWithNo is_blank (drop result text.now) }
+{
+    run_length(text, Class::Blank)
 }
 
 /// The number that digits spell, if it is at most 2 to the 63rd.
@@ -249,6 +258,15 @@ fn number_constant_at(
     ensures token { IfOk result (λ t. IsTokenAt text.now t.length t.lexeme) }
     ensures stop { IfErr result (IsStopAt text.now column) }
 {
+    let Some(_) = next_numeral(&text[first.length..]) else {
+        return match first.number {
+            Some(number) => Ok(Scanned {
+                lexeme: Lexeme::Constant(Constant::number(number)),
+                length: first.length,
+            }),
+            None => Err(LexicalStop::Limit { column }),
+        };
+    };
     let row = row_at(alloc, text, first)?;
     if row.count > MOST_ELEMENTS {
         return Err(LexicalStop::Limit { column });
@@ -343,7 +361,7 @@ fn text_constant_at(alloc: Global, text: &[char], column: usize) -> Result<Scann
 fn name_of(alloc: Global, characters: &[char]) -> Result<Name, AllocError>
     ensures { IfOk result (λ name. name ≡ encode_utf8_all characters.now) }
 {
-    let mut text = String::new(alloc);
+    let mut text = String::with_capacity(alloc, characters.len())?;
     for c in characters {
         text.push(*c)?;
     }
@@ -378,6 +396,9 @@ fn token_at(alloc: Global, text: &[char], column: usize) -> Result<Scanned, Lexi
     }
 }
 
+/// Room for so many tokens at most is taken before they are counted: a block that the heap still keeps for the next line.
+const ROOM: usize = 3 << 18;
+
 /// The tokens of a line's characters.
 ///
 /// # Errors
@@ -388,7 +409,7 @@ pub fn tokens(alloc: Global, characters: &[char]) -> Result<Vec<Token>, LexicalS
     ensures tokens { IfOk result (λ tokens. Lexes characters.now tokens.items) }
     ensures stop { IfErr result (IsLexicalStopOf characters.now) }
 {
-    let mut tokens = Vec::new(alloc);
+    let mut tokens = Vec::with_capacity(alloc, characters.len().min(ROOM))?;
     let mut column = run_length(characters, Class::Blank);
     while column < characters.len() && !is_comment_mark(characters[column]) {
         let token = token_at(alloc, &characters[column..], column)?;

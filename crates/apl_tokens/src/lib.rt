@@ -9,7 +9,8 @@ mod token;
 
 pub use fronts::{FrontStop, front};
 pub use laws::{front_is_total, front_is_unique, lexing_is_total, lexing_is_unique};
-pub use lexer::{LexicalStop, tokens};
+pub use lexer::{LexicalStop, blanks_before, tokens};
+pub use symbols::is_digit;
 pub use token::{Constant, Glyph, Lexeme, Name, Token};
 
 #[cfg(test)]

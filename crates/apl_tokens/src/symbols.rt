@@ -4,7 +4,8 @@ ghost use Rattle.apl_tokens.specs.Symbols.{is_digit, is_letter, is_name_characte
 
 use crate::token::{Glyph, Lexeme};
 
-pub(crate) fn is_digit(c: char) -> bool
+/// Whether this is `0` to `9`.
+pub fn is_digit(c: char) -> bool
     ensures { result ≡ is_digit c }
 {
     '0' <= c && c <= '9'

@@ -1,13 +1,13 @@
 //! Fronts and tokens of lines, as text: each token with its column, or the stop.
 use crate::{
-    FrontStop, Lexeme, LexicalStop, Token, front, front_is_total, front_is_unique, lexing_is_total,
-    lexing_is_unique, tokens,
+    Constant, FrontStop, Lexeme, LexicalStop, Token, blanks_before, front, front_is_total,
+    front_is_unique, is_digit, lexing_is_total, lexing_is_unique, tokens,
 };
-use apl_array::Array;
 use std::alloc::{AllocError, Global};
 use std::test::Fail;
 
-fn describe_constant(text: &mut String, value: &Array) -> Result<(), AllocError> {
+fn describe_constant(text: &mut String, constant: &Constant) -> Result<(), AllocError> {
+    let value = constant.array(*text.allocator())?;
     if let Some(numbers) = value.numbers() {
         for number in numbers {
             write!(text, " {number}")?;
@@ -25,7 +25,7 @@ fn describe_constant(text: &mut String, value: &Array) -> Result<(), AllocError>
 fn describe_token(text: &mut String, token: &Token) -> Result<(), AllocError> {
     write!(text, "{}:", token.column)?;
     match &token.lexeme {
-        Lexeme::Constant(value) => describe_constant(text, value.array())?,
+        Lexeme::Constant(value) => describe_constant(text, value)?,
         Lexeme::Name(name) => text.push_str(name.as_str())?,
         Lexeme::Function(glyph) => write!(text, "{glyph:?}")?,
         Lexeme::Dot => text.push_str("Dot")?,
@@ -194,6 +194,15 @@ fn tokens_of_one_symbol(rt: HostRuntime) -> Result<(), Fail> {
 }
 
 #[test]
+fn digits_and_blanks(rt: HostRuntime) {
+    for (c, is) in [('/', false), ('0', true), ('9', true), (':', false)] {
+        assert_eq!(rt; is_digit(c), is, "at {c}");
+    }
+    assert_eq!(rt; blanks_before(&[' ', ' ', 'A', ' ']), 2);
+    assert_eq!(rt; blanks_before(&[]), 0);
+}
+
+#[test]
 fn a_long_line(rt: HostRuntime) -> Result<(), Fail> {
     let alloc = rt.alloc();
     let mut line = String::new(alloc);
@@ -213,7 +222,7 @@ fn a_long_line(rt: HostRuntime) -> Result<(), Fail> {
         assert!(rt; false);
         return Ok(());
     };
-    let value = constant.array();
+    let value = constant.array(alloc)?;
     assert_eq!(rt; value.shape().count(), 100000);
     assert_eq!(rt;
         value.numbers().and_then(|numbers| numbers.last().copied()),

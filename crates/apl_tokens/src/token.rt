@@ -1,7 +1,8 @@
 //! Tokens and their columns.
-ghost use Rattle.std.specs.Prelude.{◌≡◌, List, ℕ, IfOk, string_bytes};
+ghost use Rattle.std.specs.Prelude.{◌≡◌, ◌∷◌, [], List, ℕ, IfOk, string_bytes};
+ghost use Rattle.apl_array.specs.Array.{number_array};
 
-use apl_array::Array;
+use apl_array::{Array, Shape};
 use std::alloc::{AllocError, Global};
 use std::marker::Model;
 use std::rc::Rc;
@@ -36,10 +37,17 @@ impl Name {
     }
 }
 
-/// The array of a constant, shared by all who hold it.
+/// A single number takes no memory. Another array is shared by all who hold it.
+#[derive(Drop)]
+enum Held {
+    Number(i64),
+    Shared(Rc<Array>),
+}
+
+/// The array of a constant.
 #[derive(Drop)]
 pub struct Constant {
-    shared: Rc<Array>,
+    held: Held,
 }
 
 impl Model for Constant {
@@ -47,7 +55,21 @@ impl Model for Constant {
 
     ghost Value = { ArrayValue };
 
-    ghost view = { λ c. c.shared.value };
+    ghost use Rattle.apl_tokens.specs.Held.{held_array};
+
+    ghost view = { λ c. held_array c.held };
+}
+
+/// The array of one number.
+fn scalar(alloc: Global, number: i64) -> Result<Array, AllocError>
+    ensures { IfOk result (λ array. array ≡ number_array [] (number ∷ [])) }
+{
+    let mut numbers = Vec::with_capacity(alloc, 1)?;
+    numbers.push(number)?;
+    let Ok(shape) = Shape::new(alloc, &[]) else {
+        unreachable!()
+    };
+    Ok(Array::ints(shape, numbers))
 }
 
 impl Constant {
@@ -55,16 +77,32 @@ impl Constant {
     pub fn new(alloc: Global, array: Array) -> Result<Constant, AllocError>
         ensures { IfOk result (λ constant. constant ≡ array) }
     {
+        let shared = Rc::new(alloc, array)?;
         Ok(Constant {
-            shared: Rc::new(alloc, array)?,
+            held: Held::Shared(shared),
         })
     }
 
-    /// The array, to be read or held on.
-    pub fn array(&self) -> &Rc<Array>
-        ensures { result.now.value ≡ self.now }
+    /// The constant of one number.
+    pub fn number(number: i64) -> Constant
+        ensures { result ≡ number_array [] (number ∷ []) }
     {
-        &self.shared
+        Constant {
+            held: Held::Number(number),
+        }
+    }
+
+    /// The array: that of a single number is made now, and another is shared.
+    pub fn array(&self, alloc: Global) -> Result<Rc<Array>, AllocError>
+        ensures { IfOk result (λ array. array.value ≡ self.now) }
+    {
+        match &self.held {
+            Held::Number(number) => {
+                let array = scalar(alloc, *number)?;
+                Ok(Rc::new(alloc, array)?)
+            }
+            Held::Shared(array) => Ok(array.clone()?),
+        }
     }
 }
 

@@ -18,32 +18,34 @@ returns-in-Name g c =
     let value = rw c.as_str.ensures at c.name_value.ensures in
     rw c.in-Name.is (c.put-in-Name.ensures (found (value_of c.in-Name.name w) c.in-Name.column w) w value)
 
-pub returns-in-Dyadic-default-None : goal.returns-in-Dyadic-default-None
-returns-in-Dyadic-default-None g c =
+pub returns-in-None : goal.returns-in-None
+returns-in-None g c =
     let w = staged_in c.args.staged.now c.args.workspace.now in
-    let form = c.in-Dyadic-default-None.form in
+    let form = c.in-Dyadic.function in
     let left = c.pop_value-left.result.value in
     let right = c.pop_value-right.result.value in
     let below = c.pop_value-right.new.self in
     let stack : c.args.stack.now ≡ Some left ∷ Some right ∷ below = c.pop_value-left.ensures ∙ ap (λ items. Some left ∷ items) c.pop_value-right.ensures in
     let wanted = dyadic_result form None left right in
-    let answers = rw (c.deref.ensures, c.deref-in-Dyadic-default-None.ensures) at c.dyadic-result.ensures in
-    let none = rw c.in-Dyadic-default-None.is at c.in-Dyadic-default-None.field-1-is in
-    rw (c.in-Dyadic-default-None.is, none, stack)
-    (c.put-in-Dyadic-default-None.ensures (judged wanted (caret_column form) w) w (c.judged.ensures wanted w answers))
+    let answers = rw (c.form-form.ensures, c.deref.ensures, c.deref-in-Dyadic.ensures) at c.dyadic-result.ensures in
+    let judges = rw c.form-form.ensures at c.judged.ensures in
+    let none : c.in-Dyadic.axis ≡ None = sym c.brackets.ensures ∙ c.in-None.is in
+    rw (c.in-Dyadic.is, none, stack)
+    (c.put-in-Dyadic.ensures (judged wanted (caret_column form) w) w (judges wanted w answers))
 
-pub returns-in-Monadic-default-None : goal.returns-in-Monadic-default-None
-returns-in-Monadic-default-None g c =
+pub returns-in-None-brackets : goal.returns-in-None-brackets
+returns-in-None-brackets g c =
     let w = staged_in c.args.staged.now c.args.workspace.now in
-    let form = c.in-Monadic-default-None.form in
-    let right = c.pop_value-right-in-Monadic-default-None.result.value in
-    let below = c.pop_value-right-in-Monadic-default-None.new.self in
-    let stack : c.args.stack.now ≡ Some right ∷ below = c.pop_value-right-in-Monadic-default-None.ensures in
+    let form = c.in-Monadic.function in
+    let right = c.pop_value-right-in-Monadic.result.value in
+    let below = c.pop_value-right-in-Monadic.new.self in
+    let stack : c.args.stack.now ≡ Some right ∷ below = c.pop_value-right-in-Monadic.ensures in
     let wanted = monadic_result form None right in
-    let answers = rw c.deref-in-Monadic-default-None.ensures at c.monadic-result.ensures in
-    let none = rw c.in-Monadic-default-None.is at c.in-Monadic-default-None.field-1-is in
-    rw (c.in-Monadic-default-None.is, none, stack)
-    (c.put-in-Monadic-default-None.ensures (judged wanted (caret_column form) w) w (c.judged-in-Monadic-default-None.ensures wanted w answers))
+    let answers = rw (c.form-form-in-Monadic.ensures, c.deref-in-Monadic.ensures) at c.monadic-result.ensures in
+    let judges = rw c.form-form-in-Monadic.ensures at c.judged-in-Monadic.ensures in
+    let none : c.in-Monadic.axis ≡ None = sym c.brackets-in-Monadic.ensures ∙ c.in-None-brackets.is in
+    rw (c.in-Monadic.is, none, stack)
+    (c.put-in-Monadic.ensures (judged wanted (caret_column form) w) w (judges wanted w answers))
 
 pub returns-in_ok-insert-in-Assign : goal.returns-in_ok-insert-in-Assign
 returns-in_ok-insert-in-Assign g c =

@@ -8,4 +8,4 @@ returns-in-Err-Syntax-clause-err c =
 
 pub returns-in-Err-Syntax-finish-clause-err : goal.returns-in-Err-Syntax-finish-clause-err
 returns-in-Err-Syntax-finish-clause-err c =
-    HasRead-early _ _ _ _ (omega (arith, c.args.tokens.ok.0)) (empty_list _ (sym c.loop-token.rest.ok.0 ∙ c.in_default.ensures.cases.0)) c.loop-token.invariant (c.finish.ensures.err (c.in-Err-Syntax-finish.is ∙ ap Err c.in-Err-Syntax-finish.field-0-is))
+    HasRead-early _ _ _ _ (omega (arith, c.args.tokens.ok.0)) (empty_list _ (sym c.loop-token.rest.ok.0 ∙ c.in_default-pop.ensures.cases.0)) c.loop-token.invariant (c.finish.ensures.err (c.in-Err-Syntax-finish.is ∙ ap Err c.in-Err-Syntax-finish.field-0-is))

@@ -10,7 +10,7 @@ loop-column-init c =
     let run = c.run_length-column in
     record {
       within = run.ensures.within;
-      before = LexesUpTo-start c.args.characters.now c.new-tokens.result.items run.result c.new-tokens.ensures.items run.ensures.within run.ensures.front run.ensures.longest;
+      before = LexesUpTo-start c.args.characters.now c.in_ok-tokens.tokens.items run.result c.in_ok-tokens.ensures.items run.ensures.within run.ensures.front run.ensures.longest;
     }
 
 pub returns-in_err-token-clause-stop : goal.returns-in_err-token-clause-stop
@@ -18,7 +18,7 @@ returns-in_err-token-clause-stop c =
     let cs = c.args.characters.now in
     let column = c.loop-column.column in
     let stop = c.in_err-token.field-0.0 in
-    err_is c.from_residual.result stop (IsLexicalStopOf cs) c.from_residual.ensures.1
+    err_is c.from_residual-in_err-token.result stop (IsLexicalStopOf cs) c.from_residual-in_err-token.ensures.1
     (stop_of cs c.loop-column.tokens.items column c.index-characters-column.result (take (length cs - column) (drop column cs)) stop (rest_of cs column) c.loop-column-test.true c.index-characters-column.is
     (sym c.is_comment_mark.ensures ∙ c.if-not-is_comment_mark.true) c.loop-column.invariant.before c.in_err-token.ensures.stop)
 

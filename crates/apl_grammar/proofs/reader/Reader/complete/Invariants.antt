@@ -4,7 +4,7 @@ use Rattle.apl_grammar.specs.Automaton.{completed}
 use Rattle.apl_grammar.proofs.reader.Reader.complete.Given as goal
 
 abbrev pub invariant-loop-waiting : goal.invariant-loop-waiting
-invariant-loop-waiting l = completed l.self.operations.items (reverse l.self.entries.items) ≡ completed l.initial.self.operations.items (reverse l.initial.self.entries.items)
+invariant-loop-waiting l = completed l.self.operations (reverse l.self.entries.items) ≡ completed l.initial.self.operations (reverse l.initial.self.entries.items)
 
 abbrev pub decreases-loop-waiting : goal.decreases-loop-waiting
 decreases-loop-waiting l = vec_len l.self.entries

@@ -1,9 +1,9 @@
 use Rattle.std.proofs.Common.{◌∷◌, [], ◌++◌, sym, ◌∙◌, ap}
 use Rattle.apl_grammar.proofs.Emitted.{emitted-some, emitted-none}
-use Rattle.apl_grammar.proofs.reader.without_empty.Goals as goal
+use Rattle.apl_grammar.proofs.places.without_empty.Goals as goal
 
-pub loop-place-preserved-in-Continue-1 : goal.loop-place-preserved-in-Continue-1
-loop-place-preserved-in-Continue-1 c =
+pub loop-place-preserved-in-Continue-branch-2 : goal.loop-place-preserved-in-Continue-branch-2
+loop-place-preserved-in-Continue-branch-2 c =
     c.in_ok-push.ensures.items ∙ ap (λ xs. xs ++ c.in-Some-place.operation ∷ []) c.loop-place.invariant
     ∙ sym (emitted-some c.loop-place.yielded c.in-Some.place c.in-Some-place.operation c.in-Some-place.is)
 
