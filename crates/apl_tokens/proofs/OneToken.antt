@@ -78,7 +78,17 @@ constant_token text len count values r ends few = record {
   });
 }
 
--- names
+several_shape : (values : List ℤ) → 1 < length values → constant_shape values ≡ length values ∷ []
+several_shape [] some = absurd (omega arith)
+several_shape (x ∷ []) some = absurd (omega arith)
+several_shape (x ∷ y ∷ zs) some = refl
+
+-- several numerals
+pub vector_token : (text : List ℕ) (len count : ℕ) (values : List ℤ) → IsRow text len count None values → EndsNumerals (drop len text) → count ≤ most_elements → 1 < count → IsTokenAt text len (Constant (number_array (length values ∷ []) values))
+vector_token text len count values r ends few some =
+    let as_many : length values ≡ count = ap length r.held.1 ∙ (length-map r.numerals (λ n. n.1) ∙ sym r.counted) in
+    subst (λ shape. IsTokenAt text len (Constant (number_array shape values))) (several_shape values (omega (arith, as_many, some))) (constant_token text len count values r ends few)
+
 -- a numeral by itself
 one_row : (text : List ℕ) (len : ℕ) (number : Option ℤ) (b : Option ℕ) (vs : List ℤ) → IsNumeralAt text len number → held_more [] None 0 number ≡ (vs, b) → IsRow text len 1 b vs
 one_row text len number b vs n e = row_init text len number b [] vs n refl e

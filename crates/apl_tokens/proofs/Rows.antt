@@ -1,11 +1,13 @@
 -- One more numeral at the end of a row.
-use Rattle.std.proofs.Common.{◌≡◌, ◌++◌, ◌∷◌, [], List, Option, Some, None, refl, sym, ◌∙◌, ap, subst, arith, length, take, drop, ◌+◌, ◌≤◌, ◌<◌, ℕ, append_assoc, length-append, length-take, length-drop}
-use Rattle.std.specs.Prelude.{ℤ, map, IfSome}
+use Rattle.std.proofs.Common.{◌≡◌, ◌++◌, ◌∷◌, [], List, Option, Some, None, refl, sym, ◌∙◌, ap, subst, arith, length, take, drop, ◌+◌, ◌-◌, ◌≤◌, ◌<◌, ℕ, append_assoc, length-append, length-take, length-drop}
+use Rattle.std.specs.Prelude.{ℤ, map, IfSome, IfNone}
 use Rattle.std.proofs.lemmas.List.{drop-drop}
 use Rattle.std.proofs.Math.Seq.{take-add}
+use Rattle.apl_tokens.specs.declared.lexer.NextNumeral.{NextNumeral}
 use Rattle.apl_tokens.specs.Symbols.{is_digit}
-use Rattle.apl_tokens.specs.Lexis.{BeginsWithNo, IsNumeral, plain, negative, AreBlanks, Numeral, AreNumerals, IsInRange, AreInRange, FirstOutOfRange, here, later}
-use Rattle.apl_tokens.specs.Scans.{IsHeld, IsHeldAs, IsRow, IsNumeralAt, held_more}
+use Rattle.apl_tokens.specs.Lexis.{BeginsWithNo, IsNumeral, plain, negative, AreBlanks, HasNoNextNumeral, Numeral, AreNumerals, IsInRange, AreInRange, FirstOutOfRange, here, later}
+use Rattle.apl_tokens.specs.Scans.{IsHeld, IsHeldAs, IsRow, IsNumeralAt, IsNextNumeralAt, GoesOn, held_more}
+use Rattle.apl_tokens.proofs.Runs.{rest_of}
 
 abbrev numbers : List Numeral → List ℤ
 numbers ns = map (λ n. n.1) ns
@@ -91,6 +93,15 @@ row_more text len count beyond b values vs gap size number r fits blank n e =
       inside = inside_step values vs beyond b (len + gap) len (len + (gap + size)) number r.inside (omega arith) (omega arith) e;
     }
 
-pub row_next : (text rest : List ℕ) (len count : ℕ) (beyond b : Option ℕ) (values vs : List ℤ) (gap size : ℕ) (number : Option ℤ) → rest ≡ drop len text → IsRow text len count beyond values → gap ≤ length rest → AreBlanks (take gap rest) → IsNumeralAt (drop gap rest) size number → held_more values beyond (len + gap) number ≡ (vs, b) → IsRow text (len + (gap + size)) (count + 1) b vs
-row_next text rest len count beyond b values vs gap size number same r fits blank n e =
-    row_more text len count beyond b values vs gap size number r (subst (λ (x : List ℕ). gap ≤ length x) same fits) (subst (λ (x : List ℕ). AreBlanks (take gap x)) same blank) (subst (λ (x : List ℕ). IsNumeralAt (drop gap x) size number) same n) e
+pub some_so_far : (count : ℕ) (rest : List ℕ) (next : Option NextNumeral) → GoesOn count rest next → 0 < count
+some_so_far count rest None more = omega (arith, more.1)
+some_so_far count rest (Some n) more = more.1
+
+pub goes_on : (text : List ℕ) (len count : ℕ) (next : Option NextNumeral) → 0 < count → IfSome next (λ n. IsNextNumeralAt (take (length text - len) (drop len text)) n.gap n.numeral.length n.numeral.number) → IfNone next (HasNoNextNumeral (take (length text - len) (drop len text))) → GoesOn (count + 1) (drop len text) next
+goes_on text len count None some found none = (subst HasNoNextNumeral (rest_of text len) none, omega arith)
+goes_on text len count (Some n) some found none = (subst (λ (rest : List ℕ). IsNextNumeralAt rest n.gap n.numeral.length n.numeral.number) (rest_of text len) found, omega arith)
+
+pub row_next : (text : List ℕ) (len count : ℕ) (beyond b : Option ℕ) (values vs : List ℤ) (next : Option NextNumeral) (n : NextNumeral) → next ≡ Some n → IsRow text len count beyond values → GoesOn count (drop len text) next → held_more values beyond (len + n.gap) n.numeral.number ≡ (vs, b) → IsRow text (len + (n.gap + n.numeral.length)) (count + 1) b vs
+row_next text len count beyond b values vs next n is r more e =
+    let there : GoesOn count (drop len text) (Some n) = subst (λ (m : Option NextNumeral). GoesOn count (drop len text) m) is more in
+    row_more text len count beyond b values vs n.gap n.numeral.length n.numeral.number r there.0.within there.0.blank there.0.numeral e

@@ -3,11 +3,12 @@ use Rattle.std.specs.Prelude.{◌≡◌, ◌⊎◌, ◌+◌, ◌<◌, ◌≤◌,
 use Rattle.apl_tokens.specs.declared.token.Lexeme.{Lexeme}
 use Rattle.apl_tokens.specs.declared.lexer.Class.{Class}
 use Rattle.apl_tokens.specs.declared.lexer.Class.TheVariants as class
+use Rattle.apl_tokens.specs.declared.lexer.NextNumeral.{NextNumeral}
 use Rattle.apl_tokens.specs.declared.lexer.LexicalStop.{LexicalStop}
 use Rattle.apl_tokens.specs.declared.lexer.LexicalStop.TheVariants as stop
 use Rattle.apl_tokens.specs.Symbols.{is_digit, is_name_character, is_blank, quote, is_quote, is_listed}
 use Rattle.apl_tokens.specs.Fronts.{AllPass}
-use Rattle.apl_tokens.specs.Lexis.{BeginsWithNo, IsNumeral, Numeral, AreNumerals, IsInRange, AreInRange, FirstOutOfRange, doubled, IsToken, BeginsWithNoToken, IsBeyondLimit}
+use Rattle.apl_tokens.specs.Lexis.{BeginsWithNo, IsNumeral, AreBlanks, HasNoNextNumeral, Numeral, AreNumerals, IsInRange, AreInRange, FirstOutOfRange, doubled, IsToken, BeginsWithNoToken, IsBeyondLimit}
 
 -- a class of characters
 abbrev pub passes : Class → ℕ → Bool
@@ -44,6 +45,12 @@ pub record IsNumeralAt (text : List ℕ) (len : ℕ) (number : Option ℤ) : Typ
   pub longest : BeginsWithNo is_digit (drop len text)
   pub held : IsHeldAs z number
 
+-- behind so many blanks stands a numeral of this length and number
+pub record IsNextNumeralAt (text : List ℕ) (gap len : ℕ) (number : Option ℤ) : Type 0 where
+  pub within : gap ≤ length text
+  pub blank : AreBlanks (take gap text)
+  pub numeral : IsNumeralAt (drop gap text) len number
+
 -- what is held of numerals: their numbers, or the place of the first one out of range
 abbrev pub IsHeld : List Numeral → Option ℕ → List ℤ → Type 0
 IsHeld numerals None values = AreInRange numerals × (values ≡ map (λ n. n.1) numerals)
@@ -59,6 +66,11 @@ pub record IsRow (text : List ℕ) (len count : ℕ) (beyond : Option ℕ) (valu
   pub few : count ≤ len
   pub held : IsHeld numerals beyond values
   pub inside : IfSome beyond (λ place. place ≤ len)
+
+-- whether one more numeral follows a row of so many; a row has several
+abbrev pub GoesOn : ℕ → List ℕ → Option NextNumeral → Type 0
+GoesOn count rest None = HasNoNextNumeral rest × (1 < count)
+GoesOn count rest (Some next) = IsNextNumeralAt rest next.gap next.numeral.length next.numeral.number × (0 < count)
 
 -- one more numeral
 abbrev pub held_more : List ℤ → Option ℕ → ℕ → Option ℤ → List ℤ × Option ℕ

@@ -5,7 +5,7 @@ ghost use Rattle.apl_tokens.specs.Fronts.{AllPass};
 ghost use Rattle.apl_array.specs.Array.{number_array, character_array};
 ghost use Rattle.apl_tokens.specs.Lexis.{BeginsWithNo, decimal, negated, HasNoNextNumeral, AreBlanks, EndsNumerals, constant_shape, Lexes};
 ghost use Rattle.apl_tokens.specs.Stops.{IsLexicalStopOf};
-ghost use Rattle.apl_tokens.specs.Scans.{passes, IsHeldAs, IsNumeralAt, HasNoNumeral, held_more, IsRow, IsSpelling, BeginsWithClosingQuote, IsQuotation, HasNoQuotation, BeginsWithQuote, IsTokenAt, IsStopAt};
+ghost use Rattle.apl_tokens.specs.Scans.{passes, IsHeldAs, IsNumeralAt, HasNoNumeral, IsNextNumeralAt, held_more, IsRow, IsSpelling, BeginsWithClosingQuote, IsQuotation, HasNoQuotation, BeginsWithQuote, IsTokenAt, IsStopAt};
 
 use crate::symbols::{
     is_blank, is_comment_mark, is_digit, is_letter, is_name_character, is_quote, symbol_lexeme,
@@ -158,9 +158,16 @@ fn numeral_at(text: &[char]) -> Option<Numeral>
     })
 }
 
-/// The numeral behind blanks at the front, and how many blanks there are.
-fn next_numeral(text: &[char]) -> Option<(usize, Numeral)>
-    ensures found { IfSome result (λ r. (r.0 ≤ length text.now) × AreBlanks (take r.0 text.now) × IsNumeralAt (drop r.0 text.now) r.1.length r.1.number) }
+/// A numeral behind so many blanks.
+#[derive(Clone, Copy, Drop)]
+struct NextNumeral {
+    gap: usize,
+    numeral: Numeral,
+}
+
+/// The numeral behind blanks at the front, if one is there.
+fn next_numeral(text: &[char]) -> Option<NextNumeral>
+    ensures found { IfSome result (λ next. IsNextNumeralAt text.now next.gap next.numeral.length next.numeral.number) }
     ensures none { IfNone result (HasNoNextNumeral text.now) }
 {
     let gap = run_length(text, Class::Blank);
@@ -168,7 +175,7 @@ fn next_numeral(text: &[char]) -> Option<(usize, Numeral)>
         return None;
     }
     match numeral_at(&text[gap..]) {
-        Some(numeral) => Some((gap, numeral)),
+        Some(numeral) => Some(NextNumeral { gap, numeral }),
         None => None,
     }
 }
@@ -203,20 +210,29 @@ fn hold(
     }
 }
 
-/// All numerals at the front, the first of which is handed in.
-fn row_at(alloc: Global, text: &[char], first: Numeral) -> Result<Row, AllocError>
-    requires { IsNumeralAt text.now first.length first.number }
+/// All numerals at the front, the first two of which are handed in.
+fn row_at(
+    alloc: Global,
+    text: &[char],
+    first: Numeral,
+    second: NextNumeral,
+) -> Result<Row, AllocError>
+    requires first { IsNumeralAt text.now first.length first.number }
+    requires second { IsNextNumeralAt (drop first.length text.now) second.gap second.numeral.length second.numeral.number }
     ensures row { IfOk result (λ r. IsRow text.now r.length r.count r.beyond r.values.items) }
     ensures ends { IfOk result (λ r. EndsNumerals (drop r.length text.now)) }
+    ensures several { IfOk result (λ r. 1 < r.count) }
 {
     let mut values = Vec::new(alloc);
     let mut length = first.length;
     let mut count = 1;
     let mut beyond = hold(&mut values, None, 0, first.number)?;
-    while let Some((gap, numeral)) = next_numeral(&text[length..]) {
+    let mut next = Some(second);
+    while let Some(NextNumeral { gap, numeral }) = next {
         beyond = hold(&mut values, beyond, length + gap, numeral.number)?;
         length += gap + numeral.length;
         count += 1;
+        next = next_numeral(&text[length..]);
     }
     Ok(Row {
         length,
@@ -233,14 +249,12 @@ struct Scanned {
     length: usize,
 }
 
-/// The scalar or vector of these numbers.
-fn number_array(alloc: Global, numbers: Vec<i64>) -> Array
+/// The vector of these numbers.
+fn number_vector(alloc: Global, numbers: Vec<i64>) -> Array
     requires few { length numbers.items ≤ MOST_ELEMENTS }
-    ensures { result ≡ number_array (constant_shape numbers.items) numbers.items }
+    ensures { result ≡ number_array (length numbers.items ∷ []) numbers.items }
 {
-    let lengths = [numbers.len()];
-    let lengths: &[usize] = if numbers.len() == 1 { &[] } else { &lengths };
-    let Ok(shape) = Shape::new(alloc, lengths) else {
+    let Ok(shape) = Shape::new(alloc, &[numbers.len()]) else {
         unreachable!()
     };
     Array::ints(shape, numbers)
@@ -258,7 +272,7 @@ fn number_constant_at(
     ensures token { IfOk result (λ t. IsTokenAt text.now t.length t.lexeme) }
     ensures stop { IfErr result (IsStopAt text.now column) }
 {
-    let Some(_) = next_numeral(&text[first.length..]) else {
+    let Some(second) = next_numeral(&text[first.length..]) else {
         return match first.number {
             Some(number) => Ok(Scanned {
                 lexeme: Lexeme::Constant(Constant::number(number)),
@@ -267,7 +281,7 @@ fn number_constant_at(
             None => Err(LexicalStop::Limit { column }),
         };
     };
-    let row = row_at(alloc, text, first)?;
+    let row = row_at(alloc, text, first, second)?;
     if row.count > MOST_ELEMENTS {
         return Err(LexicalStop::Limit { column });
     }
@@ -276,7 +290,7 @@ fn number_constant_at(
             column: column + place,
         });
     }
-    let constant = Constant::new(alloc, number_array(alloc, row.values))?;
+    let constant = Constant::new(alloc, number_vector(alloc, row.values))?;
     Ok(Scanned {
         lexeme: Lexeme::Constant(constant),
         length: row.length,

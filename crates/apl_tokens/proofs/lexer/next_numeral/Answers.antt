@@ -6,11 +6,12 @@ use Rattle.apl_tokens.proofs.lexer.next_numeral.Goals as goal
 pub returns-in-Some-clause-found : goal.returns-in-Some-clause-found
 returns-in-Some-clause-found c =
     let text : List ℕ = c.args.text.now in
-    let gap : ℕ = c.run_length-gap.result in (
-      c.run_length-gap.ensures.within,
-      blanks text gap c.run_length-gap.ensures.within c.if-gap-eq0.false c.run_length-gap.ensures.front,
-      subst (λ (rest : List ℕ). IsNumeralAt rest c.in-Some.numeral.length c.in-Some.numeral.number) (rest_of text gap) c.in-Some.ensures.found,
-    )
+    let gap : ℕ = c.run_length-gap.result in
+    record {
+      within = c.run_length-gap.ensures.within;
+      blank = blanks text gap c.run_length-gap.ensures.within c.if-gap-eq0.false c.run_length-gap.ensures.front;
+      numeral = subst (λ (rest : List ℕ). IsNumeralAt rest c.in-Some.numeral.length c.in-Some.numeral.number) (rest_of text gap) c.in-Some.ensures.found;
+    }
 
 pub returns-in-None-clause-none : goal.returns-in-None-clause-none
 returns-in-None-clause-none c =

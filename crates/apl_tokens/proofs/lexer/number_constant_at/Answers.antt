@@ -8,7 +8,7 @@ use Rattle.apl_tokens.proofs.Stopped.{err_is}
 use Rattle.apl_tokens.specs.Lexis.{HasNoNextNumeral}
 use Rattle.apl_tokens.specs.Scans.{IsNumeralAt}
 use Rattle.apl_tokens.proofs.Runs.{rest_of}
-use Rattle.apl_tokens.proofs.OneToken.{beyond_count, constant_token, one_number, one_beyond}
+use Rattle.apl_tokens.proofs.OneToken.{beyond_count, vector_token, one_number, one_beyond}
 use Rattle.apl_tokens.proofs.lexer.number_constant_at.Goals as goal
 
 pub returns-in_err-row-clause-stop : goal.returns-in_err-row-clause-stop
@@ -25,8 +25,8 @@ returns-clause-token c =
     let row = c.in_ok-row.row in
     let is = c.in_ok-row.ensures in
     let none : row.beyond ≡ None = search rules in
-    subst (λ v. IsTokenAt c.args.text.now row.length (Constant v)) (sym (c.in_ok-constant.ensures ∙ c.number_array.ensures))
-    (constant_token c.args.text.now row.length row.count row.values.items (rw none at is.row) is.ends (search rules))
+    subst (λ v. IsTokenAt c.args.text.now row.length (Constant v)) (sym (c.in_ok-constant.ensures ∙ c.number_vector.ensures))
+    (vector_token c.args.text.now row.length row.count row.values.items (rw none at is.row) is.ends (search rules) is.several)
 
 pub returns-in-Some-number-clause-token : goal.returns-in-Some-number-clause-token
 returns-in-Some-number-clause-token c =
