@@ -46,7 +46,7 @@ fn append_values<K: Kernel>(
 }
 
 /// What a worker does with its share, piece by piece. `room` is for how many values it makes room.
-pub fn compute_share<K: Kernel, C: Cut, G: Gate>(
+pub(crate) fn compute_share<K: Kernel, C: Cut, G: Gate>(
     alloc: Global,
     kernel: &K,
     cut: &C,
@@ -137,7 +137,7 @@ where
 
 /// What `tasks` workers, of whom the first has share number `first`, write into the room for their shares, each in a thread.
 #[cycle(halves)]
-pub fn write_shares<
+pub(crate) fn write_shares<
     R: Threads + Sync,
     T: Copy + Send,
     K: Kernel<Out = T> + Sync,

@@ -8,7 +8,7 @@ use super::pool::MOST_WORKERS;
 use std::alloc::{AllocError, Global};
 
 /// The place behind the piece that begins at `start`, of `count` places.
-pub fn piece_end<C: Cut>(cut: &C, start: usize, count: usize) -> usize
+pub(crate) fn piece_end<C: Cut>(cut: &C, start: usize, count: usize) -> usize
     requires { start < count }
     ensures after { start < result }
     ensures within { result ≤ count }
@@ -18,7 +18,7 @@ pub fn piece_end<C: Cut>(cut: &C, start: usize, count: usize) -> usize
 }
 
 /// Into how many pieces `count` places are cut.
-pub fn count_pieces<C: Cut>(cut: &C, count: usize) -> usize
+pub(crate) fn count_pieces<C: Cut>(cut: &C, count: usize) -> usize
     ensures some { 0 < count → 0 < result }
     ensures most { result ≤ count }
 {
@@ -49,7 +49,7 @@ fn skip_pieces<C: Cut>(cut: &C, start: usize, pieces: usize, count: usize) -> us
 
 /// The places of one worker, and the number of its first piece.
 #[derive(Clone, Copy)]
-pub struct Share {
+pub(crate) struct Share {
     pub worker: u8,
     pub piece: usize,
     pub from: usize,
@@ -60,7 +60,7 @@ pub struct Share {
 /// w × pieces / workers up to before (w + 1) × pieces / workers, rounded down. Those who have
 /// none are left out.
 #[derive(Drop)]
-pub struct Shares {
+pub(crate) struct Shares {
     workers: u8,
     pieces: usize,
     count: usize,
@@ -75,7 +75,7 @@ pub struct Shares {
 
 impl Shares {
     /// The shares of `count` places.
-    pub fn new<C: Cut>(
+    pub(crate) fn new<C: Cut>(
         alloc: Global,
         cut: &C,
         count: usize,
@@ -101,21 +101,14 @@ impl Shares {
     }
 
     /// How many workers have a share.
-    pub fn len(&self) -> usize
+    pub(crate) fn tasks(&self) -> usize
         ensures { result ≡ self.now.tasks }
     {
         self.tasks
     }
 
-    /// How many places there are.
-    pub fn count(&self) -> usize
-        ensures { result ≡ self.now.count }
-    {
-        self.count
-    }
-
     /// The share with this number.
-    pub fn share(&self, task: usize) -> Share
+    pub(crate) fn share(&self, task: usize) -> Share
         requires { task < self.now.tasks }
         ensures from { result.from ≡ slice_index self.now.bounds.items task }
         ensures to { result.to ≡ slice_index self.now.bounds.items (task + 1) }

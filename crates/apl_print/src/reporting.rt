@@ -13,11 +13,11 @@ use super::sinks::{Sink, SinkFault, put_all};
 use arrayvec::{ArrayVec, CapacityError};
 use itoa::Buffer;
 
-/// A run of blanks, of which slices are put.
-static BLANKS: [u8; 64] = [b' '; 64];
-
-/// The most bytes that a report has which is put at once.
+/// A report of so many bytes at most is put in one write.
 const AT_ONCE: usize = 256;
+
+/// A run of blanks, of which slices are put.
+static BLANKS: [u8; AT_ONCE] = [b' '; AT_ONCE];
 
 /// Puts a report: its name, the line as it came, and a caret below a column of the line, counted in characters from 0, where
 /// one is given. It takes no memory. After a fault the sink has taken a beginning of the report.

@@ -11,7 +11,7 @@ use apl_pool::Fault;
 
 /// The exact value, where 64 bits hold it.
 #[inline(always)]
-pub fn limited(exact: Option<i64>) -> Result<i64, Fault>
+pub(crate) fn limited(exact: Option<i64>) -> Result<i64, Fault>
     ensures { result ≡ limited_value exact }
 {
     match exact {
@@ -22,7 +22,7 @@ pub fn limited(exact: Option<i64>) -> Result<i64, Fault>
 
 /// 1 by `x`.
 #[inline(always)]
-pub fn reciprocal(x: i64) -> Result<i64, Fault>
+pub(crate) fn reciprocal(x: i64) -> Result<i64, Fault>
     ensures { result ≡ reciprocal x }
 {
     if x == 1 || x == -1 {
@@ -34,7 +34,7 @@ pub fn reciprocal(x: i64) -> Result<i64, Fault>
 
 /// `x` by `y`.
 #[inline(always)]
-pub fn quotient(x: i64, y: i64) -> Result<i64, Fault>
+pub(crate) fn quotient(x: i64, y: i64) -> Result<i64, Fault>
     ensures { result ≡ quotient x y }
 {
     if y == 0 {
@@ -49,7 +49,7 @@ pub fn quotient(x: i64, y: i64) -> Result<i64, Fault>
 
 /// `b` less `a` times their quotient rounded down.
 #[inline(always)]
-pub fn residue(a: i64, b: i64) -> i64
+pub(crate) fn residue(a: i64, b: i64) -> i64
     ensures { result ≡ residue a b }
 {
     if a == 0 {
@@ -60,7 +60,7 @@ pub fn residue(a: i64, b: i64) -> i64
 }
 
 /// `x` to the power `y`.
-pub fn power(x: i64, y: i64) -> Result<i64, Fault>
+pub(crate) fn power(x: i64, y: i64) -> Result<i64, Fault>
     ensures { result ≡ power x y }
 {
     let size = y.unsigned_abs();
@@ -97,7 +97,7 @@ fn large_power(x: i64, n: u64) -> Result<i64, Fault>
 }
 
 /// The factorial of `x`. That of 21 leaves the range.
-pub fn factorial(x: i64) -> Result<i64, Fault>
+pub(crate) fn factorial(x: i64) -> Result<i64, Fault>
     ensures { result ≡ factorial_of x }
 {
     if x < 0 {
@@ -125,7 +125,7 @@ fn product_up_to(n: u64) -> u64
 }
 
 /// In how many ways `x` of `y` things are chosen.
-pub fn combinations(x: i64, y: i64) -> Result<i64, Fault>
+pub(crate) fn combinations(x: i64, y: i64) -> Result<i64, Fault>
     ensures { result ≡ combinations x y }
 {
     if x < 0 || y < 0 {

@@ -6,7 +6,7 @@ use crate::function::OpFault;
 use apl_array::Shape;
 
 /// The shape of the result, or why the arguments do not agree.
-pub fn extended<'a>(left: &'a Shape, right: &'a Shape) -> Result<&'a Shape, OpFault>
+pub(crate) fn extended<'a>(left: &'a Shape, right: &'a Shape) -> Result<&'a Shape, OpFault>
     ensures { MatchResult result (λ shape. extended_shape left.now right.now ≡ Ok shape.now) (λ fault. extended_shape left.now right.now ≡ Err fault) }
 {
     if left.lengths() == right.lengths() {

@@ -1,15 +1,15 @@
 //! What a scalar function gives at each place.
 ghost use Rattle.std.specs.Prelude.{ℕ, ◌≤◌, ◌^◌, length};
 
-use crate::glyphs::Function;
+use crate::function_types::Function;
 use crate::operands::Operand;
-use crate::tables::{element2, number1};
+use crate::tables::{dyadic_elements, monadic_number};
 use apl_pool::{Fault, Kernel};
 use std::marker::PhantomData;
 
 /// A monadic function of numbers.
 #[derive(Drop)]
-pub struct NumberKernel<'a, F> {
+pub(crate) struct NumberKernel<'a, F> {
     pub numbers: &'a [i64],
     pub function: PhantomData<F>,
     ghost most: { length numbers.now ≤ 2 ^ 30 },
@@ -30,13 +30,13 @@ impl<F: Function> Kernel for NumberKernel<'_, F> {
     }
 
     fn at(&self, place: usize) -> Result<i64, Fault> {
-        number1(F::FUNCTION, self.numbers[place])
+        monadic_number(F::FUNCTION, self.numbers[place])
     }
 }
 
 /// A dyadic function of two arguments.
 #[derive(Drop)]
-pub struct PairsKernel<L: Operand, R: Operand, F> {
+pub(crate) struct PairsKernel<L: Operand, R: Operand, F> {
     pub left: L,
     pub right: R,
     pub count: usize,
@@ -60,13 +60,13 @@ impl<L: Operand, R: Operand, F: Function> Kernel for PairsKernel<L, R, F> {
     }
 
     fn at(&self, place: usize) -> Result<i64, Fault> {
-        element2(F::FUNCTION, self.left.at(place), self.right.at(place))
+        dyadic_elements(F::FUNCTION, self.left.at(place), self.right.at(place))
     }
 }
 
 /// The same number, or the same fault, at each place.
 #[derive(Drop)]
-pub struct UniformKernel {
+pub(crate) struct UniformKernel {
     pub count: usize,
     pub outcome: Result<i64, Fault>,
     ghost most: { count ≤ 2 ^ 30 },

@@ -8,7 +8,7 @@ ghost use Rattle.apl_scalar.specs.Operands.{operand_at};
 use apl_array::{Array, Elem, Shape, places_match_index_lists};
 
 /// What an array of one kind contains: a number or a character.
-pub trait Element: Copy {
+pub(crate) trait Element: Copy {
     ghost use Rattle.apl_array.specs.declared.array.Elem.{Elem};
 
     // The same as an element of any kind.
@@ -41,7 +41,7 @@ impl Element for char {
 }
 
 /// An argument at each place.
-pub trait Operand: Copy {
+pub(crate) trait Operand: Copy {
     ghost use Rattle.apl_array.specs.declared.array.Elem.{Elem};
 
     // The element at a place.
@@ -57,7 +57,7 @@ pub trait Operand: Copy {
 
 /// Each element serves at its own place.
 #[derive(Clone, Copy)]
-pub struct Whole<'a, T>(pub &'a [T]);
+pub(crate) struct Whole<'a, T>(pub &'a [T]);
 
 impl<T: Element> Operand for Whole<'_, T> {
     ghost use Rattle.std.specs.Prelude.{length, map, pos, slice_index_or};
@@ -75,7 +75,7 @@ impl<T: Element> Operand for Whole<'_, T> {
 
 /// One element serves at all places.
 #[derive(Clone, Copy)]
-pub struct Value<T>(pub T);
+pub(crate) struct Value<T>(pub T);
 
 impl<T: Element> Operand for Value<T> {
     ghost use Rattle.std.specs.Prelude.{◌^◌};
@@ -93,7 +93,7 @@ impl<T: Element> Operand for Value<T> {
 /// Two arguments of one kind in row order. One that is whole has an element for each of `count`
 /// places; the other has one element, which serves at all of them.
 #[derive(Drop)]
-pub struct Pairs<'a, T> {
+pub(crate) struct Pairs<'a, T> {
     pub left: &'a [T],
     pub right: &'a [T],
     pub left_is_whole: bool,
@@ -111,7 +111,7 @@ impl<'a, T: Element> Pairs<'a, T> {
     ghost use Rattle.apl_array.specs.Array.{element_at};
 
     /// The pairs of the elements of two arrays, which `shape` extends.
-    pub fn new(
+    pub(crate) fn new(
         left_array: &Array,
         left: &'a [T],
         right_array: &Array,

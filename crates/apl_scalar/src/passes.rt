@@ -6,7 +6,7 @@ ghost use Rattle.apl_scalar.specs.Scalar.{monadic_number, dyadic_of, has_monadic
 ghost use Rattle.apl_scalar.specs.Operands.{pair_at};
 
 use crate::function::ScalarFunction;
-use crate::glyphs::{
+use crate::function_types::{
     And, Bang, Ceiling, Divide, Equal, Floor, Function, Greater, GreaterOrEqual, Less, LessOrEqual,
     Minus, Nand, Nor, NotEqual, Or, Plus, Star, Stile, Tilde, Times,
 };
@@ -88,7 +88,7 @@ fn fill_pairs<
 }
 
 /// The same at each place.
-pub fn fill_uniform<R: Threads + Sync, C: Cut + Sync, G: Gate + Sync>(
+pub(crate) fn fill_uniform<R: Threads + Sync, C: Cut + Sync, G: Gate + Sync>(
     rt: &R,
     alloc: Global,
     pool: &Pool<C, G>,
@@ -104,7 +104,7 @@ pub fn fill_uniform<R: Threads + Sync, C: Cut + Sync, G: Gate + Sync>(
 }
 
 /// A monadic function of each number.
-pub fn fill_numbers<R: Threads + Sync, C: Cut + Sync, G: Gate + Sync>(
+pub(crate) fn fill_numbers<R: Threads + Sync, C: Cut + Sync, G: Gate + Sync>(
     rt: &R,
     alloc: Global,
     pool: &Pool<C, G>,
@@ -131,7 +131,7 @@ pub fn fill_numbers<R: Threads + Sync, C: Cut + Sync, G: Gate + Sync>(
 }
 
 /// A dyadic function of each pair of numbers.
-pub fn fill_number_pairs<R: Threads + Sync, C: Cut + Sync, G: Gate + Sync>(
+pub(crate) fn fill_number_pairs<R: Threads + Sync, C: Cut + Sync, G: Gate + Sync>(
     rt: &R,
     alloc: Global,
     pool: &Pool<C, G>,
@@ -171,7 +171,7 @@ pub fn fill_number_pairs<R: Threads + Sync, C: Cut + Sync, G: Gate + Sync>(
 }
 
 /// A dyadic function of each pair of characters.
-pub fn fill_character_pairs<R: Threads + Sync, C: Cut + Sync, G: Gate + Sync>(
+pub(crate) fn fill_character_pairs<R: Threads + Sync, C: Cut + Sync, G: Gate + Sync>(
     rt: &R,
     alloc: Global,
     pool: &Pool<C, G>,

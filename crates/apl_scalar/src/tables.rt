@@ -10,7 +10,7 @@ use apl_pool::Fault;
 
 /// A monadic function of a number.
 #[inline(always)]
-pub fn number1(f: ScalarFunction, x: i64) -> Result<i64, Fault>
+pub(crate) fn monadic_number(f: ScalarFunction, x: i64) -> Result<i64, Fault>
     ensures { result ≡ monadic_number f x }
 {
     match f {
@@ -27,7 +27,7 @@ pub fn number1(f: ScalarFunction, x: i64) -> Result<i64, Fault>
 
 /// A dyadic function of two numbers.
 #[inline(always)]
-pub fn number2(f: ScalarFunction, x: i64, y: i64) -> Result<i64, Fault>
+pub(crate) fn dyadic_numbers(f: ScalarFunction, x: i64, y: i64) -> Result<i64, Fault>
     ensures { result ≡ dyadic_numbers f x y }
 {
     match f {
@@ -56,22 +56,22 @@ pub fn number2(f: ScalarFunction, x: i64, y: i64) -> Result<i64, Fault>
 
 /// A monadic function of an element.
 #[inline(always)]
-fn element1(f: ScalarFunction, x: Elem) -> Result<i64, Fault>
+fn monadic_element(f: ScalarFunction, x: Elem) -> Result<i64, Fault>
     ensures { result ≡ monadic_of f x }
 {
     match x {
-        Elem::Int(x) => number1(f, x),
+        Elem::Int(x) => monadic_number(f, x),
         Elem::Chr(_) => Err(Fault::Domain),
     }
 }
 
 /// A dyadic function of two elements.
 #[inline(always)]
-pub fn element2(f: ScalarFunction, x: Elem, y: Elem) -> Result<i64, Fault>
+pub(crate) fn dyadic_elements(f: ScalarFunction, x: Elem, y: Elem) -> Result<i64, Fault>
     ensures { result ≡ dyadic_of f x y }
 {
     match (x, y) {
-        (Elem::Int(x), Elem::Int(y)) => number2(f, x, y),
+        (Elem::Int(x), Elem::Int(y)) => dyadic_numbers(f, x, y),
         (Elem::Chr(c), Elem::Chr(d)) => compare(f, c == d),
         _ => compare(f, false),
     }
@@ -79,7 +79,7 @@ pub fn element2(f: ScalarFunction, x: Elem, y: Elem) -> Result<i64, Fault>
 
 /// A dyadic function where a character is among the arguments.
 #[inline(always)]
-pub fn compare(f: ScalarFunction, same: bool) -> Result<i64, Fault>
+pub(crate) fn compare(f: ScalarFunction, same: bool) -> Result<i64, Fault>
     ensures { result ≡ compare_elements f same }
 {
     match f {
@@ -94,7 +94,7 @@ pub fn apply1(f: ScalarFunction, x: Elem) -> Result<Elem, Fault>
     requires { IsTrue (has_monadic f) }
     ensures { result ≡ as_element (monadic_of f x) }
 {
-    match element1(f, x) {
+    match monadic_element(f, x) {
         Ok(z) => Ok(Elem::Int(z)),
         Err(fault) => Err(fault),
     }
@@ -105,7 +105,7 @@ pub fn apply2(f: ScalarFunction, x: Elem, y: Elem) -> Result<Elem, Fault>
     requires { IsTrue (has_dyadic f) }
     ensures { result ≡ as_element (dyadic_of f x y) }
 {
-    match element2(f, x, y) {
+    match dyadic_elements(f, x, y) {
         Ok(z) => Ok(Elem::Int(z)),
         Err(fault) => Err(fault),
     }

@@ -5,7 +5,7 @@ ghost use Rattle.apl_scalar.specs.Scalar.{bit, is_bit, is_one, logical, negation
 use apl_pool::Fault;
 
 #[inline(always)]
-pub fn bit(truth: bool) -> i64
+pub(crate) fn bit(truth: bool) -> i64
     ensures { result ≡ bit truth }
 {
     if truth { 1 } else { 0 }
@@ -26,7 +26,7 @@ fn is_one(x: i64) -> bool
 }
 
 #[inline(always)]
-pub fn negation(x: i64) -> Result<i64, Fault>
+pub(crate) fn negation(x: i64) -> Result<i64, Fault>
     ensures { result ≡ negation x }
 {
     if is_bit(x) {
@@ -37,7 +37,7 @@ pub fn negation(x: i64) -> Result<i64, Fault>
 }
 
 #[inline(always)]
-pub fn and(x: i64, y: i64) -> Result<i64, Fault>
+pub(crate) fn and(x: i64, y: i64) -> Result<i64, Fault>
     ensures { result ≡ logical (λ p q. p && q) x y }
 {
     if is_bit(x) && is_bit(y) {
@@ -48,7 +48,7 @@ pub fn and(x: i64, y: i64) -> Result<i64, Fault>
 }
 
 #[inline(always)]
-pub fn or(x: i64, y: i64) -> Result<i64, Fault>
+pub(crate) fn or(x: i64, y: i64) -> Result<i64, Fault>
     ensures { result ≡ logical (λ p q. p || q) x y }
 {
     if is_bit(x) && is_bit(y) {
@@ -59,7 +59,7 @@ pub fn or(x: i64, y: i64) -> Result<i64, Fault>
 }
 
 #[inline(always)]
-pub fn nand(x: i64, y: i64) -> Result<i64, Fault>
+pub(crate) fn nand(x: i64, y: i64) -> Result<i64, Fault>
     ensures { result ≡ logical (λ p q. not (p && q)) x y }
 {
     if is_bit(x) && is_bit(y) {
@@ -70,7 +70,7 @@ pub fn nand(x: i64, y: i64) -> Result<i64, Fault>
 }
 
 #[inline(always)]
-pub fn nor(x: i64, y: i64) -> Result<i64, Fault>
+pub(crate) fn nor(x: i64, y: i64) -> Result<i64, Fault>
     ensures { result ≡ logical (λ p q. not (p || q)) x y }
 {
     if is_bit(x) && is_bit(y) {

@@ -410,7 +410,8 @@ fn token_at(alloc: Global, text: &[char], column: usize) -> Result<Scanned, Lexi
     }
 }
 
-/// Room for so many tokens at most is taken before they are counted: a block that the heap still keeps for the next line.
+/// Room for so many tokens at most is taken before they are counted, and more as they come: 30 MiB, near the largest block that
+/// the C library's heap keeps for the next line unless it is told otherwise.
 const ROOM: usize = 3 << 18;
 
 /// The tokens of a line's characters.

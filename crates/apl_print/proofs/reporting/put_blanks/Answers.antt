@@ -10,7 +10,7 @@ use Rattle.apl_print.proofs.reporting.put_blanks.Goals as goal
 pub runs-preserved : goal.runs-preserved
 runs-preserved g c =
     let before = c.runs.invariant in
-    let short : c.min-n.result ≤ 64 = omega (arith, c.min-n.ensures) in
+    let short : c.min-n.result ≤ 256 = omega (arith, c.min-n.ensures) in
     let some : c.min-n.result ≤ c.runs.rest = omega (arith, c.min-n.ensures) in record {
       within = omega arith;
       put = subst (Appends (g.S.Sink.taken c.args.sink.now) (g.S.Sink.taken c.put_all.new.sink)) (blanks_more c.args.count c.runs.rest c.min-n.result short some before.within)
@@ -21,7 +21,7 @@ runs-preserved g c =
 pub returns-in_err-put_all-clause-writes : goal.returns-in_err-put_all-clause-writes
 returns-in_err-put_all-clause-writes g c =
     let before = c.runs.invariant in
-    let short : c.min-n.result ≤ 64 = omega (arith, c.min-n.ensures) in
+    let short : c.min-n.result ≤ 256 = omega (arith, c.min-n.ensures) in
     let some : c.min-n.result ≤ c.runs.rest = omega (arith, c.min-n.ensures) in
     let exit = err_from_is_err_and c.from_residual.result c.from_residual.ensures.1 in
     rw exit.1 (subst (AppendsFront (g.S.Sink.taken c.args.sink.now) (g.S.Sink.taken c.put_all.new.sink)) (blanks_split c.args.count c.runs.rest c.min-n.result short some before.within)

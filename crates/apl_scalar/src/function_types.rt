@@ -4,7 +4,7 @@
 use crate::function::ScalarFunction;
 
 /// A type that names a scalar function.
-pub trait Function {
+pub(crate) trait Function {
     ghost use Rattle.apl_scalar.specs.declared.function.ScalarFunction.{ScalarFunction};
 
     ghost FUNCTION: { ScalarFunction };
@@ -13,7 +13,7 @@ pub trait Function {
 }
 
 #[derive(Clone, Copy)]
-pub struct Plus;
+pub(crate) struct Plus;
 
 impl Function for Plus {
     ghost use Rattle.apl_scalar.specs.declared.function.ScalarFunction.TheVariants.{Plus as Named};
@@ -24,7 +24,7 @@ impl Function for Plus {
 }
 
 #[derive(Clone, Copy)]
-pub struct Minus;
+pub(crate) struct Minus;
 
 impl Function for Minus {
     ghost use Rattle.apl_scalar.specs.declared.function.ScalarFunction.TheVariants.{Minus as Named};
@@ -35,7 +35,7 @@ impl Function for Minus {
 }
 
 #[derive(Clone, Copy)]
-pub struct Times;
+pub(crate) struct Times;
 
 impl Function for Times {
     ghost use Rattle.apl_scalar.specs.declared.function.ScalarFunction.TheVariants.{Times as Named};
@@ -46,7 +46,7 @@ impl Function for Times {
 }
 
 #[derive(Clone, Copy)]
-pub struct Divide;
+pub(crate) struct Divide;
 
 impl Function for Divide {
     ghost use Rattle.apl_scalar.specs.declared.function.ScalarFunction.TheVariants.{Divide as Named};
@@ -57,7 +57,7 @@ impl Function for Divide {
 }
 
 #[derive(Clone, Copy)]
-pub struct Stile;
+pub(crate) struct Stile;
 
 impl Function for Stile {
     ghost use Rattle.apl_scalar.specs.declared.function.ScalarFunction.TheVariants.{Stile as Named};
@@ -68,7 +68,7 @@ impl Function for Stile {
 }
 
 #[derive(Clone, Copy)]
-pub struct Star;
+pub(crate) struct Star;
 
 impl Function for Star {
     ghost use Rattle.apl_scalar.specs.declared.function.ScalarFunction.TheVariants.{Star as Named};
@@ -79,7 +79,7 @@ impl Function for Star {
 }
 
 #[derive(Clone, Copy)]
-pub struct Bang;
+pub(crate) struct Bang;
 
 impl Function for Bang {
     ghost use Rattle.apl_scalar.specs.declared.function.ScalarFunction.TheVariants.{Bang as Named};
@@ -90,7 +90,7 @@ impl Function for Bang {
 }
 
 #[derive(Clone, Copy)]
-pub struct Floor;
+pub(crate) struct Floor;
 
 impl Function for Floor {
     ghost use Rattle.apl_scalar.specs.declared.function.ScalarFunction.TheVariants.{Floor as Named};
@@ -101,7 +101,7 @@ impl Function for Floor {
 }
 
 #[derive(Clone, Copy)]
-pub struct Ceiling;
+pub(crate) struct Ceiling;
 
 impl Function for Ceiling {
     ghost use Rattle.apl_scalar.specs.declared.function.ScalarFunction.TheVariants.{Ceiling as Named};
@@ -112,7 +112,7 @@ impl Function for Ceiling {
 }
 
 #[derive(Clone, Copy)]
-pub struct And;
+pub(crate) struct And;
 
 impl Function for And {
     ghost use Rattle.apl_scalar.specs.declared.function.ScalarFunction.TheVariants.{And as Named};
@@ -123,7 +123,7 @@ impl Function for And {
 }
 
 #[derive(Clone, Copy)]
-pub struct Or;
+pub(crate) struct Or;
 
 impl Function for Or {
     ghost use Rattle.apl_scalar.specs.declared.function.ScalarFunction.TheVariants.{Or as Named};
@@ -134,7 +134,7 @@ impl Function for Or {
 }
 
 #[derive(Clone, Copy)]
-pub struct Nand;
+pub(crate) struct Nand;
 
 impl Function for Nand {
     ghost use Rattle.apl_scalar.specs.declared.function.ScalarFunction.TheVariants.{Nand as Named};
@@ -145,7 +145,7 @@ impl Function for Nand {
 }
 
 #[derive(Clone, Copy)]
-pub struct Nor;
+pub(crate) struct Nor;
 
 impl Function for Nor {
     ghost use Rattle.apl_scalar.specs.declared.function.ScalarFunction.TheVariants.{Nor as Named};
@@ -156,7 +156,7 @@ impl Function for Nor {
 }
 
 #[derive(Clone, Copy)]
-pub struct Less;
+pub(crate) struct Less;
 
 impl Function for Less {
     ghost use Rattle.apl_scalar.specs.declared.function.ScalarFunction.TheVariants.{Less as Named};
@@ -167,7 +167,7 @@ impl Function for Less {
 }
 
 #[derive(Clone, Copy)]
-pub struct LessOrEqual;
+pub(crate) struct LessOrEqual;
 
 impl Function for LessOrEqual {
     ghost use Rattle.apl_scalar.specs.declared.function.ScalarFunction.TheVariants.{LessOrEqual as Named};
@@ -178,7 +178,7 @@ impl Function for LessOrEqual {
 }
 
 #[derive(Clone, Copy)]
-pub struct Equal;
+pub(crate) struct Equal;
 
 impl Function for Equal {
     ghost use Rattle.apl_scalar.specs.declared.function.ScalarFunction.TheVariants.{Equal as Named};
@@ -189,7 +189,7 @@ impl Function for Equal {
 }
 
 #[derive(Clone, Copy)]
-pub struct GreaterOrEqual;
+pub(crate) struct GreaterOrEqual;
 
 impl Function for GreaterOrEqual {
     ghost use Rattle.apl_scalar.specs.declared.function.ScalarFunction.TheVariants.{GreaterOrEqual as Named};
@@ -200,7 +200,7 @@ impl Function for GreaterOrEqual {
 }
 
 #[derive(Clone, Copy)]
-pub struct Greater;
+pub(crate) struct Greater;
 
 impl Function for Greater {
     ghost use Rattle.apl_scalar.specs.declared.function.ScalarFunction.TheVariants.{Greater as Named};
@@ -211,7 +211,7 @@ impl Function for Greater {
 }
 
 #[derive(Clone, Copy)]
-pub struct NotEqual;
+pub(crate) struct NotEqual;
 
 impl Function for NotEqual {
     ghost use Rattle.apl_scalar.specs.declared.function.ScalarFunction.TheVariants.{NotEqual as Named};
@@ -222,7 +222,7 @@ impl Function for NotEqual {
 }
 
 #[derive(Clone, Copy)]
-pub struct Tilde;
+pub(crate) struct Tilde;
 
 impl Function for Tilde {
     ghost use Rattle.apl_scalar.specs.declared.function.ScalarFunction.TheVariants.{Tilde as Named};
