@@ -88,7 +88,7 @@ fn reports(rt: HostRuntime) -> Result<(), Fail> {
 
 #[test]
 fn report_far_along_a_line(rt: HostRuntime) -> Result<(), Fail> {
-    for column in [63, 64, 65, 128, 1000] {
+    for column in [64, 226, 227, 256, 257, 512, 1000] {
         let sink = reported(rt.alloc(), Report::Domain, "", Some(column))?;
         assert_eq!(rt;
             sink.bytes().len(),
@@ -106,7 +106,7 @@ fn report_far_along_a_line(rt: HostRuntime) -> Result<(), Fail> {
 /// A short report is put at once, and a long one in pieces.
 #[test]
 fn report_to_a_sink_that_fails(rt: HostRuntime) -> Result<(), Fail> {
-    for (column, most, calls) in [(1, 7, 5), (100, 40, 7)] {
+    for (column, most, calls) in [(1, 7, 5), (100, 40, 4), (300, 40, 13)] {
         let whole = reported(rt.alloc(), Report::Value, "B", Some(column))?;
         for fail_at in 1..calls + 2 {
             let mut sink = MemorySink::new(rt.alloc(), most, Some(fail_at));
