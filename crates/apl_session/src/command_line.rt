@@ -19,13 +19,13 @@ pub fn settings(alloc: Global, words: &[&str]) -> Result<Settings, Error>
         .long("workers")
         .value_name("N")
         .help("How many workers share the work, from 1 to 64")
-        .value_parser(value_parser!(u8).range(1..=64))
+        .value_parser(value_parser!(u8).range(1..=i64::from(MOST_WORKERS)))
         .default_value("4");
     let piece = Arg::new(alloc, "piece")
         .long("piece")
         .value_name("N")
         .help("How many elements each piece of the work has, from 1 to 1048576")
-        .value_parser(value_parser!(u32).range(1..=1_048_576))
+        .value_parser(value_parser!(u32).range(1..=i64::from(LONGEST_PIECE)))
         .default_value("4096");
     let command = Command::new(alloc, "aplcalc")
         .about(
@@ -36,13 +36,19 @@ pub fn settings(alloc: Global, words: &[&str]) -> Result<Settings, Error>
         .arg(piece)?;
     let matches = command.try_get_matches_from(words)?;
     // The ranges are checked and the defaults are filled in by now, so nothing changes below.
-    let workers = matches.get_one::<u8>("workers").unwrap_or(4);
-    let piece = matches.get_one::<u32>("piece").unwrap_or(4096);
+    let workers = matches.get_one::<u8>("workers").unwrap_or(WORKERS);
+    let piece = matches.get_one::<u32>("piece").unwrap_or(PIECE);
     Ok(Settings {
         workers: workers.clamp(1, MOST_WORKERS),
         piece: piece.clamp(1, LONGEST_PIECE),
     })
 }
+
+/// How many workers there are where no option says so.
+const WORKERS: u8 = 4;
+
+/// How many elements a piece has where no option says so.
+const PIECE: u32 = 4096;
 
 /// The end of the help.
 const STATUSES: &str = "Exit status:
