@@ -93,6 +93,11 @@ with_function os (entry.Waiting (op.Dyadic (Plain s h) a) ∷ es) state.Wanted c
     if is_scalar (class_of g) && reduces (class_of h) then Some (machine os es (state.Monadic (Reduce c g s h) a)) else None
 with_function os es s c g = option_map (λ os. applied (Plain c g) None os es) (settled os s)
 
+-- a dot before a function
+abbrev pub dotted : ℕ → Form → Option Brackets → Option State
+dotted d (Plain c g) None = if is_scalar (class_of g) then Some (state.Dotted d c g) else None
+dotted d f a = None
+
 abbrev pub with_dot : List (Option Operation) → List Entry → State → ℕ → Option Machine
 with_dot os es (state.Monadic (Plain c g) None) d =
     if is_scalar (class_of g) then Some (machine os es (state.Dotted d c g)) else None

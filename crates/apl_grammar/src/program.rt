@@ -1,6 +1,5 @@
 //! Operations in the order of evaluation.
 ghost use Rattle.std.specs.Prelude.{◌≡◌, IfOk};
-ghost use Rattle.apl_grammar.specs.declared.program.Operation.TheVariants.{Monadic, Dyadic};
 
 use apl_tokens::{Constant, Glyph, Name};
 use std::alloc::{AllocError, AllocFailed, Global};
@@ -83,6 +82,17 @@ impl Model for Function {
 }
 
 impl Function {
+    ghost use Rattle.apl_grammar.specs.declared.program.Form.TheVariants.{Plain};
+
+    /// The function of one symbol.
+    pub(crate) fn plain(column: usize, glyph: Glyph) -> Function
+        ensures { result ≡ Plain column glyph }
+    {
+        Function {
+            held: HeldForm::Plain(glyph, column),
+        }
+    }
+
     /// The function of this form.
     pub(crate) fn new(alloc: Global, form: Form) -> Result<Function, AllocError>
         ensures { IfOk result (λ function. function ≡ form) }
@@ -124,15 +134,28 @@ impl Model for Axis {
 }
 
 impl Axis {
-    /// The axis of these brackets.
-    pub(crate) fn new(alloc: Global, brackets: Option<Brackets>) -> Result<Axis, AllocError>
-        ensures { IfOk result (λ axis. axis ≡ brackets) }
+    ghost use Rattle.std.specs.Prelude.{Some, None, is_some};
+
+    /// No axis.
+    pub(crate) fn none() -> Axis
+        ensures { result ≡ None }
     {
-        let held = match brackets {
-            Some(brackets) => Some(Box::new(alloc, brackets)?),
-            None => None,
-        };
-        Ok(Axis { held })
+        Axis { held: None }
+    }
+
+    /// The axis of these brackets.
+    pub(crate) fn new(alloc: Global, brackets: Brackets) -> Result<Axis, AllocError>
+        ensures { IfOk result (λ axis. axis ≡ Some brackets) }
+    {
+        let held = Box::new(alloc, brackets)?;
+        Ok(Axis { held: Some(held) })
+    }
+
+    /// Whether there is one.
+    pub(crate) fn is_some(&self) -> bool
+        ensures { result ≡ is_some self.now }
+    {
+        self.held.is_some()
     }
 
     /// Its brackets.
@@ -207,32 +230,6 @@ pub enum Operation {
     Monadic(Function, Axis),
     /// The function of two arguments, perhaps along an axis.
     Dyadic(Function, Axis),
-}
-
-impl Operation {
-    pub(crate) fn monadic(
-        alloc: Global,
-        form: Form,
-        axis: Option<Brackets>,
-    ) -> Result<Operation, AllocError>
-        ensures { IfOk result (λ operation. operation ≡ Monadic form axis) }
-    {
-        let function = Function::new(alloc, form)?;
-        let axis = Axis::new(alloc, axis)?;
-        Ok(Operation::Monadic(function, axis))
-    }
-
-    pub(crate) fn dyadic(
-        alloc: Global,
-        form: Form,
-        axis: Option<Brackets>,
-    ) -> Result<Operation, AllocError>
-        ensures { IfOk result (λ operation. operation ≡ Dyadic form axis) }
-    {
-        let function = Function::new(alloc, form)?;
-        let axis = Axis::new(alloc, axis)?;
-        Ok(Operation::Dyadic(function, axis))
-    }
 }
 
 impl Columns {

@@ -1,6 +1,7 @@
 //! From tokens to operations, in one pass from the right.
 ghost use Rattle.std.specs.Prelude.{◌≡◌, ◌<◌, ◌++◌, ◌∷◌, [], List, Option, Some, None, reverse, IfOk, IfErr, IfSome, OnOk, option_and_then, vec_len};
-ghost use Rattle.apl_grammar.specs.Automaton.{Machine, machine, completed, with_dyadic, with_index, waiting, with_operand, with_name, settled, applied, filled, with_function, with_dot, with_jot, with_arrow, closed_group, with_open_paren, with_close_paren, with_close_bracket, with_slot, parted, with_semicolon, closed_list, with_open_bracket, step, emitted, finished, run, IsRefusedBy, stack_of, held};
+ghost use Rattle.apl_grammar.specs.Automaton.{Machine, machine, completed, with_dyadic, with_index, waiting, with_operand, with_name, settled, applied, filled, with_function, dotted, with_dot, with_jot, with_arrow, closed_group, with_open_paren, with_close_paren, with_close_bracket, with_slot, parted, with_semicolon, closed_list, with_open_bracket, step, emitted, finished, run, IsRefusedBy, stack_of, held};
+ghost use Rattle.apl_grammar.specs.declared.program.Form.TheVariants.{Plain};
 ghost use Rattle.apl_grammar.specs.declared.program.Operation.{Operation};
 ghost use Rattle.apl_grammar.specs.declared.reader.State.TheVariants.{Whole, Wanted};
 
@@ -10,6 +11,7 @@ use super::program::{Axis, Brackets, Columns, Form, Function, IndexedName, Opera
 use super::statement::GrammarStop;
 use apl_tokens::{Glyph, Lexeme, Name, Token};
 use std::alloc::{AllocError, AllocFailed, Global};
+use std::marker::Model;
 
 /// A monadic function before a bracket: its operation has a place if the bracket holds an axis, and if it holds an index
 /// the function is dyadic.
@@ -20,6 +22,48 @@ pub(crate) struct Pending {
     place: usize,
 }
 
+/// A function that is pending, if there is one, held in little room.
+#[derive(Drop)]
+pub(crate) struct Doubt {
+    held: Option<Box<Pending>>,
+}
+
+impl Model for Doubt {
+    ghost use Rattle.std.specs.Prelude.{Option, option_map};
+    ghost use Rattle.apl_grammar.specs.declared.reader.Pending.{Pending};
+
+    ghost Value = { Option Pending };
+
+    ghost view = { λ d. option_map (λ b. b.value) d.held };
+}
+
+impl Doubt {
+    /// No function is pending.
+    fn none() -> Doubt
+        ensures { result ≡ None }
+    {
+        Doubt { held: None }
+    }
+
+    /// This function is pending.
+    fn new(alloc: Global, pending: Pending) -> Result<Doubt, AllocError>
+        ensures { IfOk result (λ doubt. doubt ≡ Some pending) }
+    {
+        let held = Box::new(alloc, pending)?;
+        Ok(Doubt { held: Some(held) })
+    }
+
+    /// The function that is pending.
+    fn pending(self) -> Option<Pending>
+        ensures { result ≡ self }
+    {
+        match self.held {
+            Some(pending) => Some(Box::into_inner(pending)),
+            None => None,
+        }
+    }
+}
+
 /// What was read inside the innermost open bracket, seen from its left end.
 #[derive(Drop)]
 pub(crate) enum State {
@@ -28,13 +72,13 @@ pub(crate) enum State {
     /// An expression.
     Whole,
     /// An expression that begins with a function. Its operation is not emitted yet: it may still be dyadic.
-    Monadic(Form, Option<Brackets>),
+    Monadic(Function, Axis),
     /// A dot and a function, with their columns, before an expression.
     Dotted(usize, usize, Glyph),
     /// An arrow before an expression.
     Arrowed(usize),
     /// An axis or an index before an expression.
-    Beside(Brackets, Option<Pending>),
+    Beside(Brackets, Doubt),
     /// The slots of an indexed assignment and its arrow before an expression.
     Named(Columns, Brackets, usize),
 }
@@ -49,7 +93,7 @@ pub(crate) enum Entry {
     /// The bracket on the right of an index, and the semicolons so far.
     Slice(usize, Columns),
     /// The bracket on the right of an axis or an index.
-    Either(usize, Option<Pending>),
+    Either(usize, Doubt),
     /// The bracket on the right of an indexed assignment's slots, the semicolons so far, and the arrow.
     Store(usize, Columns, usize),
 }
@@ -92,6 +136,19 @@ pub(crate) struct Reader {
     alloc: Global,
     operations: Places,
     entries: Vec<Entry>,
+}
+
+/// A dot on the left of the function.
+fn with_dot(dot: usize, function: Function, axis: Axis) -> Result<State, Refusal>
+    ensures ok { IfOk result (λ s. dotted dot function axis ≡ Some s) }
+    ensures err { result ≡ Err Refusal.Syntax → dotted dot function axis ≡ None }
+{
+    match function.form() {
+        Form::Plain { column, glyph } if is_scalar(glyph) && !axis.is_some() => {
+            Ok(State::Dotted(dot, column, glyph))
+        }
+        _ => Err(Refusal::Syntax),
+    }
 }
 
 impl Reader {
@@ -146,17 +203,29 @@ impl Reader {
     }
 
     /// Makes the function wait for its left argument.
-    fn push_dyadic(&mut self, form: Form, axis: Option<Brackets>) -> Result<(), Refusal>
-        ensures ok { OnOk result (with_dyadic form axis (stack_of self.old) ≡ Some (stack_of self.new)) }
-        ensures err { result ≡ Err Refusal.Syntax → with_dyadic form axis (stack_of self.old) ≡ None }
+    fn push_dyadic(&mut self, function: Function, axis: Axis) -> Result<(), Refusal>
+        ensures ok { OnOk result (with_dyadic function axis (stack_of self.old) ≡ Some (stack_of self.new)) }
+        ensures err { result ≡ Err Refusal.Syntax → with_dyadic function axis (stack_of self.old) ≡ None }
         ensures operations { self.new.operations ≡ self.old.operations }
     {
-        if !may_be_dyadic(form, axis.is_some()) {
+        if !may_be_dyadic(function.form(), axis.is_some()) {
             return Err(Refusal::Syntax);
         }
-        let operation = Operation::dyadic(self.alloc, form, axis)?;
-        self.entries.push(Entry::Waiting(operation))?;
+        self.entries
+            .push(Entry::Waiting(Operation::Dyadic(function, axis)))?;
         Ok(())
+    }
+
+    /// The function before the index is dyadic: it waits for its left argument.
+    fn push_pending(&mut self, doubt: Doubt) -> Result<(), Refusal>
+        ensures ok { OnOk result (option_and_then (λ p. with_dyadic p.form p.axis (stack_of self.old)) doubt ≡ Some (stack_of self.new)) }
+        ensures err { result ≡ Err Refusal.Syntax → option_and_then (λ p. with_dyadic p.form p.axis (stack_of self.old)) doubt ≡ None }
+        ensures operations { self.new.operations ≡ self.old.operations }
+    {
+        match doubt.pending() {
+            Some(pending) => self.push_dyadic(pending.form, pending.axis),
+            None => Err(Refusal::Syntax),
+        }
     }
 
     /// Makes an index of one slot wait for its array.
@@ -179,9 +248,9 @@ impl Reader {
     {
         match state {
             State::Wanted => Ok(()),
-            State::Monadic(form, axis) => self.push_dyadic(form, axis),
-            State::Beside(brackets, Some(pending)) => {
-                self.push_dyadic(pending.form.form(), pending.axis.brackets())?;
+            State::Monadic(function, axis) => self.push_dyadic(function, axis),
+            State::Beside(brackets, doubt) => {
+                self.push_pending(doubt)?;
                 self.push_index(brackets)
             }
             _ => Err(Refusal::Syntax),
@@ -225,32 +294,29 @@ impl Reader {
     {
         match state {
             State::Whole => Ok(()),
-            State::Monadic(form, axis) => {
-                let operation = Operation::monadic(self.alloc, form, axis)?;
-                self.emit(operation)
-            }
+            State::Monadic(function, axis) => self.emit(Operation::Monadic(function, axis)),
             _ => Err(Refusal::Syntax),
         }
     }
 
     /// A function before an expression.
-    fn apply(&mut self, form: Form, axis: Option<Brackets>) -> Result<State, Refusal>
-        ensures ok { IfOk result (λ s. applied form axis self.old.operations (stack_of self.old) ≡ held self.new s) }
+    fn apply(&mut self, column: usize, glyph: Glyph, axis: Axis) -> Result<State, Refusal>
+        ensures ok { IfOk result (λ s. applied (Plain column glyph) axis self.old.operations (stack_of self.old) ≡ held self.new s) }
         ensures err { result ≡ Err Refusal.Syntax → ⊥ }
     {
-        if may_be_monadic(form, axis.is_some()) {
-            return Ok(State::Monadic(form, axis));
+        let function = Function::plain(column, glyph);
+        if may_be_monadic(Form::Plain { column, glyph }, axis.is_some()) {
+            return Ok(State::Monadic(function, axis));
         }
-        let operation = Operation::dyadic(self.alloc, form, axis)?;
-        self.push_entry(Entry::Waiting(operation))
+        self.push_entry(Entry::Waiting(Operation::Dyadic(function, axis)))
     }
 
     /// The function before the axis is monadic.
-    fn fill(&mut self, pending: Option<Pending>)
-        ensures operations { self.new.operations ≡ filled self.old.operations pending }
+    fn fill(&mut self, doubt: Doubt)
+        ensures operations { self.new.operations ≡ filled self.old.operations doubt }
         ensures entries { self.new.entries ≡ self.old.entries }
     {
-        if let Some(pending) = pending {
+        if let Some(pending) = doubt.pending() {
             let operation = Operation::Monadic(pending.form, pending.axis);
             self.operations.fill(pending.place, operation);
         }
@@ -272,8 +338,8 @@ impl Reader {
         ensures err { result ≡ Err Refusal.Syntax → ⊥ }
         ensures operations { self.new.operations ≡ self.old.operations }
     {
-        let operation = Operation::dyadic(self.alloc, form, None)?;
-        self.push_entry(Entry::Waiting(operation))
+        let function = Function::new(self.alloc, form)?;
+        self.push_entry(Entry::Waiting(Operation::Dyadic(function, Axis::none())))
     }
 
     /// A function on the left of a slash that waits for its operand.
@@ -295,7 +361,7 @@ impl Reader {
                     slash_column,
                     slash,
                 };
-                Ok(State::Monadic(form, axis.brackets()))
+                Ok(State::Monadic(Function::new(self.alloc, form)?, axis))
             }
             _ => Err(Refusal::Syntax),
         }
@@ -306,12 +372,13 @@ impl Reader {
         ensures err { result ≡ Err Refusal.Syntax → with_function self.old.operations (stack_of self.old) state column glyph ≡ None }
     {
         match state {
-            State::Beside(brackets, pending) => {
+            State::Beside(brackets, doubt) => {
                 if !takes_axis(glyph) {
                     return Err(Refusal::Syntax);
                 }
-                self.fill(pending);
-                self.apply(Form::Plain { column, glyph }, Some(brackets))
+                self.fill(doubt);
+                let axis = Axis::new(self.alloc, brackets)?;
+                self.apply(column, glyph, axis)
             }
             State::Dotted(dot, right_column, right) => {
                 if !is_scalar(glyph) {
@@ -329,7 +396,7 @@ impl Reader {
             State::Wanted => self.take_reduced(column, glyph),
             _ => {
                 self.settle(state)?;
-                self.apply(Form::Plain { column, glyph }, None)
+                self.apply(column, glyph, Axis::none())
             }
         }
     }
@@ -339,17 +406,10 @@ impl Reader {
         ensures err { result ≡ Err Refusal.Syntax → with_dot self.old.operations (stack_of self.old) state dot ≡ None }
     {
         match state {
-            State::Monadic(Form::Plain { column, glyph }, None) if is_scalar(glyph) => {
-                Ok(State::Dotted(dot, column, glyph))
-            }
+            State::Monadic(function, axis) => with_dot(dot, function, axis),
             State::Wanted => match self.entries.pop() {
                 Some(Entry::Waiting(Operation::Dyadic(function, axis))) => {
-                    match (function.form(), axis.brackets()) {
-                        (Form::Plain { column, glyph }, None) if is_scalar(glyph) => {
-                            Ok(State::Dotted(dot, column, glyph))
-                        }
-                        _ => Err(Refusal::Syntax),
-                    }
+                    with_dot(dot, function, axis)
                 }
                 _ => Err(Refusal::Syntax),
             },
@@ -407,12 +467,11 @@ impl Reader {
         ensures err { result ≡ Err Refusal.Syntax → with_close_bracket self.old.operations (stack_of self.old) state right ≡ None }
     {
         match state {
-            State::Whole => self.push_entry(Entry::Either(right, None)),
+            State::Whole => self.push_entry(Entry::Either(right, Doubt::none())),
             State::Monadic(form, axis) => {
-                let form = Function::new(self.alloc, form)?;
-                let axis = Axis::new(self.alloc, axis)?;
                 let place = self.operations.keep_place(self.alloc)?;
-                self.push_entry(Entry::Either(right, Some(Pending { form, axis, place })))
+                let doubt = Doubt::new(self.alloc, Pending { form, axis, place })?;
+                self.push_entry(Entry::Either(right, doubt))
             }
             State::Arrowed(arrow) => {
                 let semicolons = Columns::new(self.alloc);
@@ -452,8 +511,8 @@ impl Reader {
                 semicolons.push(column)?;
                 self.push_entry(Entry::Store(right, semicolons, arrow))
             }
-            Some(Entry::Either(right, Some(pending))) => {
-                self.push_dyadic(pending.form.form(), pending.axis.brackets())?;
+            Some(Entry::Either(right, doubt)) => {
+                self.push_pending(doubt)?;
                 let mut semicolons = Columns::new(self.alloc);
                 semicolons.push(column)?;
                 self.push_entry(Entry::Slice(right, semicolons))
@@ -483,11 +542,11 @@ impl Reader {
             Some(Entry::Store(right, semicolons, arrow)) => {
                 Ok(State::Named(semicolons, Brackets { left, right }, arrow))
             }
-            Some(Entry::Either(right, pending)) if !is_empty => {
-                Ok(State::Beside(Brackets { left, right }, pending))
+            Some(Entry::Either(right, doubt)) if !is_empty => {
+                Ok(State::Beside(Brackets { left, right }, doubt))
             }
-            Some(Entry::Either(right, Some(pending))) => {
-                self.push_dyadic(pending.form.form(), pending.axis.brackets())?;
+            Some(Entry::Either(right, doubt)) => {
+                self.push_pending(doubt)?;
                 self.push_index(Brackets { left, right })?;
                 Ok(State::Wanted)
             }
