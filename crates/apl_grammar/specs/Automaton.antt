@@ -33,8 +33,8 @@ machine os es s = record { operations = os; entries = es; state = s }
 abbrev pub stack_of : Reader → List Entry
 stack_of r = reverse r.entries.items
 
-abbrev pub held : Reader → State → Machine
-held r s = machine r.operations (stack_of r) s
+abbrev pub held : Reader → Machine
+held r = machine r.operations (stack_of r) r.state
 
 -- the operations without the empty places
 abbrev pub emitted : List (Option Operation) → List Operation

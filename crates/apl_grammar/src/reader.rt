@@ -12,6 +12,7 @@ use super::statement::GrammarStop;
 use apl_tokens::{Glyph, Lexeme, Name, Token};
 use std::alloc::{AllocError, AllocFailed, Global};
 use std::marker::Model;
+use std::mem;
 
 /// A monadic function before a bracket: its operation has a place if the bracket holds an axis, and if it holds an index
 /// the function is dyadic.
@@ -130,25 +131,13 @@ impl<T: Drop> From<AllocFailed<T>> for Refusal {
 /// Room for so many entries is taken at once where there are as many tokens.
 const SHORT: usize = 12;
 
-/// The operations emitted so far, with places kept among them, and what waits to the left of what was read.
+/// The operations emitted so far, with places kept among them, what waits to the left of what was read, and what was read.
 #[derive(Drop)]
 pub(crate) struct Reader {
     alloc: Global,
     operations: Places,
     entries: Vec<Entry>,
-}
-
-/// A dot on the left of the function.
-fn with_dot(dot: usize, function: Function, axis: Axis) -> Result<State, Refusal>
-    ensures ok { IfOk result (λ s. dotted dot function axis ≡ Some s) }
-    ensures err { result ≡ Err Refusal.Syntax → dotted dot function axis ≡ None }
-{
-    match function.form() {
-        Form::Plain { column, glyph } if is_scalar(glyph) && !axis.is_some() => {
-            Ok(State::Dotted(dot, column, glyph))
-        }
-        _ => Err(Refusal::Syntax),
-    }
+    state: State,
 }
 
 impl Reader {
@@ -156,6 +145,7 @@ impl Reader {
     fn new(alloc: Global, count: usize) -> Result<Reader, AllocError>
         ensures operations { IfOk result (λ r. r.operations ≡ []) }
         ensures entries { IfOk result (λ r. stack_of r ≡ []) }
+        ensures state { IfOk result (λ r. r.state ≡ Wanted) }
     {
         let operations = Places::with_capacity(alloc, count)?;
         let entries = Vec::with_capacity(alloc, count.min(SHORT))?;
@@ -163,6 +153,7 @@ impl Reader {
             alloc,
             operations,
             entries,
+            state: State::Wanted,
         })
     }
 
@@ -191,15 +182,16 @@ impl Reader {
     }
 
     /// The operand's last operation, and those that waited for it.
-    fn complete(&mut self, operand: Operation) -> Result<State, Refusal>
-        ensures ok { IfOk result (λ s. completed (self.old.operations ++ Some operand ∷ []) (stack_of self.old) ≡ held self.new s) }
+    fn complete(&mut self, operand: Operation) -> Result<(), Refusal>
+        ensures ok { OnOk result (completed (self.old.operations ++ Some operand ∷ []) (stack_of self.old) ≡ held self.new) }
         ensures err { result ≡ Err Refusal.Syntax → ⊥ }
     {
         self.emit(operand)?;
         while let Some(waiting) = self.pop_waiting() {
             self.emit(waiting)?;
         }
-        Ok(State::Whole)
+        self.state = State::Whole;
+        Ok(())
     }
 
     /// Makes the function wait for its left argument.
@@ -257,16 +249,16 @@ impl Reader {
         }
     }
 
-    fn take_operand(&mut self, state: State, operand: Operation) -> Result<State, Refusal>
-        ensures ok { IfOk result (λ s. with_operand self.old.operations (stack_of self.old) state operand ≡ Some (held self.new s)) }
+    fn take_operand(&mut self, state: State, operand: Operation) -> Result<(), Refusal>
+        ensures ok { OnOk result (with_operand self.old.operations (stack_of self.old) state operand ≡ Some (held self.new)) }
         ensures err { result ≡ Err Refusal.Syntax → with_operand self.old.operations (stack_of self.old) state operand ≡ None }
     {
         self.want_operand(state)?;
         self.complete(operand)
     }
 
-    fn take_name(&mut self, state: State, column: usize, name: Name) -> Result<State, Refusal>
-        ensures ok { IfOk result (λ s. with_name self.old.operations (stack_of self.old) state column name ≡ Some (held self.new s)) }
+    fn take_name(&mut self, state: State, column: usize, name: Name) -> Result<(), Refusal>
+        ensures ok { OnOk result (with_name self.old.operations (stack_of self.old) state column name ≡ Some (held self.new)) }
         ensures err { result ≡ Err Refusal.Syntax → with_name self.old.operations (stack_of self.old) state column name ≡ None }
     {
         match state {
@@ -283,7 +275,8 @@ impl Reader {
             }
             _ => return self.take_operand(state, Operation::Name(column, name)),
         }
-        Ok(State::Whole)
+        self.state = State::Whole;
+        Ok(())
     }
 
     /// An expression ends here: a function that begins it is monadic.
@@ -300,13 +293,14 @@ impl Reader {
     }
 
     /// A function before an expression.
-    fn apply(&mut self, column: usize, glyph: Glyph, axis: Axis) -> Result<State, Refusal>
-        ensures ok { IfOk result (λ s. applied (Plain column glyph) axis self.old.operations (stack_of self.old) ≡ held self.new s) }
+    fn apply(&mut self, column: usize, glyph: Glyph, axis: Axis) -> Result<(), Refusal>
+        ensures ok { OnOk result (applied (Plain column glyph) axis self.old.operations (stack_of self.old) ≡ held self.new) }
         ensures err { result ≡ Err Refusal.Syntax → ⊥ }
     {
         let function = Function::plain(column, glyph);
         if may_be_monadic(Form::Plain { column, glyph }, axis.is_some()) {
-            return Ok(State::Monadic(function, axis));
+            self.state = State::Monadic(function, axis);
+            return Ok(());
         }
         self.push_entry(Entry::Waiting(Operation::Dyadic(function, axis)))
     }
@@ -323,18 +317,19 @@ impl Reader {
     }
 
     /// Pushes an entry to whose left an operand is wanted.
-    fn push_entry(&mut self, entry: Entry) -> Result<State, Refusal>
-        ensures ok { IfOk result (λ s. (s ≡ Wanted) × (stack_of self.new ≡ entry ∷ stack_of self.old)) }
+    fn push_entry(&mut self, entry: Entry) -> Result<(), Refusal>
+        ensures ok { OnOk result ((self.new.state ≡ Wanted) × (stack_of self.new ≡ entry ∷ stack_of self.old)) }
         ensures err { result ≡ Err Refusal.Syntax → ⊥ }
         ensures operations { self.new.operations ≡ self.old.operations }
     {
         self.entries.push(entry)?;
-        Ok(State::Wanted)
+        self.state = State::Wanted;
+        Ok(())
     }
 
     /// Makes a product wait for its left argument.
-    fn push_product(&mut self, form: Form) -> Result<State, Refusal>
-        ensures ok { IfOk result (λ s. (s ≡ Wanted) × (stack_of self.new ≡ Entry.Waiting (Operation.Dyadic form None) ∷ stack_of self.old)) }
+    fn push_product(&mut self, form: Form) -> Result<(), Refusal>
+        ensures ok { OnOk result ((self.new.state ≡ Wanted) × (stack_of self.new ≡ Entry.Waiting (Operation.Dyadic form None) ∷ stack_of self.old)) }
         ensures err { result ≡ Err Refusal.Syntax → ⊥ }
         ensures operations { self.new.operations ≡ self.old.operations }
     {
@@ -343,8 +338,8 @@ impl Reader {
     }
 
     /// A function on the left of a slash that waits for its operand.
-    fn take_reduced(&mut self, column: usize, glyph: Glyph) -> Result<State, Refusal>
-        ensures ok { IfOk result (λ s. with_function self.old.operations (stack_of self.old) Wanted column glyph ≡ Some (held self.new s)) }
+    fn take_reduced(&mut self, column: usize, glyph: Glyph) -> Result<(), Refusal>
+        ensures ok { OnOk result (with_function self.old.operations (stack_of self.old) Wanted column glyph ≡ Some (held self.new)) }
         ensures err { result ≡ Err Refusal.Syntax → with_function self.old.operations (stack_of self.old) Wanted column glyph ≡ None }
     {
         let Some(Entry::Waiting(Operation::Dyadic(function, axis))) = self.entries.pop() else {
@@ -361,14 +356,15 @@ impl Reader {
                     slash_column,
                     slash,
                 };
-                Ok(State::Monadic(Function::new(self.alloc, form)?, axis))
+                self.state = State::Monadic(Function::new(self.alloc, form)?, axis);
+                Ok(())
             }
             _ => Err(Refusal::Syntax),
         }
     }
 
-    fn take_function(&mut self, state: State, column: usize, glyph: Glyph) -> Result<State, Refusal>
-        ensures ok { IfOk result (λ s. with_function self.old.operations (stack_of self.old) state column glyph ≡ Some (held self.new s)) }
+    fn take_function(&mut self, state: State, column: usize, glyph: Glyph) -> Result<(), Refusal>
+        ensures ok { OnOk result (with_function self.old.operations (stack_of self.old) state column glyph ≡ Some (held self.new)) }
         ensures err { result ≡ Err Refusal.Syntax → with_function self.old.operations (stack_of self.old) state column glyph ≡ None }
     {
         match state {
@@ -401,15 +397,31 @@ impl Reader {
         }
     }
 
-    fn take_dot(&mut self, state: State, dot: usize) -> Result<State, Refusal>
-        ensures ok { IfOk result (λ s. with_dot self.old.operations (stack_of self.old) state dot ≡ Some (held self.new s)) }
+    /// A dot on the left of the function.
+    fn set_dotted(&mut self, dot: usize, function: Function, axis: Axis) -> Result<(), Refusal>
+        ensures ok { OnOk result (dotted dot function axis ≡ Some self.new.state) }
+        ensures err { result ≡ Err Refusal.Syntax → dotted dot function axis ≡ None }
+        ensures operations { self.new.operations ≡ self.old.operations }
+        ensures entries { self.new.entries ≡ self.old.entries }
+    {
+        match function.form() {
+            Form::Plain { column, glyph } if is_scalar(glyph) && !axis.is_some() => {
+                self.state = State::Dotted(dot, column, glyph);
+                Ok(())
+            }
+            _ => Err(Refusal::Syntax),
+        }
+    }
+
+    fn take_dot(&mut self, state: State, dot: usize) -> Result<(), Refusal>
+        ensures ok { OnOk result (with_dot self.old.operations (stack_of self.old) state dot ≡ Some (held self.new)) }
         ensures err { result ≡ Err Refusal.Syntax → with_dot self.old.operations (stack_of self.old) state dot ≡ None }
     {
         match state {
-            State::Monadic(function, axis) => with_dot(dot, function, axis),
+            State::Monadic(function, axis) => self.set_dotted(dot, function, axis),
             State::Wanted => match self.entries.pop() {
                 Some(Entry::Waiting(Operation::Dyadic(function, axis))) => {
-                    with_dot(dot, function, axis)
+                    self.set_dotted(dot, function, axis)
                 }
                 _ => Err(Refusal::Syntax),
             },
@@ -417,8 +429,8 @@ impl Reader {
         }
     }
 
-    fn take_jot(&mut self, state: State, jot: usize) -> Result<State, Refusal>
-        ensures ok { IfOk result (λ s. with_jot self.old.operations (stack_of self.old) state jot ≡ Some (held self.new s)) }
+    fn take_jot(&mut self, state: State, jot: usize) -> Result<(), Refusal>
+        ensures ok { OnOk result (with_jot self.old.operations (stack_of self.old) state jot ≡ Some (held self.new)) }
         ensures err { result ≡ Err Refusal.Syntax → with_jot self.old.operations (stack_of self.old) state jot ≡ None }
     {
         match state {
@@ -435,16 +447,17 @@ impl Reader {
         }
     }
 
-    fn take_arrow(&mut self, state: State, arrow: usize) -> Result<State, Refusal>
-        ensures ok { IfOk result (λ s. with_arrow self.old.operations (stack_of self.old) state arrow ≡ Some (held self.new s)) }
+    fn take_arrow(&mut self, state: State, arrow: usize) -> Result<(), Refusal>
+        ensures ok { OnOk result (with_arrow self.old.operations (stack_of self.old) state arrow ≡ Some (held self.new)) }
         ensures err { result ≡ Err Refusal.Syntax → with_arrow self.old.operations (stack_of self.old) state arrow ≡ None }
     {
         self.settle(state)?;
-        Ok(State::Arrowed(arrow))
+        self.state = State::Arrowed(arrow);
+        Ok(())
     }
 
-    fn take_open_paren(&mut self, state: State, left: usize) -> Result<State, Refusal>
-        ensures ok { IfOk result (λ s. with_open_paren self.old.operations (stack_of self.old) state left ≡ Some (held self.new s)) }
+    fn take_open_paren(&mut self, state: State, left: usize) -> Result<(), Refusal>
+        ensures ok { OnOk result (with_open_paren self.old.operations (stack_of self.old) state left ≡ Some (held self.new)) }
         ensures err { result ≡ Err Refusal.Syntax → with_open_paren self.old.operations (stack_of self.old) state left ≡ None }
     {
         self.settle(state)?;
@@ -454,16 +467,16 @@ impl Reader {
         }
     }
 
-    fn take_close_paren(&mut self, state: State, right: usize) -> Result<State, Refusal>
-        ensures ok { IfOk result (λ s. with_close_paren self.old.operations (stack_of self.old) state right ≡ Some (held self.new s)) }
+    fn take_close_paren(&mut self, state: State, right: usize) -> Result<(), Refusal>
+        ensures ok { OnOk result (with_close_paren self.old.operations (stack_of self.old) state right ≡ Some (held self.new)) }
         ensures err { result ≡ Err Refusal.Syntax → with_close_paren self.old.operations (stack_of self.old) state right ≡ None }
     {
         self.want_operand(state)?;
         self.push_entry(Entry::Group(right))
     }
 
-    fn take_close_bracket(&mut self, state: State, right: usize) -> Result<State, Refusal>
-        ensures ok { IfOk result (λ s. with_close_bracket self.old.operations (stack_of self.old) state right ≡ Some (held self.new s)) }
+    fn take_close_bracket(&mut self, state: State, right: usize) -> Result<(), Refusal>
+        ensures ok { OnOk result (with_close_bracket self.old.operations (stack_of self.old) state right ≡ Some (held self.new)) }
         ensures err { result ≡ Err Refusal.Syntax → with_close_bracket self.old.operations (stack_of self.old) state right ≡ None }
     {
         match state {
@@ -498,8 +511,8 @@ impl Reader {
     }
 
     /// One more semicolon of the list in the innermost brackets.
-    fn part_slots(&mut self, column: usize) -> Result<State, Refusal>
-        ensures ok { IfOk result (λ s. parted column self.old.operations (stack_of self.old) ≡ Some (held self.new s)) }
+    fn part_slots(&mut self, column: usize) -> Result<(), Refusal>
+        ensures ok { OnOk result (parted column self.old.operations (stack_of self.old) ≡ Some (held self.new)) }
         ensures err { result ≡ Err Refusal.Syntax → parted column self.old.operations (stack_of self.old) ≡ None }
     {
         match self.entries.pop() {
@@ -521,8 +534,8 @@ impl Reader {
         }
     }
 
-    fn take_semicolon(&mut self, state: State, column: usize) -> Result<State, Refusal>
-        ensures ok { IfOk result (λ s. with_semicolon self.old.operations (stack_of self.old) state column ≡ Some (held self.new s)) }
+    fn take_semicolon(&mut self, state: State, column: usize) -> Result<(), Refusal>
+        ensures ok { OnOk result (with_semicolon self.old.operations (stack_of self.old) state column ≡ Some (held self.new)) }
         ensures err { result ≡ Err Refusal.Syntax → with_semicolon self.old.operations (stack_of self.old) state column ≡ None }
     {
         self.end_slot(state)?;
@@ -530,8 +543,8 @@ impl Reader {
     }
 
     /// The bracket on the left of the innermost list; whether its first slot is empty.
-    fn close_list(&mut self, is_empty: bool, left: usize) -> Result<State, Refusal>
-        ensures ok { IfOk result (λ s. closed_list is_empty left self.old.operations (stack_of self.old) ≡ Some (held self.new s)) }
+    fn close_list(&mut self, is_empty: bool, left: usize) -> Result<(), Refusal>
+        ensures ok { OnOk result (closed_list is_empty left self.old.operations (stack_of self.old) ≡ Some (held self.new)) }
         ensures err { result ≡ Err Refusal.Syntax → closed_list is_empty left self.old.operations (stack_of self.old) ≡ None }
     {
         match self.entries.pop() {
@@ -540,22 +553,25 @@ impl Reader {
                 self.push_entry(Entry::Waiting(Operation::Index(semicolons, brackets)))
             }
             Some(Entry::Store(right, semicolons, arrow)) => {
-                Ok(State::Named(semicolons, Brackets { left, right }, arrow))
+                self.state = State::Named(semicolons, Brackets { left, right }, arrow);
+                Ok(())
             }
             Some(Entry::Either(right, doubt)) if !is_empty => {
-                Ok(State::Beside(Brackets { left, right }, doubt))
+                self.state = State::Beside(Brackets { left, right }, doubt);
+                Ok(())
             }
             Some(Entry::Either(right, doubt)) => {
                 self.push_pending(doubt)?;
                 self.push_index(Brackets { left, right })?;
-                Ok(State::Wanted)
+                self.state = State::Wanted;
+                Ok(())
             }
             _ => Err(Refusal::Syntax),
         }
     }
 
-    fn take_open_bracket(&mut self, state: State, left: usize) -> Result<State, Refusal>
-        ensures ok { IfOk result (λ s. with_open_bracket self.old.operations (stack_of self.old) state left ≡ Some (held self.new s)) }
+    fn take_open_bracket(&mut self, state: State, left: usize) -> Result<(), Refusal>
+        ensures ok { OnOk result (with_open_bracket self.old.operations (stack_of self.old) state left ≡ Some (held self.new)) }
         ensures err { result ≡ Err Refusal.Syntax → with_open_bracket self.old.operations (stack_of self.old) state left ≡ None }
     {
         let is_empty = matches!(state, State::Wanted);
@@ -563,10 +579,11 @@ impl Reader {
         self.close_list(is_empty, left)
     }
 
-    fn take(&mut self, state: State, token: Token) -> Result<State, Refusal>
-        ensures ok { IfOk result (λ s. step token (held self.old state) ≡ Some (held self.new s)) }
-        ensures err { result ≡ Err Refusal.Syntax → step token (held self.old state) ≡ None }
+    fn take(&mut self, token: Token) -> Result<(), Refusal>
+        ensures ok { OnOk result (step token (held self.old) ≡ Some (held self.new)) }
+        ensures err { result ≡ Err Refusal.Syntax → step token (held self.old) ≡ None }
     {
+        let state = mem::replace(&mut self.state, State::Wanted);
         let column = token.column;
         match token.lexeme {
             Lexeme::Constant(value) => self.take_operand(state, Operation::Constant(column, value)),
@@ -584,10 +601,11 @@ impl Reader {
     }
 
     /// The operations of a whole statement.
-    fn finish(mut self, state: State) -> Result<Vec<Operation>, Refusal>
-        ensures ok { IfOk result (λ operations. finished (held self state) ≡ Some operations.items) }
-        ensures err { result ≡ Err Refusal.Syntax → finished (held self state) ≡ None }
+    fn finish(mut self) -> Result<Vec<Operation>, Refusal>
+        ensures ok { IfOk result (λ operations. finished (held self) ≡ Some operations.items) }
+        ensures err { result ≡ Err Refusal.Syntax → finished (held self) ≡ None }
     {
+        let state = mem::replace(&mut self.state, State::Wanted);
         self.settle(state)?;
         if !self.entries.is_empty() {
             return Err(Refusal::Syntax);
@@ -607,17 +625,16 @@ pub(crate) fn parse(alloc: Global, tokens: Vec<Token>) -> Result<Vec<Operation>,
     let Ok(mut reader) = Reader::new(alloc, rest.len()) else {
         return Err(GrammarStop::Memory);
     };
-    let mut state = State::Wanted;
     let mut first = 0;
     while let Some(token) = rest.pop() {
         first = token.column;
-        state = match reader.take(state, token) {
-            Ok(next) => next,
+        match reader.take(token) {
+            Ok(()) => {}
             Err(Refusal::Syntax) => return Err(GrammarStop::Syntax { column: first }),
             Err(Refusal::Memory) => return Err(GrammarStop::Memory),
-        };
+        }
     }
-    match reader.finish(state) {
+    match reader.finish() {
         Ok(operations) => Ok(operations),
         Err(Refusal::Syntax) => Err(GrammarStop::Syntax { column: first }),
         Err(Refusal::Memory) => Err(GrammarStop::Memory),
