@@ -43,6 +43,7 @@ impl Places {
         })
     }
 
+    #[inline]
     #[tactic(auto, using(crate::proofs::Full::full_append))]
     pub(crate) fn push(&mut self, operation: Operation) -> Result<(), AllocError>
         ensures { OnOk result (self.new ≡ self.old ++ Some operation ∷ []) }

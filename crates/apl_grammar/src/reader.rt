@@ -55,7 +55,7 @@ impl Doubt {
     }
 
     /// The function that is pending.
-    fn pending(self) -> Option<Pending>
+    fn into_pending(self) -> Option<Pending>
         ensures { result ≡ self }
     {
         match self.held {
@@ -157,6 +157,8 @@ impl Reader {
         })
     }
 
+    // Inlined, as others below, so that an operation is built where it is kept.
+    #[inline]
     fn emit(&mut self, operation: Operation) -> Result<(), Refusal>
         ensures ok { OnOk result (self.new.operations ≡ self.old.operations ++ Some operation ∷ []) }
         ensures entries { self.new.entries ≡ self.old.entries }
@@ -181,12 +183,11 @@ impl Reader {
         }
     }
 
-    /// The operand's last operation, and those that waited for it.
-    fn complete(&mut self, operand: Operation) -> Result<(), Refusal>
-        ensures ok { OnOk result (completed (self.old.operations ++ Some operand ∷ []) (stack_of self.old) ≡ held self.new) }
+    /// The operations that waited for the operand which has just ended.
+    fn complete(&mut self) -> Result<(), Refusal>
+        ensures ok { OnOk result (completed self.old.operations (stack_of self.old) ≡ held self.new) }
         ensures err { result ≡ Err Refusal.Syntax → ⊥ }
     {
-        self.emit(operand)?;
         while let Some(waiting) = self.pop_waiting() {
             self.emit(waiting)?;
         }
@@ -214,7 +215,7 @@ impl Reader {
         ensures err { result ≡ Err Refusal.Syntax → option_and_then (λ p. with_dyadic p.form p.axis (stack_of self.old)) doubt ≡ None }
         ensures operations { self.new.operations ≡ self.old.operations }
     {
-        match doubt.pending() {
+        match doubt.into_pending() {
             Some(pending) => self.push_dyadic(pending.form, pending.axis),
             None => Err(Refusal::Syntax),
         }
@@ -249,12 +250,14 @@ impl Reader {
         }
     }
 
+    #[inline(always)]
     fn take_operand(&mut self, state: State, operand: Operation) -> Result<(), Refusal>
         ensures ok { OnOk result (with_operand self.old.operations (stack_of self.old) state operand ≡ Some (held self.new)) }
         ensures err { result ≡ Err Refusal.Syntax → with_operand self.old.operations (stack_of self.old) state operand ≡ None }
     {
         self.want_operand(state)?;
-        self.complete(operand)
+        self.emit(operand)?;
+        self.complete()
     }
 
     fn take_name(&mut self, state: State, column: usize, name: Name) -> Result<(), Refusal>
@@ -310,13 +313,14 @@ impl Reader {
         ensures operations { self.new.operations ≡ filled self.old.operations doubt }
         ensures entries { self.new.entries ≡ self.old.entries }
     {
-        if let Some(pending) = doubt.pending() {
+        if let Some(pending) = doubt.into_pending() {
             let operation = Operation::Monadic(pending.form, pending.axis);
             self.operations.fill(pending.place, operation);
         }
     }
 
     /// Pushes an entry to whose left an operand is wanted.
+    #[inline(always)]
     fn push_entry(&mut self, entry: Entry) -> Result<(), Refusal>
         ensures ok { OnOk result ((self.new.state ≡ Wanted) × (stack_of self.new ≡ entry ∷ stack_of self.old)) }
         ensures err { result ≡ Err Refusal.Syntax → ⊥ }
@@ -462,7 +466,10 @@ impl Reader {
     {
         self.settle(state)?;
         match self.entries.pop() {
-            Some(Entry::Group(right)) => self.complete(Operation::Group(Brackets { left, right })),
+            Some(Entry::Group(right)) => {
+                self.emit(Operation::Group(Brackets { left, right }))?;
+                self.complete()
+            }
             _ => Err(Refusal::Syntax),
         }
     }
@@ -579,6 +586,7 @@ impl Reader {
         self.close_list(is_empty, left)
     }
 
+    #[inline(always)]
     fn take(&mut self, token: Token) -> Result<(), Refusal>
         ensures ok { OnOk result (step token (held self.old) ≡ Some (held self.new)) }
         ensures err { result ≡ Err Refusal.Syntax → step token (held self.old) ≡ None }
