@@ -1,68 +1,25 @@
 //! Carets and operations of statements.
 use crate::{
-    Form, GrammarStop, Operation, one_caret, one_reading, one_tree, program_of, tree_or_caret,
+    Form, GrammarStop, Operation, Program, one_caret, one_reading, one_tree, program_of,
+    tree_or_caret,
 };
-use apl_array::{Array, Shape};
-use apl_tokens::{Constant, Glyph, Lexeme, Name, Token};
+use apl_tokens::{front, tokens};
 use std::alloc::{AllocError, Global};
 use std::test::Fail;
 
-fn one(alloc: Global) -> Result<Option<Lexeme>, AllocError> {
-    let Ok(shape) = Shape::new(alloc, &[]) else {
-        return Ok(None);
-    };
-    let numbers = vec![in alloc; 1]?;
-    Ok(Some(Lexeme::Constant(Constant::new(alloc, Array::ints(shape, numbers))?)))
-}
-
-/// The lexeme that a character stands for: a digit for any constant, a letter for a name, a blank for none.
-fn lexeme_of(alloc: Global, character: char) -> Result<Option<Lexeme>, AllocError> {
-    let lexeme = match character {
-        '0'..='9' => return one(alloc),
-        'A'..='Z' => Lexeme::Name(Name::new(String::from_str(alloc, "A")?)),
-        '+' => Lexeme::Function(Glyph::Plus),
-        '×' => Lexeme::Function(Glyph::Times),
-        '*' => Lexeme::Function(Glyph::Star),
-        '<' => Lexeme::Function(Glyph::Less),
-        '~' => Lexeme::Function(Glyph::Tilde),
-        '⍋' => Lexeme::Function(Glyph::GradeUp),
-        '⍴' => Lexeme::Function(Glyph::Rho),
-        '⌽' => Lexeme::Function(Glyph::CircleStile),
-        ',' => Lexeme::Function(Glyph::Comma),
-        '↑' => Lexeme::Function(Glyph::UpArrow),
-        '/' => Lexeme::Function(Glyph::Slash),
-        '\\' => Lexeme::Function(Glyph::Backslash),
-        '.' => Lexeme::Dot,
-        '∘' => Lexeme::Jot,
-        '←' => Lexeme::Arrow,
-        '(' => Lexeme::OpenParen,
-        ')' => Lexeme::CloseParen,
-        '[' => Lexeme::OpenBracket,
-        ']' => Lexeme::CloseBracket,
-        ';' => Lexeme::Semicolon,
-        _ => return Ok(None),
-    };
-    Ok(Some(lexeme))
-}
-
-/// The tokens that the characters stand for, each at its column.
-fn tokens_of(alloc: Global, characters: &[char]) -> Result<Vec<Token>, AllocError> {
-    let mut tokens = Vec::new(alloc);
-    for (column, character) in characters.iter().enumerate() {
-        if let Some(lexeme) = lexeme_of(alloc, *character)? {
-            tokens.push(Token { lexeme, column })?;
-        }
-    }
-    Ok(tokens)
-}
-
-/// The column of the caret, or none where the tokens are a statement.
-fn caret_of(alloc: Global, characters: &[char]) -> Result<Option<usize>, Fail> {
-    let tokens = tokens_of(alloc, characters)?;
+/// The program of a line that has tokens, or why it has none.
+fn program(alloc: Global, line: &str) -> Result<Result<Program, GrammarStop>, Fail> {
+    let characters = front(alloc, line.as_bytes())?;
+    let tokens = tokens(alloc, characters.as_slice())?;
     if tokens.is_empty() {
-        return Ok(None);
+        return Err(Fail::new("no tokens"));
     }
-    match program_of(alloc, tokens) {
+    Ok(program_of(alloc, tokens))
+}
+
+/// The column of the caret, or none where the line is a statement.
+fn caret_of(alloc: Global, line: &str) -> Result<Option<usize>, Fail> {
+    match program(alloc, line)? {
         Ok(_) => Ok(None),
         Err(GrammarStop::Syntax { column }) => Ok(Some(column)),
         Err(GrammarStop::Memory) => Err(Fail::from(AllocError)),
@@ -111,9 +68,8 @@ fn carets(rt: HostRuntime) -> Result<(), Fail> {
         ("A[(1]", 2),
     ];
     let alloc = rt.alloc();
-    for (text, column) in rows {
-        let characters: Vec<char> = text.chars().collect(alloc)?;
-        assert_eq!(rt; caret_of(alloc, &characters)?, Some(column), "of {text}");
+    for (line, column) in rows {
+        assert_eq!(rt; caret_of(alloc, line)?, Some(column), "of {line}");
     }
     Ok(())
 }
@@ -135,17 +91,11 @@ fn column_of(operation: &Operation) -> Option<usize> {
 }
 
 /// The columns of the program's operations, in the order of evaluation.
-fn columns_of(alloc: Global, text: &str) -> Result<Vec<Option<usize>>, Fail> {
-    let characters: Vec<char> = text.chars().collect(alloc)?;
-    let tokens = tokens_of(alloc, &characters)?;
+fn columns_of(alloc: Global, line: &str) -> Result<Vec<Option<usize>>, Fail> {
+    let program = program(alloc, line)??;
     let mut columns = Vec::new(alloc);
-    if tokens.is_empty() {
-        return Ok(columns);
-    }
-    if let Ok(program) = program_of(alloc, tokens) {
-        for operation in program.operations() {
-            columns.push(column_of(operation))?;
-        }
+    for operation in program.operations() {
+        columns.push(column_of(operation))?;
     }
     Ok(columns)
 }
@@ -197,22 +147,16 @@ fn nested(
     front: &str,
     middle: &str,
     back: &str,
-) -> Result<Vec<char>, AllocError> {
-    let mut characters = Vec::new(alloc);
+) -> Result<String, AllocError> {
+    let mut line = String::new(alloc);
     for _ in 0..depth {
-        for character in front.chars() {
-            characters.push(character)?;
-        }
+        line.push_str(front)?;
     }
-    for character in middle.chars() {
-        characters.push(character)?;
-    }
+    line.push_str(middle)?;
     for _ in 0..depth {
-        for character in back.chars() {
-            characters.push(character)?;
-        }
+        line.push_str(back)?;
     }
-    Ok(characters)
+    Ok(line)
 }
 
 #[test]
@@ -229,9 +173,9 @@ fn ten_thousand_brackets(rt: HostRuntime) -> Result<(), Fail> {
     ];
     let alloc = rt.alloc();
     for (front, middle, back, caret) in rows {
-        let characters = nested(alloc, 10000, front, middle, back)?;
+        let line = nested(alloc, 10000, front, middle, back)?;
         assert_eq!(rt;
-            caret_of(alloc, &characters)?,
+            caret_of(alloc, line.as_str())?,
             caret,
             "of {front}{middle}{back}"
         );
