@@ -110,14 +110,14 @@ fn parted(alloc: Global, held: HeldPlaces) -> Result<Vec<Option<Operation>>, All
     }
 }
 
-/// Places that have these operations.
+/// Places that have these operations, with room for as many as they had.
 fn filled_places(
     alloc: Global,
     operations: Vec<Operation>,
 ) -> Result<Vec<Option<Operation>>, AllocError>
     ensures { IfOk result (λ places. places.items ≡ map Some operations.items) }
 {
-    let mut places = Vec::with_capacity(alloc, operations.len())?;
+    let mut places = Vec::with_capacity(alloc, operations.capacity())?;
     for operation in operations {
         places.push(Some(operation))?;
     }
