@@ -5,3 +5,4 @@ pub mod Evaluates
 pub mod Refusals
 pub mod Names
 pub mod Steps
+pub mod Lawful

@@ -1,5 +1,5 @@
 //! Statements evaluated one after another, and a workspace's settings.
-use crate::{EvalStop, Shown, Workspace, eval};
+use crate::{EvalStop, Shown, Workspace, eval, lawful_stays};
 use apl_array::{Array, Origin, Shape};
 use apl_grammar::program_of;
 use apl_pool::{Every, Open, Pool};
@@ -296,6 +296,7 @@ fn functions_to_0_and_1(rt: HostRuntime) -> Result<(), Fail> {
 
 #[test]
 fn settings(rt: HostRuntime) -> Result<(), Fail> {
+    lawful_stays();
     let alloc = rt.alloc();
     let mut workspace = Workspace::new(alloc);
     assert_eq!(rt; workspace.width(), 120);

@@ -10,8 +10,9 @@ use Rattle.std.proofs.lemmas.Fmt.{length-decimal-le}
 use Rattle.apl_array.specs.declared.array.Elem.{Elem}
 use Rattle.apl_array.specs.declared.array.Elem.TheVariants.{Int, Chr}
 use Rattle.apl_array.specs.Array.{ArrayValue}
+use Rattle.apl_array.specs.Range.{IsElementInRange, HasNumbersInRange}
 use Rattle.apl_print.specs.Text.{line_feed, blank, blanks, indent}
-use Rattle.apl_print.specs.Shown.{IsInRange, field_of, gap_of, row_count, row_length, rows_of, column_width, padded, aligned, empty_lines, AreRows, IsText, IsShown}
+use Rattle.apl_print.specs.Shown.{field_of, gap_of, row_count, row_length, rows_of, column_width, padded, aligned, empty_lines, AreRows, IsText, IsShown}
 use Rattle.apl_print.specs.Layout.{laid, rows_laid}
 use Rattle.apl_print.proofs.RowLemmas.{row_is_laid, IsRow-laid}
 
@@ -149,15 +150,15 @@ shown_by_layout a width gap bytes wide is_gap short is_text = (
   is_text,
 )
 
--- numbers of 64 bits have short fields
-field_of-short : (x : Elem) → IsInRange x → length (field_of x) ≤ 21
-field_of-short (Int (pos n)) fits = omega (arith, length-decimal-le 20 n (omega arith) (omega (arith, ints)) (omega (arith, ints)))
-field_of-short (Int (negsuc n)) fits = omega (arith, length-decimal-le 20 (suc n) (omega arith) (omega (arith, ints)) (omega (arith, ints)))
+-- numbers in the range have short fields
+field_of-short : (x : Elem) → IsElementInRange x → length (field_of x) ≤ 21
+field_of-short (Int (pos n)) fits = let greatest = fits.greatest in omega (arith, length-decimal-le 20 n (omega arith) (omega (arith, ints)) (omega (arith, ints)))
+field_of-short (Int (negsuc n)) fits = let least = fits.least in omega (arith, length-decimal-le 20 (suc n) (omega arith) (omega (arith, ints)) (omega (arith, ints)))
 field_of-short (Chr c) fits = omega arith
 
-pub shown_always : (a : ArrayValue) (width : ℕ) → All IsInRange a.ravel → 30 ≤ width → (text : List ℕ) × IsShown a width text
+pub shown_always : (a : ArrayValue) (width : ℕ) → HasNumbersInRange a → 30 ≤ width → (text : List ℕ) × IsShown a width text
 shown_always a width in_range wide = (
   laid_text width (gap_of a.kind) a.shape (map field_of a.ravel),
   IsText-laid width (gap_of a.kind) a.shape (map field_of a.ravel) 21 (omega arith)
-      (All-map (λ f. length f ≤ 21) field_of a.ravel (All-weaker IsInRange (λ x. length (field_of x) ≤ 21) field_of-short a.ravel in_range)),
+      (All-map (λ f. length f ≤ 21) field_of a.ravel (All-weaker IsElementInRange (λ x. length (field_of x) ≤ 21) field_of-short a.ravel in_range)),
 )

@@ -1,6 +1,5 @@
 -- Printed arrays, in characters: fields, columns, rows and planes.
-use Rattle.std.specs.Prelude.{◌≡◌, ℕ, suc, zero, ◌+◌, ◌-◌, ◌*◌, ◌%◌, ◌==◌, ℤ, pos, negsuc, List, [], ◌∷◌, ◌++◌, length, take, drop, map, fold, max, replicate, slice_index_or, if◌then◌else◌, decimal, FitsSigned}
-use Rattle.std.specs.Int.{w64}
+use Rattle.std.specs.Prelude.{◌≡◌, ℕ, suc, zero, ◌+◌, ◌-◌, ◌*◌, ◌%◌, ◌==◌, ℤ, pos, negsuc, List, [], ◌∷◌, ◌++◌, length, take, drop, map, fold, max, replicate, slice_index_or, if◌then◌else◌, decimal}
 use Rattle.apl_array.specs.declared.array.Elem.{Elem}
 use Rattle.apl_array.specs.declared.array.Elem.TheVariants.{Int, Chr}
 use Rattle.apl_array.specs.declared.array.Kind.{Kind}
@@ -83,8 +82,3 @@ IsText width gap (n ∷ m ∷ shape) (field ∷ fields) text =
 
 abbrev pub IsShown : ArrayValue → ℕ → List ℕ → Type 0
 IsShown a width text = IsText width (gap_of a.kind) a.shape (map field_of a.ravel) text
-
--- a number of the calculator's range, or a character
-abbrev pub IsInRange : Elem → Type 0
-IsInRange (Int n) = FitsSigned w64 n
-IsInRange (Chr c) = Unit {0}

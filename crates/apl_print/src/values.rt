@@ -1,8 +1,9 @@
 //! Printed values.
-ghost use Rattle.std.specs.Prelude.{◌≡◌, ℕ, ◌^◌, ◌<◌, ◌≤◌, List, All, IfOk, string_bytes, encode_utf8_all, slice_index, decimal};
+ghost use Rattle.std.specs.Prelude.{◌≡◌, ℕ, ◌^◌, ◌<◌, ◌≤◌, List, IfOk, string_bytes, encode_utf8_all, slice_index, decimal};
 ghost use Rattle.std.specs.Str.Parse.{IsNumeral, digits_value};
 ghost use Rattle.apl_array.specs.Array.{ArrayValue};
-ghost use Rattle.apl_print.specs.Shown.{IsInRange, IsShown};
+ghost use Rattle.apl_array.specs.Range.{HasNumbersInRange};
+ghost use Rattle.apl_print.specs.Shown.{IsShown};
 
 use super::rows::{Layout, put_rows};
 use apl_array::Array;
@@ -43,7 +44,7 @@ pub fn shown_once()
 
 /// The law that an array has some text at each width that lines may have.
 pub fn shown_always()
-    ensures { (a : ArrayValue) (width : ℕ) → All IsInRange a.ravel → 30 ≤ width
+    ensures { (a : ArrayValue) (width : ℕ) → HasNumbersInRange a → 30 ≤ width
         → (text : List ℕ) × IsShown a width text }
 {}
 

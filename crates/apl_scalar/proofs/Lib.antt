@@ -6,3 +6,4 @@ pub mod Sources
 pub mod Gathering
 pub mod Places
 pub mod Answers
+pub mod InRange

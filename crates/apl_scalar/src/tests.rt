@@ -1,7 +1,10 @@
 //! The tables at worked values, and arrays of several shapes.
 ghost use Rattle.std.specs.Prelude.{◌≤◌};
 
-use crate::{OpFault, Prim, answer_is_each_outcome, apply1, apply2, dyadic, identity, monadic};
+use crate::{
+    OpFault, Prim, answer_is_each_outcome, answers_are_in_range, apply1, apply2, dyadic, identity,
+    monadic,
+};
 use apl_array::{Array, Elem, Shape};
 use apl_pool::{Every, Fault, Open, Pool};
 use std::alloc::Global;
@@ -152,6 +155,7 @@ fn identities(rt: HostRuntime) -> Result<(), Fail> {
         assert_eq!(rt; identity(f), wanted, "{f:?}");
     }
     answer_is_each_outcome();
+    answers_are_in_range();
     Ok(())
 }
 

@@ -1,7 +1,7 @@
 -- Runs in which no line is refused.
-use Rattle.std.proofs.Common.{◌≡◌, ℕ, Bool, true, false, MatchBool, if◌then◌else◌, List, [], ◌∷◌, refl, sym, ap, ◌∙◌, subst, inl}
+use Rattle.std.proofs.Common.{◌≡◌, ℕ, Bool, true, false, MatchBool, if◌then◌else◌, List, [], ◌∷◌, refl, sym, ap, ◌∙◌, subst, inl, inr}
 use Rattle.apl_session.specs.Lines.{without_return}
-use Rattle.apl_session.specs.Run.{Answer, Semantics, IsRun, IsDefinedRun, IsDeterministic, HasOneDefinedRun, IsTotal, HasDefinedRun}
+use Rattle.apl_session.specs.Run.{Answer, Semantics, IsAnswer, IsRun, IsDefinedRun, IsDeterministic, HasOneDefinedRun, IsTotal, HasDefinedRun}
 
 module _ {W : Type 0} (semantics : Semantics W) where
   -- what comes after an answer, in two runs
@@ -45,11 +45,20 @@ module _ {W : Type 0} (semantics : Semantics W) where
   after_answer true later P p = refl
   after_answer false later P p = p
 
-  pub some_defined_run_lem : IsTotal semantics → HasDefinedRun W semantics
-  some_defined_run_lem total state [] = ([], tt)
-  some_defined_run_lem total state (line ∷ lines) =
-      let first = total state (without_return line) in
-      let later = some_defined_run_lem total first.0.after lines in (
+  pub some_defined_run_lem : (IsLawful : W → Type 0) → IsTotal IsLawful semantics → HasDefinedRun W IsLawful semantics
+  some_defined_run_lem IsLawful total state [] lawful = ([], tt)
+  some_defined_run_lem IsLawful total state (line ∷ lines) lawful =
+      let first = total state (without_return line) lawful in
+      let later = some_defined_run_lem IsLawful total first.0.after lines first.2 in (
         first.0 ∷ (if first.0.ends then [] else later.0),
         (first.1, after_answer first.0.ends later.0 (IsDefinedRun semantics first.0.after lines) later.1),
       )
+
+  -- each answer leaves the state lawful, where some step does and there is no other
+  pub answer_lawful_lem : (IsLawful : W → Type 0) → IsDeterministic semantics → IsTotal IsLawful semantics
+      → (state : W) (line : List ℕ) (answer : Answer W) → IsLawful state → IsAnswer semantics state line answer → IsLawful answer.after
+  answer_lawful_lem IsLawful deterministic total state line answer lawful (inl step) =
+      let found = total state (without_return line) lawful in
+      subst (λ (a : Answer W). IsLawful a.after) (deterministic state (without_return line) found.0 answer found.1 step) found.2
+  answer_lawful_lem IsLawful deterministic total state line answer lawful (inr (is, refusable)) =
+      subst (λ (a : Answer W). IsLawful a.after) (sym is) lawful

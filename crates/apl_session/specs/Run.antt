@@ -54,13 +54,15 @@ abbrev pub IsDeterministic : {W : Type 0} → Semantics W → Type 0
 IsDeterministic {W} semantics = (state : W) (line : List ℕ) (one other : Answer W)
     → semantics.IsStep state line one → semantics.IsStep state line other → one ≡ other
 
--- a line has an answer in each state
-abbrev pub IsTotal : {W : Type 0} → Semantics W → Type 0
-IsTotal {W} semantics = (state : W) (line : List ℕ) → (answer : Answer W) × semantics.IsStep state line answer
+-- a line has an answer in each lawful state, and the state after it is lawful
+abbrev pub IsTotal : {W : Type 0} → (W → Type 0) → Semantics W → Type 0
+IsTotal {W} IsLawful semantics = (state : W) (line : List ℕ) → IsLawful state
+    → (answer : Answer W) × semantics.IsStep state line answer × IsLawful answer.after
 
--- lines have a run in which none is refused
-abbrev pub HasDefinedRun : (W : Type 0) → Semantics W → Type 0
-HasDefinedRun W semantics = (state : W) (lines : List (List ℕ)) → (answers : List (Answer W)) × IsDefinedRun semantics state lines answers
+-- lines have a run in which none is refused from each lawful state
+abbrev pub HasDefinedRun : (W : Type 0) → (W → Type 0) → Semantics W → Type 0
+HasDefinedRun W IsLawful semantics = (state : W) (lines : List (List ℕ)) → IsLawful state
+    → (answers : List (Answer W)) × IsDefinedRun semantics state lines answers
 
 -- lines have at most one run in which none is refused, and such a run is a run
 pub record HasOneDefinedRun (W : Type 0) (semantics : Semantics W) : Type 0 where

@@ -2,16 +2,19 @@
 ghost use Rattle.std.specs.Prelude.{◌≡◌, ◌≢◌, ℕ, List, Err, OnOk};
 ghost use Rattle.apl_print.specs.Failures.{one_more};
 ghost use Rattle.apl_eval.specs.Workspace.{WorkspaceValue, opening_workspace};
+ghost use Rattle.apl_eval.specs.Lawful.{IsLawful};
 ghost use Rattle.apl_session.specs.Step.{session_semantics};
-ghost use Rattle.apl_session.specs.Run.{IsDeterministic, HasOneDefinedRun};
+ghost use Rattle.apl_session.specs.Run.{Answer, IsAnswer, IsDefinedRun, IsDeterministic, IsTotal, HasDefinedRun, HasOneDefinedRun};
 ghost use Rattle.apl_session.specs.Outcome.{AnswersAll, AnswersFront, AnswersLines, BeginsUnbroken, BeginsUnheld};
 
 use super::interpreter::{Interpreter, RunFault};
 use super::runs::{BLOCK, run_with};
 use super::sources::Source;
+use apl_eval::lawful_stays;
 use apl_pool::{Cut, Gate, Pool};
-use apl_print::{Sink, shown_once};
-use apl_syntax::one_reading;
+use apl_print::{Sink, shown_always, shown_once};
+use apl_syntax::{one_reading, some_reading};
+use apl_tokens::constants_are_in_range;
 use std::alloc::Global;
 use std::thread::Threads;
 
@@ -63,4 +66,27 @@ pub fn one_run()
     ensures { HasOneDefinedRun WorkspaceValue session_semantics }
 {
     one_step();
+}
+
+/// A line has a step in each lawful workspace, and each of its answers leaves the workspace lawful.
+pub fn some_step()
+    ensures some { IsTotal IsLawful session_semantics }
+    ensures lawful { (w : WorkspaceValue) (line : List ℕ) (answer : Answer WorkspaceValue) → IsLawful w
+        → IsAnswer session_semantics w line answer → IsLawful answer.after }
+{
+    one_step();
+    some_reading();
+    constants_are_in_range();
+    lawful_stays();
+    shown_always();
+}
+
+/// Lines have a run in which none is refused, in a new session and from each lawful workspace.
+pub fn some_run()
+    ensures opening { (lines : List (List ℕ)) → (answers : List (Answer WorkspaceValue))
+        × IsDefinedRun session_semantics opening_workspace lines answers }
+    ensures lawful { HasDefinedRun WorkspaceValue IsLawful session_semantics }
+{
+    some_step();
+    lawful_stays();
 }

@@ -5,7 +5,6 @@ mod answering;
 mod command_line;
 mod endings;
 mod interpreter;
-mod laws;
 mod lines;
 mod memory;
 mod options;
@@ -14,7 +13,7 @@ mod sessions;
 mod sources;
 mod streams;
 
-pub use answering::{one_run, one_step, run};
+pub use answering::{one_run, one_step, run, some_run, some_step};
 pub use command_line::{refusal, settings};
 pub use endings::ending;
 pub use interpreter::{Next, RunFault};

@@ -1,6 +1,7 @@
 //! Sources, sinks and lines of any length, and the program's command line.
 use crate::{
-    BLOCK, In, MemorySource, RunFault, Settings, Source, SourceFault, refusal, run, settings,
+    BLOCK, In, MemorySource, RunFault, Settings, Source, SourceFault, one_run, refusal, run,
+    settings, some_run,
 };
 use apl_pool::{Every, Open, Pool};
 use apl_print::MemorySink;
@@ -29,6 +30,8 @@ fn written<R: Threads + Sync>(
 /// A name without a value is told with the line as it came.
 #[test]
 fn answers_lines_across_blocks(rt: HostRuntime) -> Result<(), Fail> {
+    one_run();
+    some_run();
     let alloc = rt.alloc();
     let shapes = [
         (1, 20_000),

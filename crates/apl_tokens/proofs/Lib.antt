@@ -9,3 +9,4 @@ pub mod Lines
 pub mod Unique
 pub mod Total
 pub mod FrontTotal
+pub mod InRange

@@ -5,7 +5,8 @@ use Rattle.std.proofs.lemmas.List.{drop-drop}
 use Rattle.std.proofs.Math.Seq.{take-add}
 use Rattle.apl_tokens.specs.declared.lexer.NextNumeral.{NextNumeral}
 use Rattle.apl_tokens.specs.Symbols.{is_digit}
-use Rattle.apl_tokens.specs.Lexis.{BeginsWithNo, IsNumeral, plain, negative, AreBlanks, HasNoNextNumeral, Numeral, AreNumerals, IsInRange, AreInRange, FirstOutOfRange, here, later}
+use Rattle.apl_array.specs.Range.{IsInRange}
+use Rattle.apl_tokens.specs.Lexis.{BeginsWithNo, IsNumeral, plain, negative, AreBlanks, HasNoNextNumeral, Numeral, AreNumerals, AreInRange, FirstOutOfRange, here, later}
 use Rattle.apl_tokens.specs.Scans.{IsHeld, IsHeldAs, IsRow, IsNumeralAt, IsNextNumeralAt, GoesOn, held_more}
 use Rattle.apl_tokens.proofs.Runs.{rest_of}
 

@@ -5,12 +5,13 @@ use Rattle.std.specs.Bool.{passes}
 use Rattle.std.proofs.lemmas.Bool.Decides.{nat_tests}
 use Rattle.std.proofs.lemmas.Int.{ints, by_lt_z}
 use Rattle.apl_array.specs.Array.{number_array, character_array}
+use Rattle.apl_array.specs.Range.{IsInRange, least_number, greatest_number}
 use Rattle.apl_tokens.specs.declared.token.Token.{Token}
 use Rattle.apl_tokens.specs.declared.token.Lexeme.{Lexeme}
 use Rattle.apl_tokens.specs.declared.token.Lexeme.TheVariants.{Constant, Name}
 use Rattle.apl_tokens.specs.Symbols.{is_digit, is_letter, is_name_character, is_blank, quote, is_quote, comment_mark, symbol_lexeme}
 use Rattle.apl_tokens.specs.Fronts.{AllPass}
-use Rattle.apl_tokens.specs.Lexis.{BeginsWithNo, decimal, IsNumeral, plain, negative, negated, Numeral, AreNumerals, EndsNumerals, HasNoNextNumeral, least_number, greatest_number, IsInRange, AreInRange, most_elements, constant_shape, doubled, quoted, IsToken, LexesUpTo, IsEnd, Lexes, BeginsWithNoToken, FirstOutOfRange, here, later, IsBeyondLimit, HasLexicalFault, HasLimitFault}
+use Rattle.apl_tokens.specs.Lexis.{BeginsWithNo, decimal, IsNumeral, plain, negative, negated, Numeral, AreNumerals, EndsNumerals, HasNoNextNumeral, AreInRange, most_elements, constant_shape, doubled, quoted, IsToken, LexesUpTo, IsEnd, Lexes, BeginsWithNoToken, FirstOutOfRange, here, later, IsBeyondLimit, HasLexicalFault, HasLimitFault}
 use Rattle.apl_tokens.specs.Scans.{HasNoNumeral}
 use Rattle.apl_tokens.proofs.Runs.{no_plain, no_negative, no_blanks, numeral_begins, all_blanks}
 use Rattle.apl_tokens.proofs.Quotes.{no_quotation}
@@ -157,8 +158,8 @@ not_less a b h k = grind (arith, ints)
 in_range : (z : ℤ) → IsInRange z ⊎ (IsInRange z → ⊥)
 in_range z =
     by_lt_z z least_number
-    (λ low. inr (λ h. not_less z least_number low h.0))
-    (λ high. by_lt_z greatest_number z (λ over. inr (λ h. not_less greatest_number z over h.1)) (λ within. inl (high, within)))
+    (λ low. inr (λ h. not_less z least_number low h.least))
+    (λ high. by_lt_z greatest_number z (λ over. inr (λ h. not_less greatest_number z over h.greatest)) (λ within. inl record { least = high; greatest = within }))
 
 all_in_range : (ns : List Numeral) → AreInRange ns ⊎ ((place : ℕ) × FirstOutOfRange ns place)
 all_in_range [] = inl tt

@@ -1,5 +1,6 @@
 -- The tokens of a line, as a relation between its characters and a list of tokens with columns.
-use Rattle.std.specs.Prelude.{◌≡◌, ◌⊎◌, ◌+◌, ◌-◌, ◌*◌, ◌<◌, ◌≤◌, ◌^◌, ℕ, zero, suc, ℤ, pos, negsuc, ◌≤ℤ◌, Bool, false, IsTrue, List, [], ◌∷◌, ◌++◌, Some, length, map, encode_utf8_all, if◌then◌else◌}
+use Rattle.std.specs.Prelude.{◌≡◌, ◌⊎◌, ◌+◌, ◌-◌, ◌*◌, ◌<◌, ◌≤◌, ◌^◌, ℕ, zero, suc, ℤ, pos, negsuc, Bool, false, IsTrue, List, [], ◌∷◌, ◌++◌, Some, length, map, encode_utf8_all, if◌then◌else◌}
+use Rattle.apl_array.specs.Range.{IsInRange}
 use Rattle.apl_array.specs.Array.{ArrayValue, number_array, character_array}
 use Rattle.apl_tokens.specs.declared.token.Token.{Token}
 use Rattle.apl_tokens.specs.declared.token.Lexeme.{Lexeme}
@@ -59,15 +60,6 @@ HasNoNextNumeral after = (gap text rest : List ℕ) (z : ℤ) → AreBlanks gap 
 pub record EndsNumerals (after : List ℕ) : Type 0 where
   pub digits : BeginsWithNo is_digit after
   pub numerals : HasNoNextNumeral after
-
-abbrev pub least_number : ℤ
-least_number = negsuc (2 ^ 63 - 1)
-
-abbrev pub greatest_number : ℤ
-greatest_number = pos (2 ^ 63 - 1)
-
-abbrev pub IsInRange : ℤ → Type 0
-IsInRange z = (least_number ≤ℤ z) × (z ≤ℤ greatest_number)
 
 abbrev pub AreInRange : List Numeral → Type 0
 AreInRange [] = Unit {0}

@@ -4,3 +4,4 @@ pub mod Lexis
 pub mod Stops
 pub mod Held
 pub mod Scans
+pub mod Constants

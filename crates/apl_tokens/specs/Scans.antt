@@ -1,5 +1,6 @@
 -- What the lexer's own functions say of the front of a text. No contract of a public function cites this file.
 use Rattle.std.specs.Prelude.{◌≡◌, ◌⊎◌, ◌+◌, ◌<◌, ◌≤◌, ℕ, ℤ, Bool, IsTrue, List, [], ◌∷◌, ◌++◌, Option, Some, None, IfSome, length, take, drop, map, slice_index, encode_utf8, encode_utf8_all}
+use Rattle.apl_array.specs.Range.{IsInRange}
 use Rattle.apl_tokens.specs.declared.token.Lexeme.{Lexeme}
 use Rattle.apl_tokens.specs.declared.lexer.Class.{Class}
 use Rattle.apl_tokens.specs.declared.lexer.Class.TheVariants as class
@@ -8,7 +9,7 @@ use Rattle.apl_tokens.specs.declared.lexer.LexicalStop.{LexicalStop}
 use Rattle.apl_tokens.specs.declared.lexer.LexicalStop.TheVariants as stop
 use Rattle.apl_tokens.specs.Symbols.{is_digit, is_name_character, is_blank, quote, is_quote, is_listed}
 use Rattle.apl_tokens.specs.Fronts.{AllPass}
-use Rattle.apl_tokens.specs.Lexis.{BeginsWithNo, IsNumeral, AreBlanks, HasNoNextNumeral, Numeral, AreNumerals, IsInRange, AreInRange, FirstOutOfRange, doubled, IsToken, BeginsWithNoToken, IsBeyondLimit}
+use Rattle.apl_tokens.specs.Lexis.{BeginsWithNo, IsNumeral, AreBlanks, HasNoNextNumeral, Numeral, AreNumerals, AreInRange, FirstOutOfRange, doubled, IsToken, BeginsWithNoToken, IsBeyondLimit}
 
 -- a class of characters
 abbrev pub passes : Class → ℕ → Bool

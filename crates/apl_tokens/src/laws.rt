@@ -1,8 +1,10 @@
-// Laws of the definitions: a line has one front, and its characters one list of tokens or one fault.
+// Laws of the definitions: a line has one front, its characters one list of tokens or one fault, and the tokens have no number
+// outside the range.
 ghost use Rattle.std.specs.Prelude.{◌≡◌, ◌⊎◌, ℕ, List};
 ghost use Rattle.apl_tokens.specs.declared.token.Token.{Token};
 ghost use Rattle.apl_tokens.specs.Fronts.{IsFront};
 ghost use Rattle.apl_tokens.specs.Lexis.{Lexes, HasLexicalFault, HasLimitFault};
+ghost use Rattle.apl_tokens.specs.Constants.{HasConstantsInRange};
 
 /// The front of a line and what follows it are one.
 pub fn front_is_unique()
@@ -27,4 +29,9 @@ pub fn lexing_is_unique()
     ensures no_fault { (characters : List ℕ) (ts : List Token) (c : ℕ) → Lexes characters ts → HasLexicalFault characters c → ⊥ }
     ensures no_limit { (characters : List ℕ) (ts : List Token) (c : ℕ) → Lexes characters ts → HasLimitFault characters c → ⊥ }
     ensures one_kind { (characters : List ℕ) (c d : ℕ) → HasLexicalFault characters c → HasLimitFault characters d → ⊥ }
+{}
+
+/// The constants of tokens that characters have are in the range.
+pub fn constants_are_in_range()
+    ensures { (characters : List ℕ) (tokens : List Token) → Lexes characters tokens → HasConstantsInRange tokens }
 {}

@@ -8,7 +8,9 @@ mod symbols;
 mod token;
 
 pub use fronts::{FrontStop, front};
-pub use laws::{front_is_total, front_is_unique, lexing_is_total, lexing_is_unique};
+pub use laws::{
+    constants_are_in_range, front_is_total, front_is_unique, lexing_is_total, lexing_is_unique,
+};
 pub use lexer::{LexicalStop, blanks_before, tokens};
 pub use symbols::is_digit;
 pub use token::{Constant, Glyph, Lexeme, Name, Token};

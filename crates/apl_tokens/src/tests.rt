@@ -1,7 +1,7 @@
 //! Fronts and tokens of lines, as text: each token with its column, or the stop.
 use crate::{
-    Constant, FrontStop, Lexeme, LexicalStop, Token, blanks_before, front, front_is_total,
-    front_is_unique, is_digit, lexing_is_total, lexing_is_unique, tokens,
+    Constant, FrontStop, Lexeme, LexicalStop, Token, blanks_before, constants_are_in_range, front,
+    front_is_total, front_is_unique, is_digit, lexing_is_total, lexing_is_unique, tokens,
 };
 use std::alloc::{AllocError, Global};
 use std::test::Fail;
@@ -63,6 +63,7 @@ fn tokens_of_lines(rt: HostRuntime) -> Result<(), Fail> {
     front_is_unique();
     lexing_is_total();
     lexing_is_unique();
+    constants_are_in_range();
     let cases = [
         ("", ""),
         ("   ", ""),

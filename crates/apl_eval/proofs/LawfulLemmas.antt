@@ -1,0 +1,224 @@
+-- Statements keep a workspace lawful.
+use Rattle.std.proofs.Common.{◌≡◌, ◌≤◌, ℕ, List, [], ◌∷◌, ◌++◌, Option, Some, None, Result, Ok, Err, refl, sym, subst, arith}
+use Rattle.std.specs.Prelude.{Bool, true, false, cond, IfOk, IfSome}
+use Rattle.std.specs.Ordering.{nat_cmp}
+use Rattle.std.specs.Cmp.Lexicographic.{slice_cmp}
+use Rattle.std.specs.FinMap.{get-empty}
+use Rattle.std.proofs.lemmas.List.Elements.{All-head, All-tail, All-nil, All-cons}
+use Rattle.apl_array.specs.declared.axis.Origin.{Origin}
+use Rattle.apl_array.specs.Array.{ArrayValue}
+use Rattle.apl_array.specs.Range.{HasNumbersInRange}
+use Rattle.apl_tokens.specs.declared.token.Token.{Token}
+use Rattle.apl_tokens.specs.declared.token.Lexeme.TheVariants as lexeme
+use Rattle.apl_tokens.specs.Constants.{IsLexemeInRange, HasConstantsInRange}
+use Rattle.apl_grammar.specs.declared.program.Form.{Form}
+use Rattle.apl_grammar.specs.declared.program.Form.TheVariants.{Plain, Reduce, Inner, Outer}
+use Rattle.apl_grammar.specs.Tree.{Expr, value, dyadic, monadic, assign, assign_at, Operand, constant, name, group, index, Slots, last, more, Slot, nothing, given, Axis, none, along, token_at, spells, spells_form, spells_operand, spells_list, spells_slot, spells_axis}
+use Rattle.apl_print.specs.declared.reports.Report.{Report}
+use Rattle.apl_print.specs.declared.reports.Report.TheVariants.{Syntax}
+use Rattle.apl_scalar.specs.declared.function.ScalarFunction.{ScalarFunction}
+use Rattle.apl_scalar.specs.declared.function.OpFault.{OpFault}
+use Rattle.apl_scalar.specs.Scalar.{has_monadic, has_dyadic}
+use Rattle.apl_scalar.specs.Monadic.{monadic_answer}
+use Rattle.apl_scalar.specs.Dyadic.{dyadic_answer}
+use Rattle.apl_eval.specs.declared.statement.Shown.{Shown}
+use Rattle.apl_eval.specs.declared.statement.EvalStop.{EvalStop}
+use Rattle.apl_eval.specs.declared.statement.EvalStop.TheVariants.{Error, Memory}
+use Rattle.apl_eval.specs.Workspace.{WorkspaceValue, value_of, with_origin, with_width, assigned, opening_workspace}
+use Rattle.apl_eval.specs.Functions.{caret_column, scalar_function, reported, monadic_scalar, dyadic_scalar, monadic_result, dyadic_result}
+use Rattle.apl_eval.specs.Meaning.{Outcome, done, failed, then, found, judged, mean, mean_operand, mean_slots, mean_slot, mean_axis}
+use Rattle.apl_eval.specs.Evaluates.{Evaluates}
+use Rattle.apl_eval.specs.Lawful.{IsLawful, IsLawfulOutcome}
+use Rattle.apl_eval.proofs.NameLemmas.{is_name, get-insert_name}
+
+pub opening_lawful : IsLawful opening_workspace
+opening_lawful = record {
+  values = λ name.
+      let P : Option ArrayValue → Type 0 = λ o. IfSome o HasNumbersInRange in
+      subst P (sym (get-empty (slice_cmp nat_cmp) name)) tt;
+  least_width = omega arith;
+  greatest_width = omega arith;
+}
+
+pub origin_lawful : (origin : Origin) (w : WorkspaceValue) → IsLawful w → IsLawful (with_origin origin w)
+origin_lawful origin w h = record { values = h.values; least_width = h.least_width; greatest_width = h.greatest_width }
+
+pub width_lawful : (width : ℕ) (w : WorkspaceValue) → 30 ≤ width → width ≤ 130 → IsLawful w → IsLawful (with_width width w)
+width_lawful width w least greatest h = record { values = h.values; least_width = least; greatest_width = greatest }
+
+either_value : (b : Bool) (v : ArrayValue) (o : Option ArrayValue) → HasNumbersInRange v → IfSome o HasNumbersInRange → IfSome (cond b (Some v) o) HasNumbersInRange
+either_value true v o h k = h
+either_value false v o h k = k
+
+assigned_lawful : (text : List ℕ) (v : ArrayValue) (w : WorkspaceValue) → HasNumbersInRange v → IsLawful w → IsLawful (assigned text v w)
+assigned_lawful text v w h k = record {
+  values = λ name.
+      let P : Option ArrayValue → Type 0 = λ o. IfSome o HasNumbersInRange in
+      subst P (sym (get-insert_name w.names text v name)) (either_value (is_name name text) v (value_of name w) h (k.values name));
+  least_width = k.least_width;
+  greatest_width = k.greatest_width;
+}
+
+-- ---- outcomes
+
+-- the workspace is lawful, and the value, if there is one, has a property
+abbrev IsKept : {V : Type 0} → (V → Type 0) → Outcome V → Type 0
+IsKept P (done v w) = P v × IsLawful w
+IsKept P (failed report column w) = IsLawful w
+
+then_kept : {V U : Type 0} (P : V → Type 0) (Q : U → Type 0) (m : Outcome V) (next : V → WorkspaceValue → Outcome U) → IsKept P m
+    → ((v : V) (w : WorkspaceValue) → P v → IsLawful w → IsKept Q (next v w)) → IsKept Q (then m next)
+then_kept P Q (done v w) next (h, k) goes_on = goes_on v w h k
+then_kept P Q (failed report column w) next h goes_on = h
+
+found_kept : (o : Option ArrayValue) (column : ℕ) (w : WorkspaceValue) → IfSome o HasNumbersInRange → IsLawful w → IsKept HasNumbersInRange (found o column w)
+found_kept (Some v) column w h k = (h, k)
+found_kept None column w h k = k
+
+judged_kept : (r : Result ArrayValue Report) (column : ℕ) (w : WorkspaceValue) → IfOk r HasNumbersInRange → IsLawful w → IsKept HasNumbersInRange (judged r column w)
+judged_kept (Ok v) column w h k = (h, k)
+judged_kept (Err report) column w h k = k
+
+-- of values of which nothing is wanted
+abbrev Any : {V : Type 0} → V → Type 0
+Any v = Unit {0}
+
+-- ---- the tokens of the parts of a tree
+
+abbrev InRange : Token → Type 0
+InRange t = IsLexemeInRange t.lexeme
+
+front : (ts us : List Token) → HasConstantsInRange (ts ++ us) → HasConstantsInRange ts
+front [] us h = All-nil InRange
+front (t ∷ ts) us h = All-cons InRange t ts (All-head InRange t (ts ++ us) h) (front ts us (All-tail InRange t (ts ++ us) h))
+
+behind : (ts us : List Token) → HasConstantsInRange (ts ++ us) → HasConstantsInRange us
+behind [] us h = h
+behind (t ∷ ts) us h = behind ts us (All-tail InRange t (ts ++ us) h)
+
+next : (t : Token) (ts : List Token) → HasConstantsInRange (t ∷ ts) → HasConstantsInRange ts
+next = All-tail InRange
+
+-- between two brackets
+between : (l r : Token) (ts : List Token) → HasConstantsInRange (l ∷ ts ++ r ∷ []) → HasConstantsInRange ts
+between l r ts h = front ts (r ∷ []) (next l (ts ++ r ∷ []) h)
+
+-- ---- functions
+
+-- the answers of scalar functions keep to the range
+pub record AnswersLaw : Type 0 where
+  pub monadic : (f : ScalarFunction) (b answer : ArrayValue) → HasNumbersInRange b → monadic_answer f b ≡ Ok answer → HasNumbersInRange answer
+  pub dyadic : (f : ScalarFunction) (a b answer : ArrayValue) → HasNumbersInRange a → HasNumbersInRange b → dyadic_answer f a b ≡ Ok answer → HasNumbersInRange answer
+
+either_result : (b : Bool) (r s : Result ArrayValue Report) → IfOk r HasNumbersInRange → IfOk s HasNumbersInRange → IfOk (cond b r s) HasNumbersInRange
+either_result true r s h k = h
+either_result false r s h k = k
+
+reported_in : (r : Result ArrayValue OpFault) → ((answer : ArrayValue) → r ≡ Ok answer → HasNumbersInRange answer) → IfOk (reported r) HasNumbersInRange
+reported_in (Ok answer) h = h answer refl
+reported_in (Err fault) h = tt
+
+module _ (answers : AnswersLaw) where
+  monadic_scalar_in : (f : Option ScalarFunction) (b : ArrayValue) → HasNumbersInRange b → IfOk (monadic_scalar f b) HasNumbersInRange
+  monadic_scalar_in (Some f) b h =
+      either_result (has_monadic f) (reported (monadic_answer f b)) (Err Syntax) (reported_in (monadic_answer f b) (λ answer. answers.monadic f b answer h)) tt
+  monadic_scalar_in None b h = tt
+
+  dyadic_scalar_in : (f : Option ScalarFunction) (a b : ArrayValue) → HasNumbersInRange a → HasNumbersInRange b → IfOk (dyadic_scalar f a b) HasNumbersInRange
+  dyadic_scalar_in (Some f) a b h k =
+      either_result (has_dyadic f) (reported (dyadic_answer f a b)) (Err Syntax) (reported_in (dyadic_answer f a b) (λ answer. answers.dyadic f a b answer h k)) tt
+  dyadic_scalar_in None a b h k = tt
+
+  monadic_result_in : (f : Form) (axis : Option ArrayValue) (b : ArrayValue) → HasNumbersInRange b → IfOk (monadic_result f axis b) HasNumbersInRange
+  monadic_result_in (Plain column glyph) None b h = monadic_scalar_in (scalar_function glyph) b h
+  monadic_result_in (Plain column glyph) (Some axis) b h = tt
+  monadic_result_in (Reduce column function slash_column slash_glyph) axis b h = tt
+  monadic_result_in (Inner left_column left dot right_column right) axis b h = tt
+  monadic_result_in (Outer jot dot column function) axis b h = tt
+
+  dyadic_result_in : (f : Form) (axis : Option ArrayValue) (a b : ArrayValue) → HasNumbersInRange a → HasNumbersInRange b → IfOk (dyadic_result f axis a b) HasNumbersInRange
+  dyadic_result_in (Plain column glyph) None a b h k = dyadic_scalar_in (scalar_function glyph) a b h k
+  dyadic_result_in (Plain column glyph) (Some axis) a b h k = tt
+  dyadic_result_in (Reduce column function slash_column slash_glyph) axis a b h k = tt
+  dyadic_result_in (Inner left_column left dot right_column right) axis a b h k = tt
+  dyadic_result_in (Outer jot dot column function) axis a b h k = tt
+
+  -- ---- trees
+
+  mutual
+    mean_kept : (e : Expr) (w : WorkspaceValue) → HasConstantsInRange (spells e) → IsLawful w → IsKept HasNumbersInRange (mean e w)
+    mean_kept (value o) w h k = operand_kept o w h k
+    mean_kept (dyadic o f a e) w h k =
+        let behind_operand = behind (spells_operand o) (spells_form f ++ (spells_axis a ++ spells e)) h in
+        let behind_form = behind (spells_form f) (spells_axis a ++ spells e) behind_operand in
+        then_kept HasNumbersInRange HasNumbersInRange (mean e w) _ (mean_kept e w (behind (spells_axis a) (spells e) behind_form) k)
+        (λ right u b lawful. then_kept Any HasNumbersInRange (mean_axis a u) _ (axis_kept a u (front (spells_axis a) (spells e) behind_form) lawful)
+        (λ axis v any lawful. then_kept HasNumbersInRange HasNumbersInRange (mean_operand o v) _
+        (operand_kept o v (front (spells_operand o) (spells_form f ++ (spells_axis a ++ spells e)) h) lawful)
+        (λ left x a lawful. judged_kept (dyadic_result f axis left right) (caret_column f) x (dyadic_result_in f axis left right a b) lawful)))
+    mean_kept (monadic f a e) w h k =
+        let behind_form = behind (spells_form f) (spells_axis a ++ spells e) h in
+        then_kept HasNumbersInRange HasNumbersInRange (mean e w) _ (mean_kept e w (behind (spells_axis a) (spells e) behind_form) k)
+        (λ right u b lawful. then_kept Any HasNumbersInRange (mean_axis a u) _ (axis_kept a u (front (spells_axis a) (spells e) behind_form) lawful)
+        (λ axis v any lawful. judged_kept (monadic_result f axis right) (caret_column f) v (monadic_result_in f axis right b) lawful))
+    mean_kept (assign c n r e) w h k =
+        let arrow = token_at r lexeme.Arrow in
+        let behind_arrow = next arrow (spells e) (next (token_at c (lexeme.Name n)) (arrow ∷ spells e) h) in
+        then_kept HasNumbersInRange HasNumbersInRange (mean e w) _ (mean_kept e w behind_arrow k)
+        (λ right u b lawful. (b, assigned_lawful n right u b lawful))
+    mean_kept (assign_at c n l s r a e) w h k =
+        let arrow = token_at a lexeme.Arrow in
+        let right_bracket = token_at r lexeme.CloseBracket in
+        let left_bracket = token_at l lexeme.OpenBracket in
+        let behind_list : List Token = right_bracket ∷ arrow ∷ spells e in
+        let inside = next left_bracket (spells_list s ++ behind_list) (next (token_at c (lexeme.Name n)) (left_bracket ∷ spells_list s ++ behind_list) h) in
+        let behind_arrow = next arrow (spells e) (next right_bracket (arrow ∷ spells e) (behind (spells_list s) behind_list inside)) in
+        then_kept HasNumbersInRange HasNumbersInRange (mean e w) _ (mean_kept e w behind_arrow k)
+        (λ right u b lawful. then_kept Any HasNumbersInRange (mean_slots s u) _ (slots_kept s u (front (spells_list s) behind_list inside) lawful)
+        (λ slots v any lawful. lawful))
+
+    operand_kept : (o : Operand) (w : WorkspaceValue) → HasConstantsInRange (spells_operand o) → IsLawful w → IsKept HasNumbersInRange (mean_operand o w)
+    operand_kept (constant column v) w h k = (All-head InRange (token_at column (lexeme.Constant v)) [] h, k)
+    operand_kept (name column text) w h k = found_kept (value_of text w) column w (k.values text) k
+    operand_kept (group l e r) w h k = mean_kept e w (between (token_at l lexeme.OpenParen) (token_at r lexeme.CloseParen) (spells e) h) k
+    operand_kept (index o l s r) w h k =
+        let left_bracket = token_at l lexeme.OpenBracket in
+        let right_bracket = token_at r lexeme.CloseBracket in
+        let list : List Token = left_bracket ∷ (spells_list s ++ right_bracket ∷ []) in
+        then_kept Any HasNumbersInRange (mean_slots s w) _
+        (slots_kept s w (between left_bracket right_bracket (spells_list s) (behind (spells_operand o) list h)) k)
+        (λ slots u any lawful. then_kept HasNumbersInRange HasNumbersInRange (mean_operand o u) _ (operand_kept o u (front (spells_operand o) list h) lawful)
+        (λ array v a lawful. lawful))
+
+    slots_kept : (s : Slots) (w : WorkspaceValue) → HasConstantsInRange (spells_list s) → IsLawful w → IsKept Any (mean_slots s w)
+    slots_kept (last s) w h k = then_kept Any Any (mean_slot s w) _ (slot_kept s w h k) (λ slot u any lawful. (tt, lawful))
+    slots_kept (more s c ss) w h k =
+        let semicolon = token_at c lexeme.Semicolon in
+        let others = next semicolon (spells_list ss) (behind (spells_slot s) (semicolon ∷ spells_list ss) h) in
+        then_kept Any Any (mean_slots ss w) _ (slots_kept ss w others k)
+        (λ slots u any lawful. then_kept Any Any (mean_slot s u) _ (slot_kept s u (front (spells_slot s) (semicolon ∷ spells_list ss) h) lawful)
+        (λ slot v any lawful. (tt, lawful)))
+
+    slot_kept : (s : Slot) (w : WorkspaceValue) → HasConstantsInRange (spells_slot s) → IsLawful w → IsKept Any (mean_slot s w)
+    slot_kept nothing w h k = (tt, k)
+    slot_kept (given e) w h k = then_kept HasNumbersInRange Any (mean e w) _ (mean_kept e w h k) (λ v u b lawful. (tt, lawful))
+
+    axis_kept : (a : Axis) (w : WorkspaceValue) → HasConstantsInRange (spells_axis a) → IsLawful w → IsKept Any (mean_axis a w)
+    axis_kept none w h k = (tt, k)
+    axis_kept (along l e r) w h k =
+        then_kept HasNumbersInRange Any (mean e w) _
+        (mean_kept e w (between (token_at l lexeme.OpenBracket) (token_at r lexeme.CloseBracket) (spells e) h) k)
+        (λ v u b lawful. (tt, lawful))
+
+  kept_lawful : (m : Outcome ArrayValue) → IsKept HasNumbersInRange m → IsLawfulOutcome m
+  kept_lawful (done v w) h = h
+  kept_lawful (failed report column w) h = h
+
+  pub outcome_lawful : (tree : Expr) (w : WorkspaceValue) → HasConstantsInRange (spells tree) → IsLawful w → IsLawfulOutcome (mean tree w)
+  outcome_lawful tree w h k = kept_lawful (mean tree w) (mean_kept tree w h k)
+
+  pub evaluated_lawful : (tree : Expr) (old new : WorkspaceValue) (result : Result Shown EvalStop) → HasConstantsInRange (spells tree) → IsLawful old
+      → Evaluates tree old new result → IsLawful new
+  evaluated_lawful tree old new (Ok shown) h k (v, is, shows) = (subst IsLawfulOutcome is (outcome_lawful tree old h k)).1
+  evaluated_lawful tree old new (Err (Error report column)) h k is = subst IsLawfulOutcome is (outcome_lawful tree old h k)
+  evaluated_lawful tree old new (Err Memory) h k is = subst IsLawful (sym is) k

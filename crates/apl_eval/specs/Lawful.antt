@@ -1,0 +1,17 @@
+-- Lawful workspaces. Those of a session are among them.
+use Rattle.std.specs.Prelude.{ℕ, ◌≤◌, List, IfSome}
+use Rattle.apl_array.specs.Array.{ArrayValue}
+use Rattle.apl_array.specs.Range.{HasNumbersInRange}
+use Rattle.apl_eval.specs.Workspace.{WorkspaceValue, value_of}
+use Rattle.apl_eval.specs.Meaning.{Outcome, done, failed}
+
+-- the numbers of each name's value are in the range, and lines have from 30 to 130 characters
+pub record IsLawful (w : WorkspaceValue) : Type 0 where
+  pub values : (name : List ℕ) → IfSome (value_of name w) HasNumbersInRange
+  pub least_width : 30 ≤ w.width
+  pub greatest_width : w.width ≤ 130
+
+-- the workspace behind a value or a report is lawful, and the numbers of the value are in the range
+abbrev pub IsLawfulOutcome : Outcome ArrayValue → Type 0
+IsLawfulOutcome (done v w) = HasNumbersInRange v × IsLawful w
+IsLawfulOutcome (failed report column w) = IsLawful w

@@ -1,0 +1,25 @@
+//! What is true of all statements in lawful workspaces.
+ghost use Rattle.std.specs.Prelude.{ℕ, ◌≤◌, Result};
+ghost use Rattle.apl_array.specs.declared.axis.Origin.{Origin};
+ghost use Rattle.apl_tokens.specs.Constants.{HasConstantsInRange};
+ghost use Rattle.apl_grammar.specs.Tree.{Expr, spells};
+ghost use Rattle.apl_eval.specs.declared.statement.Shown.{Shown};
+ghost use Rattle.apl_eval.specs.declared.statement.EvalStop.{EvalStop};
+ghost use Rattle.apl_eval.specs.Workspace.{WorkspaceValue, with_origin, with_width, opening_workspace};
+ghost use Rattle.apl_eval.specs.Meaning.{mean};
+ghost use Rattle.apl_eval.specs.Evaluates.{Evaluates};
+ghost use Rattle.apl_eval.specs.Lawful.{IsLawful, IsLawfulOutcome};
+
+use apl_scalar::answers_are_in_range;
+
+/// A new workspace is lawful. Settings and statements keep it so, and the numbers of a statement's value are in the range.
+pub fn lawful_stays()
+    ensures opening { IsLawful opening_workspace }
+    ensures origin { (origin : Origin) (w : WorkspaceValue) → IsLawful w → IsLawful (with_origin origin w) }
+    ensures width { (width : ℕ) (w : WorkspaceValue) → 30 ≤ width → width ≤ 130 → IsLawful w → IsLawful (with_width width w) }
+    ensures outcome { (tree : Expr) (w : WorkspaceValue) → HasConstantsInRange (spells tree) → IsLawful w → IsLawfulOutcome (mean tree w) }
+    ensures evaluated { (tree : Expr) (old new : WorkspaceValue) (result : Result Shown EvalStop) → HasConstantsInRange (spells tree)
+        → IsLawful old → Evaluates tree old new result → IsLawful new }
+{
+    answers_are_in_range();
+}

@@ -1,0 +1,67 @@
+-- A line has some step in each lawful workspace.
+use Rattle.std.proofs.Common.{◌≡◌, ◌≤◌, ℕ, [], List, refl}
+use Rattle.std.specs.Prelude.{Bool, true, false, MatchBool, encode_utf8_all}
+use Rattle.apl_array.specs.declared.axis.Origin.{Origin}
+use Rattle.apl_array.specs.Array.{ArrayValue}
+use Rattle.apl_array.specs.Range.{HasNumbersInRange}
+use Rattle.apl_tokens.specs.declared.token.Token.{Token}
+use Rattle.apl_tokens.specs.Lexis.{Lexes}
+use Rattle.apl_tokens.specs.Constants.{HasConstantsInRange}
+use Rattle.apl_grammar.specs.Tree.{Expr, spells}
+use Rattle.apl_print.specs.Shown.{IsShown}
+use Rattle.apl_syntax.specs.declared.lines.Command.{Command}
+use Rattle.apl_syntax.specs.declared.lines.Command.TheVariants.{Origin as SetOrigin, Width, Clear, Off, Incorrect}
+use Rattle.apl_syntax.specs.Reading.{Reading, character, command, blank, statement, syntax, limit, IsReading}
+use Rattle.apl_eval.specs.Workspace.{WorkspaceValue, with_origin, with_width, opening_workspace}
+use Rattle.apl_eval.specs.Meaning.{Outcome, done, failed, mean, is_assignment}
+use Rattle.apl_eval.specs.Lawful.{IsLawful, IsLawfulOutcome}
+use Rattle.apl_session.specs.Run.{Answer, IsTotal}
+use Rattle.apl_session.specs.Step.{says, reports, obeyed, Prints, IsStatementAnswer, IsAnswerTo, session_semantics}
+
+-- the laws of the crates below
+pub record StepLaws : Type 0 where
+  pub reading : (line : List ℕ) → (reading : Reading) × IsReading line reading
+  pub constants : (characters : List ℕ) (tokens : List Token) → Lexes characters tokens → HasConstantsInRange tokens
+  pub opening : IsLawful opening_workspace
+  pub origin : (origin : Origin) (w : WorkspaceValue) → IsLawful w → IsLawful (with_origin origin w)
+  pub width : (width : ℕ) (w : WorkspaceValue) → 30 ≤ width → width ≤ 130 → IsLawful w → IsLawful (with_width width w)
+  pub outcome : (tree : Expr) (w : WorkspaceValue) → HasConstantsInRange (spells tree) → IsLawful w → IsLawfulOutcome (mean tree w)
+  pub shown : (a : ArrayValue) (width : ℕ) → HasNumbersInRange a → 30 ≤ width → (text : List ℕ) × IsShown a width text
+
+module _ (laws : StepLaws) where
+  -- a value is printed, unless the statement is an assignment
+  some_done : (silent : Bool) (v : ArrayValue) (after : WorkspaceValue) → HasNumbersInRange v → IsLawful after
+      → (answer : Answer WorkspaceValue) × MatchBool silent (answer ≡ says [] after) (Prints v after answer) × IsLawful answer.after
+  some_done true v after numbers lawful = (says [] after, refl, lawful)
+  some_done false v after numbers lawful =
+      let shown = laws.shown v after.width numbers lawful.least_width in
+      (says (encode_utf8_all shown.0) after, (shown.0, shown.1, refl), lawful)
+
+  some_statement : (line : List ℕ) (tree : Expr) (outcome : Outcome ArrayValue) → IsLawfulOutcome outcome
+      → (answer : Answer WorkspaceValue) × IsStatementAnswer line tree outcome answer × IsLawful answer.after
+  some_statement line tree (done v after) (numbers, lawful) = some_done (is_assignment tree) v after numbers lawful
+  some_statement line tree (failed report column after) lawful = (reports report line column after, refl, lawful)
+
+  obeyed_lawful : (state : WorkspaceValue) (line : List ℕ) (given : Command) → IsReading line (command given) → IsLawful state → IsLawful (obeyed given state).after
+  obeyed_lawful state line (SetOrigin origin) is lawful = laws.origin origin state lawful
+  obeyed_lawful state line (Width width) (characters, listed, (text, word, argument, has, parts, (spelled, digits, least, greatest))) lawful =
+      laws.width width state least greatest lawful
+  obeyed_lawful state line Clear is lawful = laws.opening
+  obeyed_lawful state line Off is lawful = lawful
+  obeyed_lawful state line Incorrect is lawful = lawful
+
+  some_answer : (state : WorkspaceValue) (line : List ℕ) (r : Reading) → IsReading line r → IsLawful state
+      → (answer : Answer WorkspaceValue) × IsAnswerTo state line r answer × IsLawful answer.after
+  some_answer state line (command given) is lawful = (obeyed given state, refl, obeyed_lawful state line given is lawful)
+  some_answer state line (statement tree) (characters, listed, (not, (lexed, tree_is))) lawful =
+      some_statement line tree (mean tree state) (laws.outcome tree state (laws.constants characters (spells tree) lexed) lawful)
+  some_answer state line blank is lawful = (_, refl, lawful)
+  some_answer state line (character bytes column) is lawful = (_, refl, lawful)
+  some_answer state line (syntax column) is lawful = (_, refl, lawful)
+  some_answer state line (limit column) is lawful = (_, refl, lawful)
+
+  pub some_step_of : IsTotal IsLawful session_semantics
+  some_step_of state line lawful =
+      let read = laws.reading line in
+      let found = some_answer state line read.0 read.1 lawful in
+      (found.0, (read.0, read.1, found.1), found.2)
