@@ -1,5 +1,4 @@
 //! The tables at worked values, and arrays of several shapes.
-ghost use Rattle.std.specs.Prelude.{◌≤◌};
 
 use crate::{
     OpFault, Prim, answer_is_each_outcome, answers_are_in_range, apply1, apply2, dyadic, identity,
@@ -8,6 +7,7 @@ use crate::{
 use apl_array::{Array, Elem, Shape};
 use apl_pool::{Every, Fault, Open, Pool};
 use std::alloc::Global;
+use std::process::Abort;
 use std::test::Fail;
 use std::thread::Threads;
 
@@ -159,221 +159,254 @@ fn identities(rt: HostRuntime) -> Result<(), Fail> {
     Ok(())
 }
 
-/// The array of this shape and these numbers.
-fn table(alloc: Global, lengths: &[usize], numbers: &[i64]) -> Result<Array, OpFault> {
-    let Ok(shape) = Shape::new(alloc, lengths) else {
-        return Err(OpFault::Limit);
-    };
+/// An argument of a function.
+#[derive(Clone, Copy, Debug, Drop)]
+enum Argument {
+    /// The array of this shape and these numbers.
+    Numbers(&'static [usize], &'static [i64]),
+    /// The vector of these characters.
+    Text(&'static str),
+}
+
+/// What a function is to answer.
+#[derive(Clone, Copy)]
+enum Answer {
+    /// The array of this shape and these numbers.
+    Is(&'static [usize], &'static [i64]),
+    Stops(OpFault),
+}
+
+use Answer::{Is, Stops};
+use Argument::{Numbers, Text};
+
+fn numbers_of(alloc: Global, lengths: &[usize], numbers: &[i64]) -> Result<Array, Fail> {
+    let shape = Shape::new(alloc, lengths)?;
     let items = Vec::from_slice(alloc, numbers)?;
     if items.len() != shape.count() {
-        return Err(OpFault::Length);
+        return Err(Fail::new("the numbers don't fill the shape"));
     }
     Ok(Array::ints(shape, items))
 }
 
-/// The vector of these characters.
-fn text(alloc: Global, characters: &[char]) -> Result<Array, OpFault> {
-    let Ok(shape) = Shape::new(alloc, &[characters.len()]) else {
-        return Err(OpFault::Limit);
-    };
-    let items = Vec::from_slice(alloc, characters)?;
+fn characters_of(alloc: Global, characters: &str) -> Result<Array, Fail> {
+    let items: Vec<char> = characters.chars().collect(alloc)?;
+    let shape = Shape::new(alloc, &[items.len()])?;
     if items.len() != shape.count() {
-        return Err(OpFault::Length);
+        return Err(Fail::new("the characters don't fill the shape"));
     }
     Ok(Array::chars(shape, items))
 }
 
-/// A monadic function by two workers and pieces of one.
-fn one<R: Threads + Sync>(
-    rt: &R,
-    alloc: Global,
-    f: Prim,
-    right: Result<Array, OpFault>,
-) -> Result<Array, OpFault> {
-    if !f.is_monadic() {
-        return Err(OpFault::Index);
+fn array_of(alloc: Global, argument: Argument) -> Result<Array, Fail> {
+    match argument {
+        Numbers(lengths, numbers) => numbers_of(alloc, lengths, numbers),
+        Text(characters) => characters_of(alloc, characters),
     }
-    monadic(rt, alloc, &Pool::new(2, Every(1), Open), f, &right?)
 }
 
-/// A dyadic function by three workers and pieces of one.
-fn both<R: Threads + Sync>(
-    rt: &R,
-    alloc: Global,
-    left: Result<Array, OpFault>,
-    f: Prim,
-    right: Result<Array, OpFault>,
-) -> Result<Array, OpFault> {
-    if !f.is_dyadic() {
-        return Err(OpFault::Index);
+fn is_answer(answer: Result<Array, OpFault>, wanted: Answer) -> bool {
+    match (answer, wanted) {
+        (Ok(array), Is(lengths, numbers)) => {
+            array.shape().lengths() == lengths && array.numbers() == Some(numbers)
+        }
+        (Err(fault), Stops(wanted)) => fault == wanted,
+        _ => false,
     }
-    dyadic(rt, alloc, &Pool::new(3, Every(1), Open), f, &left?, &right?)
 }
 
-/// The answer is the array of this shape and these numbers.
-fn is(answer: Result<Array, OpFault>, lengths: &[usize], numbers: &[i64]) -> bool {
-    match answer {
-        Ok(array) => array.shape().lengths() == lengths && array.numbers() == Some(numbers),
-        Err(_) => false,
+/// Checks monadic functions by two workers and pieces of one.
+fn check_monadic<R: Abort + Threads + Sync>(
+    rt: &R,
+    alloc: Global,
+    rows: &[(Prim, Argument, Answer)],
+) -> Result<(), Fail> {
+    let pool = Pool::new(2, Every(1), Open);
+    for (f, argument, wanted) in rows {
+        let right = array_of(alloc, *argument)?;
+        assert!(rt; f.is_monadic());
+        let answer = monadic(rt, alloc, &pool, *f, &right);
+        assert!(rt; is_answer(answer, *wanted), "{f:?} {argument:?}");
     }
+    Ok(())
+}
+
+/// Checks dyadic functions by three workers and pieces of one.
+fn check_dyadic<R: Abort + Threads + Sync>(
+    rt: &R,
+    alloc: Global,
+    rows: &[(Argument, Prim, Argument, Answer)],
+) -> Result<(), Fail> {
+    let pool = Pool::new(3, Every(1), Open);
+    for (left, f, right, wanted) in rows {
+        let first = array_of(alloc, *left)?;
+        let second = array_of(alloc, *right)?;
+        assert!(rt; f.is_dyadic());
+        let answer = dyadic(rt, alloc, &pool, *f, &first, &second);
+        assert!(rt; is_answer(answer, *wanted), "{left:?} {f:?} {right:?}");
+    }
+    Ok(())
 }
 
 #[test]
-fn one_argument(rt: HostRuntime) {
-    let alloc = rt.alloc();
-    let bits = table(alloc, &[3], &[0, 1, 1]);
-    assert!(rt; is(one(&rt, alloc, Prim::Tilde, bits), &[3], &[1, 0, 0]));
-    let signed = table(alloc, &[3, 1], &[-7, 0, 7]);
-    assert!(rt; is(one(&rt, alloc, Prim::Times, signed), &[3, 1], &[-1, 0, 1]));
-    assert!(rt; is(one(&rt, alloc, Prim::Plus, text(alloc, &[])), &[0], &[]));
-    let least = one(&rt, alloc, Prim::Minus, table(alloc, &[], &[LEAST]));
-    assert_eq!(rt; least.err(), Some(OpFault::Limit));
-    let letters = one(&rt, alloc, Prim::Floor, text(alloc, &['A', 'B']));
-    assert_eq!(rt; letters.err(), Some(OpFault::Domain));
+fn one_argument(rt: HostRuntime) -> Result<(), Fail> {
+    check_monadic(
+        &rt,
+        rt.alloc(),
+        &[
+            (Prim::Tilde, Numbers(&[3], &[0, 1, 1]), Is(&[3], &[1, 0, 0])),
+            (
+                Prim::Times,
+                Numbers(&[3, 1], &[-7, 0, 7]),
+                Is(&[3, 1], &[-1, 0, 1]),
+            ),
+            (Prim::Plus, Text(""), Is(&[0], &[])),
+            (Prim::Minus, Numbers(&[], &[LEAST]), Stops(OpFault::Limit)),
+            (Prim::Floor, Text("AB"), Stops(OpFault::Domain)),
+        ],
+    )
 }
 
 #[test]
-fn scalar_rank(rt: HostRuntime) {
-    let alloc = rt.alloc();
-    let square = table(alloc, &[2, 2], &[1, 2, 3, 4]);
-    let sums = both(&rt, alloc, square, Prim::Plus, table(alloc, &[1], &[10]));
-    assert!(rt; is(sums, &[2, 2], &[11, 12, 13, 14]));
-    let one = table(alloc, &[1, 1], &[5]);
-    let larger = both(&rt, alloc, table(alloc, &[1], &[3]), Prim::Plus, one);
-    assert!(rt; is(larger, &[1, 1], &[8]));
-    let square = table(alloc, &[2, 2], &[0, 0, 0, 0]);
-    let ranks = both(&rt, alloc, table(alloc, &[2], &[1, 2]), Prim::Plus, square);
-    assert_eq!(rt; ranks.err(), Some(OpFault::Rank));
-    let wide = table(alloc, &[2, 3], &[0, 0, 0, 0, 0, 0]);
-    let high = table(alloc, &[3, 2], &[0, 0, 0, 0, 0, 0]);
-    let lengths = both(&rt, alloc, wide, Prim::Plus, high);
-    assert_eq!(rt; lengths.err(), Some(OpFault::Length));
-    let shape = Shape::new(alloc, &[2, 3, 4]).expect(&rt, "a shape");
+fn extended_arguments(rt: HostRuntime) -> Result<(), Fail> {
+    const SQUARE: Argument = Numbers(&[2, 2], &[1, 2, 3, 4]);
+    const CUBE: Argument = Numbers(&[1, 1, 1], &[5]);
+    check_dyadic(
+        &rt,
+        rt.alloc(),
+        &[
+            (
+                SQUARE,
+                Prim::Plus,
+                Numbers(&[1], &[10]),
+                Is(&[2, 2], &[11, 12, 13, 14]),
+            ),
+            (
+                Numbers(&[1], &[10]),
+                Prim::Minus,
+                SQUARE,
+                Is(&[2, 2], &[9, 8, 7, 6]),
+            ),
+            (
+                SQUARE,
+                Prim::Minus,
+                Numbers(&[], &[10]),
+                Is(&[2, 2], &[-9, -8, -7, -6]),
+            ),
+            (
+                Numbers(&[1], &[3]),
+                Prim::Plus,
+                Numbers(&[1, 1], &[5]),
+                Is(&[1, 1], &[8]),
+            ),
+            (
+                Numbers(&[], &[5]),
+                Prim::Minus,
+                Numbers(&[1], &[3]),
+                Is(&[1], &[2]),
+            ),
+            (
+                CUBE,
+                Prim::Plus,
+                Numbers(&[3], &[1, 2, 3]),
+                Is(&[3], &[6, 7, 8]),
+            ),
+            (Numbers(&[2, 0], &[]), Prim::Plus, CUBE, Is(&[2, 0], &[])),
+            (Text("ABA"), Prim::Equal, Text("A"), Is(&[3], &[1, 0, 1])),
+            (Text("B"), Prim::NotEqual, Text("ABA"), Is(&[3], &[1, 0, 1])),
+            (
+                Numbers(&[], &[65]),
+                Prim::NotEqual,
+                Text("ABA"),
+                Is(&[3], &[1, 1, 1]),
+            ),
+        ],
+    )
+}
+
+#[test]
+fn arrays_of_characters(rt: HostRuntime) -> Result<(), Fail> {
+    check_dyadic(
+        &rt,
+        rt.alloc(),
+        &[
+            (Text("AB"), Prim::Equal, Text("AC"), Is(&[2], &[1, 0])),
+            (Numbers(&[], &[1]), Prim::Equal, Text("A"), Is(&[1], &[0])),
+            (Text(""), Prim::Equal, Text(""), Is(&[0], &[])),
+            (Text("A"), Prim::Plus, Numbers(&[0], &[]), Is(&[0], &[])),
+            (
+                Text("AB"),
+                Prim::Plus,
+                Numbers(&[2], &[1, 2]),
+                Stops(OpFault::Domain),
+            ),
+        ],
+    )
+}
+
+#[test]
+fn shapes_come_before_elements(rt: HostRuntime) -> Result<(), Fail> {
+    const SQUARE: Argument = Numbers(&[2, 2], &[0, 0, 0, 0]);
+    const WIDE: Argument = Numbers(&[2, 3], &[0, 0, 0, 0, 0, 0]);
+    const HIGH: Argument = Numbers(&[3, 2], &[0, 0, 0, 0, 0, 0]);
+    check_dyadic(
+        &rt,
+        rt.alloc(),
+        &[
+            (
+                Numbers(&[2], &[1, 2]),
+                Prim::Plus,
+                SQUARE,
+                Stops(OpFault::Rank),
+            ),
+            (WIDE, Prim::Plus, HIGH, Stops(OpFault::Length)),
+            (
+                Text("AB"),
+                Prim::Plus,
+                Numbers(&[3], &[1, 2, 3]),
+                Stops(OpFault::Length),
+            ),
+            (
+                Text(""),
+                Prim::Plus,
+                Numbers(&[2], &[1, 2]),
+                Stops(OpFault::Length),
+            ),
+            (Text("AB"), Prim::Less, SQUARE, Stops(OpFault::Rank)),
+        ],
+    )
+}
+
+#[test]
+fn places_of_a_shape(rt: HostRuntime) -> Result<(), Fail> {
+    let shape = Shape::new(rt.alloc(), &[2, 3, 4])?;
     assert_eq!(rt; shape.place(&[1, 2, 3]), 23);
     assert_eq!(rt; shape.coordinate(23, 1), 2);
+    Ok(())
 }
 
-#[test]
-fn extended_arguments(rt: HostRuntime) {
-    let alloc = rt.alloc();
-    let square = table(alloc, &[2, 2], &[1, 2, 3, 4]);
-    let rests = both(&rt, alloc, table(alloc, &[1], &[10]), Prim::Minus, square);
-    assert!(rt; is(rests, &[2, 2], &[9, 8, 7, 6]));
-    let square = table(alloc, &[2, 2], &[1, 2, 3, 4]);
-    let rests = both(&rt, alloc, square, Prim::Minus, table(alloc, &[], &[10]));
-    assert!(rt; is(rests, &[2, 2], &[-9, -8, -7, -6]));
-    let cube = table(alloc, &[1, 1, 1], &[5]);
-    let vector = both(&rt, alloc, cube, Prim::Plus, table(alloc, &[3], &[1, 2, 3]));
-    assert!(rt; is(vector, &[3], &[6, 7, 8]));
-    let scalar = table(alloc, &[], &[5]);
-    let vector = both(&rt, alloc, scalar, Prim::Minus, table(alloc, &[1], &[3]));
-    assert!(rt; is(vector, &[1], &[2]));
-    let cube = table(alloc, &[1, 1, 1], &[5]);
-    let empty = both(&rt, alloc, table(alloc, &[2, 0], &[]), Prim::Plus, cube);
-    assert!(rt; is(empty, &[2, 0], &[]));
-    let letters = text(alloc, &['A', 'B', 'A']);
-    let found = both(&rt, alloc, letters, Prim::Equal, text(alloc, &['A']));
-    assert!(rt; is(found, &[3], &[1, 0, 1]));
-    let letters = text(alloc, &['A', 'B', 'A']);
-    let found = both(&rt, alloc, text(alloc, &['B']), Prim::NotEqual, letters);
-    assert!(rt; is(found, &[3], &[1, 0, 1]));
-    let letters = text(alloc, &['A', 'B', 'A']);
-    let none = both(
-        &rt,
-        alloc,
-        table(alloc, &[], &[65]),
-        Prim::NotEqual,
-        letters,
-    );
-    assert!(rt; is(none, &[3], &[1, 1, 1]));
-}
-
-#[test]
-fn arrays_of_characters(rt: HostRuntime) {
-    let alloc = rt.alloc();
-    let same = both(
-        &rt,
-        alloc,
-        text(alloc, &['A', 'B']),
-        Prim::Equal,
-        text(alloc, &['A', 'C']),
-    );
-    assert!(rt; is(same, &[2], &[1, 0]));
-    let mixed = both(
-        &rt,
-        alloc,
-        table(alloc, &[], &[1]),
-        Prim::Equal,
-        text(alloc, &['A']),
-    );
-    assert!(rt; is(mixed, &[1], &[0]));
-    let empty = both(&rt, alloc, text(alloc, &[]), Prim::Equal, text(alloc, &[]));
-    assert!(rt; is(empty, &[0], &[]));
-    let none = both(
-        &rt,
-        alloc,
-        text(alloc, &['A']),
-        Prim::Plus,
-        table(alloc, &[0], &[]),
-    );
-    assert!(rt; is(none, &[0], &[]));
-    let letters = both(
-        &rt,
-        alloc,
-        text(alloc, &['A', 'B']),
-        Prim::Plus,
-        table(alloc, &[2], &[1, 2]),
-    );
-    assert_eq!(rt; letters.err(), Some(OpFault::Domain));
-}
-
-#[test]
-fn shapes_come_before_elements(rt: HostRuntime) {
-    let alloc = rt.alloc();
-    let numbers = table(alloc, &[3], &[1, 2, 3]);
-    let lengths = both(&rt, alloc, text(alloc, &['A', 'B']), Prim::Plus, numbers);
-    assert_eq!(rt; lengths.err(), Some(OpFault::Length));
-    let none = both(
-        &rt,
-        alloc,
-        text(alloc, &[]),
-        Prim::Plus,
-        table(alloc, &[2], &[1, 2]),
-    );
-    assert_eq!(rt; none.err(), Some(OpFault::Length));
-    let square = table(alloc, &[2, 2], &[0, 0, 0, 0]);
-    let ranks = both(&rt, alloc, text(alloc, &['A', 'B']), Prim::Less, square);
-    assert_eq!(rt; ranks.err(), Some(OpFault::Rank));
-}
-
-/// How a pool refuses the quotients of two vectors of two.
-fn refusal<R: Threads + Sync>(
+/// Checks how each pool refuses the quotients of two vectors of two.
+fn check_refusals<R: Abort + Threads + Sync>(
     rt: &R,
     alloc: Global,
-    workers: u8,
-    piece: usize,
     left: &[i64],
     right: &[i64],
-) -> Option<OpFault>
-    requires some { 1 ≤ workers }
-    requires most { workers ≤ 64 }
-{
-    let (Ok(left), Ok(right)) = (table(alloc, &[2], left), table(alloc, &[2], right)) else {
-        return None;
-    };
-    let pool = Pool::new(workers, Every(piece), Open);
-    dyadic(rt, alloc, &pool, Prim::Divide, &left, &right).err()
+    fault: OpFault,
+) -> Result<(), Fail> {
+    let left = numbers_of(alloc, &[2], left)?;
+    let right = numbers_of(alloc, &[2], right)?;
+    for workers in [1, 2, 3, 64u8] {
+        for piece in [0, 1, 2, 3, 4096, usize::MAX] {
+            let pool = Pool::new(workers, Every(piece), Open);
+            let answer = dyadic(rt, alloc, &pool, Prim::Divide, &left, &right);
+            assert_eq!(rt; answer.err(), Some(fault));
+        }
+    }
+    Ok(())
 }
 
 #[test]
-fn the_least_place_decides(rt: HostRuntime) {
+fn the_least_place_decides(rt: HostRuntime) -> Result<(), Fail> {
     let alloc = rt.alloc();
-    for workers in [1, 2, 3, 64u8] {
-        for piece in [0, 1, 2, 3, 4096, usize::MAX] {
-            let first = refusal(&rt, alloc, workers, piece, &[1, LEAST], &[0, -1]);
-            assert_eq!(rt; first, Some(OpFault::Domain));
-            let first = refusal(&rt, alloc, workers, piece, &[LEAST, 1], &[-1, 0]);
-            assert_eq!(rt; first, Some(OpFault::Limit));
-        }
-    }
+    check_refusals(&rt, alloc, &[1, LEAST], &[0, -1], OpFault::Domain)?;
+    check_refusals(&rt, alloc, &[LEAST, 1], &[-1, 0], OpFault::Limit)
 }

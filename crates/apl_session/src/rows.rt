@@ -8,7 +8,9 @@ use std::alloc::{AllocError, Global};
 use std::process::Abort;
 use std::test::Fail;
 use std::thread::Threads;
-use tables::{CARETS, COMMANDS, FORMS_TO_COME, LINES, NUMERALS, SCALARS, TEXTS, UNLISTED, VALUES};
+use tables::{
+    CARETS, COMMANDS, FORMS_TO_COME, KINDS, LINES, NUMERALS, SCALARS, TEXTS, UNLISTED, VALUES,
+};
 
 /// Whether a session writes exactly this on a pool, by takes and puts of at most so many bytes.
 fn writes<R: Threads + Sync>(
@@ -36,12 +38,17 @@ const WORKERS: [u8; 4] = [1, 2, 3, 64];
 /// What a cut answers to how many elements a piece has. One of none and one of more than there are cut too.
 const PIECES: [usize; 6] = [1, 2, 3, 4096, 0, usize::MAX];
 
-/// Checks what each session of a table writes, by takes and puts of each size, and on each pool.
+/// Checks what each session of a table writes, by takes and puts of each size.
 fn check<R: Abort + Threads + Sync>(rt: &R, alloc: Global, sessions: &[(&str, &str)]) {
     let pool = Pool::new(3, Every(2), Open);
     for most in SIZES {
         check_on(rt, alloc, &pool, most, sessions);
     }
+}
+
+/// Checks what each session of a table writes, by takes and puts of each size, and on each pool.
+fn check_on_each_pool<R: Abort + Threads + Sync>(rt: &R, alloc: Global, sessions: &[(&str, &str)]) {
+    check(rt, alloc, sessions);
     for workers in WORKERS {
         for piece in PIECES {
             let pool = Pool::new(workers, Every(piece), Open);
@@ -66,19 +73,25 @@ fn check_on<R: Abort + Threads + Sync>(
 
 #[test]
 fn values_names_and_functions(rt: HostRuntime) -> Result<(), Fail> {
-    check(&rt, rt.alloc(), &VALUES);
+    check_on_each_pool(&rt, rt.alloc(), &VALUES);
     Ok(())
 }
 
 #[test]
 fn scalar_functions(rt: HostRuntime) -> Result<(), Fail> {
-    check(&rt, rt.alloc(), &SCALARS);
+    check_on_each_pool(&rt, rt.alloc(), &SCALARS);
     Ok(())
 }
 
 #[test]
 fn lines_and_comments(rt: HostRuntime) -> Result<(), Fail> {
-    check(&rt, rt.alloc(), &LINES);
+    check_on_each_pool(&rt, rt.alloc(), &LINES);
+    Ok(())
+}
+
+#[test]
+fn lines_of_other_kinds(rt: HostRuntime) -> Result<(), Fail> {
+    check_on_each_pool(&rt, rt.alloc(), &KINDS);
     Ok(())
 }
 

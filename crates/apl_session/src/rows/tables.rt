@@ -1,7 +1,7 @@
 //! Sessions and what they write.
 
 /// Functions, names and assignments.
-pub(super) const VALUES: [(&str, &str); 15] = [
+pub(super) const VALUES: [(&str, &str); 17] = [
     ("10-4-3\n", "9\n"),
     ("2+3 4 5\n", "5 6 7\n"),
     ("10-4-3\n2+3 4 5\n", "9\n5 6 7\n"),
@@ -23,29 +23,27 @@ pub(super) const VALUES: [(&str, &str); 15] = [
         "LENGTH ERROR\n      'AB'+1 2 3\n          ∧\n",
     ),
     ("1-'A'\n", "DOMAIN ERROR\n      1-'A'\n       ∧\n"),
+    (
+        "B←5+÷0×C←4\nC\nB\n",
+        "DOMAIN ERROR\n      B←5+÷0×C←4\n          ∧\n4\nVALUE ERROR\n      B\n      ∧\n",
+    ),
+    ("(B)+B←2\n", "4\n"),
 ];
 
 /// The scalar functions.
-pub(super) const SCALARS: [(&str, &str); 22] = [
+pub(super) const SCALARS: [(&str, &str); 29] = [
     (
-        "1 ¯9223372036854775808÷0 ¯1\n",
-        "DOMAIN ERROR\n      1 ¯9223372036854775808÷0 ¯1\n                            ∧\n",
+        "1 ¯9223372036854775808÷0 ¯1\n¯9223372036854775808 1÷¯1 0\n",
+        "DOMAIN ERROR\n      1 ¯9223372036854775808÷0 ¯1\n                            ∧\nLIMIT ERROR\n      ¯9223372036854775808 1÷¯1 0\n                            ∧\n",
     ),
     (
-        "¯9223372036854775808 1÷¯1 0\n",
-        "LIMIT ERROR\n      ¯9223372036854775808 1÷¯1 0\n                            ∧\n",
+        "0÷0\n7÷2\n3|¯7 7\n¯3|7\n0|¯5\n",
+        "1\nDOMAIN ERROR\n      7÷2\n       ∧\n2 1\n¯2\n¯5\n",
     ),
-    ("0÷0\n", "1\n"),
-    ("7÷2\n", "DOMAIN ERROR\n      7÷2\n       ∧\n"),
-    ("3|¯7 7\n", "2 1\n"),
-    ("¯3|7\n", "¯2\n"),
-    ("0|¯5\n", "¯5\n"),
-    ("!20\n", "2432902008176640000\n"),
-    ("!21\n", "LIMIT ERROR\n      !21\n      ∧\n"),
-    ("2!5\n", "10\n"),
-    ("¯2*63\n", "¯9223372036854775808\n"),
-    ("2*63\n", "LIMIT ERROR\n      2*63\n       ∧\n"),
-    ("2*¯1\n", "DOMAIN ERROR\n      2*¯1\n       ∧\n"),
+    (
+        "!20\n!21\n2!5\n¯2*63\n2*63\n2*¯1\n",
+        "2432902008176640000\nLIMIT ERROR\n      !21\n      ∧\n10\n¯9223372036854775808\nLIMIT ERROR\n      2*63\n       ∧\nDOMAIN ERROR\n      2*¯1\n       ∧\n",
+    ),
     ("~0 1 1\n", "1 0 0\n"),
     ("×¯7 0 7\n", "¯1 0 1\n"),
     ("÷2\n", "DOMAIN ERROR\n      ÷2\n      ∧\n"),
@@ -58,6 +56,53 @@ pub(super) const SCALARS: [(&str, &str); 22] = [
     ("'AB'='AC'\n", "1 0\n"),
     ("33!66\n", "7219428434016265740\n"),
     ("33!67\n", "LIMIT ERROR\n      33!67\n        ∧\n"),
+    (
+        "2*9223372036854775807\n",
+        "LIMIT ERROR\n      2*9223372036854775807\n       ∧\n",
+    ),
+    ("¯1*9223372036854775807\n", "¯1\n"),
+    (
+        "!9223372036854775807\n",
+        "LIMIT ERROR\n      !9223372036854775807\n      ∧\n",
+    ),
+    (
+        "9223372036854775806!9223372036854775807\n",
+        "9223372036854775807\n",
+    ),
+    (
+        "4611686018427387904!9223372036854775807\n",
+        "LIMIT ERROR\n      4611686018427387904!9223372036854775807\n                         ∧\n",
+    ),
+    ("+'A'\n", "DOMAIN ERROR\n      +'A'\n      ∧\n"),
+    ("⌊'AB'\n", "DOMAIN ERROR\n      ⌊'AB'\n      ∧\n"),
+    ("'A'<'B'\n", "DOMAIN ERROR\n      'A'<'B'\n         ∧\n"),
+    ("0∧2\n", "DOMAIN ERROR\n      0∧2\n       ∧\n"),
+    ("1∨5\n", "DOMAIN ERROR\n      1∨5\n       ∧\n"),
+    ("¯1⍲0\n", "DOMAIN ERROR\n      ¯1⍲0\n        ∧\n"),
+    (
+        "0*0\n0*¯1\n¯1*¯3\n0*9223372036854775807\n¯1*¯9223372036854775808\n2*62\n",
+        "1\nDOMAIN ERROR\n      0*¯1\n       ∧\n¯1\n0\n1\n4611686018427387904\n",
+    ),
+    (
+        "0!0\n5!3\n¯1!3\n3!¯1\n",
+        "1\n0\nDOMAIN ERROR\n      ¯1!3\n        ∧\nDOMAIN ERROR\n      3!¯1\n       ∧\n",
+    ),
+    (
+        "¯9223372036854775808÷¯1\n¯9223372036854775808÷0\n0÷5\n",
+        "LIMIT ERROR\n      ¯9223372036854775808÷¯1\n                          ∧\nDOMAIN ERROR\n      ¯9223372036854775808÷0\n                          ∧\n0\n",
+    ),
+    (
+        "¯9223372036854775808|9223372036854775807\n9223372036854775807|¯9223372036854775808\n¯1|¯9223372036854775808\n0|¯9223372036854775808\n¯3|¯7\n",
+        "¯1\n9223372036854775806\n0\n¯9223372036854775808\n¯1\n",
+    ),
+    (
+        "!¯1\n!21\n!0\n",
+        "DOMAIN ERROR\n      !¯1\n      ∧\nLIMIT ERROR\n      !21\n      ∧\n1\n",
+    ),
+    (
+        "0-¯9223372036854775808\n¯1-¯9223372036854775808\n|¯9223372036854775808\n",
+        "LIMIT ERROR\n      0-¯9223372036854775808\n       ∧\n9223372036854775807\nLIMIT ERROR\n      |¯9223372036854775808\n      ∧\n",
+    ),
 ];
 
 /// Ends of lines, blank lines and comments.
@@ -76,12 +121,35 @@ pub(super) const LINES: [(&str, &str); 9] = [
     ),
 ];
 
-/// Numerals and the range.
-pub(super) const NUMERALS: [(&str, &str); 11] = [
+/// Lines of the other kinds, for each pool: texts, a numeral out of range, carets, commands and unlisted symbols.
+pub(super) const KINDS: [(&str, &str); 8] = [
+    ("''\n", "\n"),
+    ("''''\n", "'\n"),
     (
         "9223372036854775808\n",
         "LIMIT ERROR\n      9223372036854775808\n      ∧\n",
     ),
+    (
+        "3+\n(1+2\n1)\n2+<3\n3←4\nA+/B\n1 ¯ 2\n'AB\n",
+        "SYNTAX ERROR\n      3+\n       ∧\nSYNTAX ERROR\n      (1+2\n      ∧\nSYNTAX ERROR\n      1)\n      ∧\nSYNTAX ERROR\n      2+<3\n       ∧\nSYNTAX ERROR\n      3←4\n      ∧\nSYNTAX ERROR\n      A+/B\n      ∧\nSYNTAX ERROR\n      1 ¯ 2\n        ∧\nSYNTAX ERROR\n      'AB\n      ∧\n",
+    ),
+    (
+        ")WIDTH 30\n1 2 3 4 5 6 7 8 9 10 11 12 13 14 15 16 17 18 19 20\n",
+        "WAS 120\n1 2 3 4 5 6 7 8 9 10 11 12 13\n      14 15 16 17 18 19 20\n",
+    ),
+    (
+        ")ORIGIN 0\n)ORIGIN 0\n)ORIGIN 2\n)width 60\n)CLEAR\n)OFF\n1\n",
+        "WAS 1\nWAS 0\nINCORRECT COMMAND\nINCORRECT COMMAND\nCLEAR WS\n",
+    ),
+    ("2○3\n", "CHARACTER ERROR\n      2\n       ∧\n"),
+    (
+        "2○3\n2+3 4 5\n",
+        "CHARACTER ERROR\n      2\n       ∧\n5 6 7\n",
+    ),
+];
+
+/// Numerals and the range.
+pub(super) const NUMERALS: [(&str, &str); 10] = [
     (
         "99999999999999999999 '\n",
         "LIMIT ERROR\n      99999999999999999999 '\n      ∧\n",
@@ -107,10 +175,8 @@ pub(super) const NUMERALS: [(&str, &str); 11] = [
 ];
 
 /// Text constants.
-pub(super) const TEXTS: [(&str, &str); 10] = [
+pub(super) const TEXTS: [(&str, &str); 9] = [
     ("'AB'\n", "AB\n"),
-    ("''\n", "\n"),
-    ("''''\n", "'\n"),
     ("A←'AB'⍝ N\n", ""),
     ("'''\n", "SYNTAX ERROR\n      '''\n      ∧\n"),
     ("'A''\n", "SYNTAX ERROR\n      'A''\n      ∧\n"),
@@ -118,14 +184,11 @@ pub(super) const TEXTS: [(&str, &str); 10] = [
     ("'⍝'\n", "⍝\n"),
     ("'A' 'B'\n", "SYNTAX ERROR\n      'A' 'B'\n      ∧\n"),
     ("''''''\n", "''\n"),
+    ("' '\n", " \n"),
 ];
 
 /// Lines that are no statement, each with its caret.
-pub(super) const CARETS: [(&str, &str); 47] = [
-    (
-        "3+\n(1+2\n1)\n2+<3\n3←4\nA+/B\n1 ¯ 2\n'AB\n",
-        "SYNTAX ERROR\n      3+\n       ∧\nSYNTAX ERROR\n      (1+2\n      ∧\nSYNTAX ERROR\n      1)\n      ∧\nSYNTAX ERROR\n      2+<3\n       ∧\nSYNTAX ERROR\n      3←4\n      ∧\nSYNTAX ERROR\n      A+/B\n      ∧\nSYNTAX ERROR\n      1 ¯ 2\n        ∧\nSYNTAX ERROR\n      'AB\n      ∧\n",
-    ),
+pub(super) const CARETS: [(&str, &str); 46] = [
     ("3+\n", "SYNTAX ERROR\n      3+\n       ∧\n"),
     ("_A\n", "SYNTAX ERROR\n      _A\n      ∧\n"),
     ("#\n", "SYNTAX ERROR\n      #\n      ∧\n"),
@@ -202,10 +265,6 @@ pub(super) const COMMANDS: [(&str, &str); 18] = [
         "INCORRECT COMMAND\nINCORRECT COMMAND\nINCORRECT COMMAND\nINCORRECT COMMAND\n",
     ),
     (")○\n", "CHARACTER ERROR\n      )\n       ∧\n"),
-    (
-        ")WIDTH 30\n1 2 3 4 5 6 7 8 9 10 11 12 13 14 15 16 17 18 19 20\n",
-        "WAS 120\n1 2 3 4 5 6 7 8 9 10 11 12 13\n      14 15 16 17 18 19 20\n",
-    ),
     (")CLEAR ⍝ x\n", "INCORRECT COMMAND\n"),
     (")CLEAR⍝\n", "INCORRECT COMMAND\n"),
     (")ORIGIN  01 \n", "WAS 1\n"),
@@ -226,15 +285,14 @@ pub(super) const COMMANDS: [(&str, &str); 18] = [
     (")'\n", "INCORRECT COMMAND\n"),
     (")¯\n", "INCORRECT COMMAND\n"),
     (")OFF\n#\n", ""),
+    (
+        "A←3\n)ORIGIN 0\n)WIDTH 60\n)CLEAR\nA\n)ORIGIN 1\n)WIDTH 120\n",
+        "WAS 1\nWAS 120\nCLEAR WS\nVALUE ERROR\n      A\n      ∧\nWAS 1\nWAS 120\n",
+    ),
 ];
 
 /// An unlisted symbol is judged before all else.
-pub(super) const UNLISTED: [(&str, &str); 9] = [
-    ("2○3\n", "CHARACTER ERROR\n      2\n       ∧\n"),
-    (
-        "2○3\n2+3 4 5\n",
-        "CHARACTER ERROR\n      2\n       ∧\n5 6 7\n",
-    ),
+pub(super) const UNLISTED: [(&str, &str); 7] = [
     ("\u{feff}\n", "CHARACTER ERROR\n      \n      ∧\n"),
     ("1\t2\n", "CHARACTER ERROR\n      1\n       ∧\n"),
     ("1\r\r\n", "CHARACTER ERROR\n      1\n       ∧\n"),
