@@ -25,11 +25,11 @@ pub(crate) struct Pending {
 
 /// A function that is pending, if there is one, held in little room.
 #[derive(Drop)]
-pub(crate) struct Doubt {
+pub(crate) struct MaybePending {
     held: Option<Box<Pending>>,
 }
 
-impl Model for Doubt {
+impl Model for MaybePending {
     ghost use Rattle.std.specs.Prelude.{Option, option_map};
     ghost use Rattle.apl_grammar.specs.declared.reader.Pending.{Pending};
 
@@ -38,20 +38,20 @@ impl Model for Doubt {
     ghost view = { λ d. option_map (λ b. b.value) d.held };
 }
 
-impl Doubt {
+impl MaybePending {
     /// No function is pending.
-    fn none() -> Doubt
+    fn none() -> MaybePending
         ensures { result ≡ None }
     {
-        Doubt { held: None }
+        MaybePending { held: None }
     }
 
     /// This function is pending.
-    fn new(alloc: Global, pending: Pending) -> Result<Doubt, AllocError>
-        ensures { IfOk result (λ doubt. doubt ≡ Some pending) }
+    fn new(alloc: Global, pending: Pending) -> Result<MaybePending, AllocError>
+        ensures { IfOk result (λ held. held ≡ Some pending) }
     {
         let held = Box::new(alloc, pending)?;
-        Ok(Doubt { held: Some(held) })
+        Ok(MaybePending { held: Some(held) })
     }
 
     /// The function that is pending.
@@ -79,7 +79,7 @@ pub(crate) enum State {
     /// An arrow before an expression.
     Arrowed(usize),
     /// An axis or an index before an expression.
-    Beside(Brackets, Doubt),
+    Beside(Brackets, MaybePending),
     /// The slots of an indexed assignment and its arrow before an expression.
     Named(Columns, Brackets, usize),
 }
@@ -94,7 +94,7 @@ pub(crate) enum Entry {
     /// The bracket on the right of an index, and the semicolons so far.
     Slice(usize, Columns),
     /// The bracket on the right of an axis or an index.
-    Either(usize, Doubt),
+    Either(usize, MaybePending),
     /// The bracket on the right of an indexed assignment's slots, the semicolons so far, and the arrow.
     Store(usize, Columns, usize),
 }
@@ -210,12 +210,12 @@ impl Reader {
     }
 
     /// The function before the index is dyadic: it waits for its left argument.
-    fn push_pending(&mut self, doubt: Doubt) -> Result<(), Refusal>
-        ensures ok { OnOk result (option_and_then (λ p. with_dyadic p.form p.axis (stack_of self.old)) doubt ≡ Some (stack_of self.new)) }
-        ensures err { result ≡ Err Refusal.Syntax → option_and_then (λ p. with_dyadic p.form p.axis (stack_of self.old)) doubt ≡ None }
+    fn push_pending(&mut self, pending: MaybePending) -> Result<(), Refusal>
+        ensures ok { OnOk result (option_and_then (λ p. with_dyadic p.form p.axis (stack_of self.old)) pending ≡ Some (stack_of self.new)) }
+        ensures err { result ≡ Err Refusal.Syntax → option_and_then (λ p. with_dyadic p.form p.axis (stack_of self.old)) pending ≡ None }
         ensures operations { self.new.operations ≡ self.old.operations }
     {
-        match doubt.into_pending() {
+        match pending.into_pending() {
             Some(pending) => self.push_dyadic(pending.form, pending.axis),
             None => Err(Refusal::Syntax),
         }
@@ -242,8 +242,8 @@ impl Reader {
         match state {
             State::Wanted => Ok(()),
             State::Monadic(function, axis) => self.push_dyadic(function, axis),
-            State::Beside(brackets, doubt) => {
-                self.push_pending(doubt)?;
+            State::Beside(brackets, pending) => {
+                self.push_pending(pending)?;
                 self.push_index(brackets)
             }
             _ => Err(Refusal::Syntax),
@@ -309,11 +309,11 @@ impl Reader {
     }
 
     /// The function before the axis is monadic.
-    fn fill(&mut self, doubt: Doubt)
-        ensures operations { self.new.operations ≡ filled self.old.operations doubt }
+    fn fill(&mut self, pending: MaybePending)
+        ensures operations { self.new.operations ≡ filled self.old.operations pending }
         ensures entries { self.new.entries ≡ self.old.entries }
     {
-        if let Some(pending) = doubt.into_pending() {
+        if let Some(pending) = pending.into_pending() {
             let operation = Operation::Monadic(pending.form, pending.axis);
             self.operations.fill(pending.place, operation);
         }
@@ -372,11 +372,11 @@ impl Reader {
         ensures err { result ≡ Err Refusal.Syntax → with_function self.old.operations (stack_of self.old) state column glyph ≡ None }
     {
         match state {
-            State::Beside(brackets, doubt) => {
+            State::Beside(brackets, pending) => {
                 if !takes_axis(glyph) {
                     return Err(Refusal::Syntax);
                 }
-                self.fill(doubt);
+                self.fill(pending);
                 let axis = Axis::new(self.alloc, brackets)?;
                 self.apply(column, glyph, axis)
             }
@@ -487,11 +487,11 @@ impl Reader {
         ensures err { result ≡ Err Refusal.Syntax → with_close_bracket self.old.operations (stack_of self.old) state right ≡ None }
     {
         match state {
-            State::Whole => self.push_entry(Entry::Either(right, Doubt::none())),
+            State::Whole => self.push_entry(Entry::Either(right, MaybePending::none())),
             State::Monadic(form, axis) => {
                 let place = self.operations.keep_place(self.alloc)?;
-                let doubt = Doubt::new(self.alloc, Pending { form, axis, place })?;
-                self.push_entry(Entry::Either(right, doubt))
+                let pending = MaybePending::new(self.alloc, Pending { form, axis, place })?;
+                self.push_entry(Entry::Either(right, pending))
             }
             State::Arrowed(arrow) => {
                 let semicolons = Columns::new(self.alloc);
@@ -531,8 +531,8 @@ impl Reader {
                 semicolons.push(column)?;
                 self.push_entry(Entry::Store(right, semicolons, arrow))
             }
-            Some(Entry::Either(right, doubt)) => {
-                self.push_pending(doubt)?;
+            Some(Entry::Either(right, pending)) => {
+                self.push_pending(pending)?;
                 let mut semicolons = Columns::new(self.alloc);
                 semicolons.push(column)?;
                 self.push_entry(Entry::Slice(right, semicolons))
@@ -563,12 +563,12 @@ impl Reader {
                 self.state = State::Named(semicolons, Brackets { left, right }, arrow);
                 Ok(())
             }
-            Some(Entry::Either(right, doubt)) if !is_empty => {
-                self.state = State::Beside(Brackets { left, right }, doubt);
+            Some(Entry::Either(right, pending)) if !is_empty => {
+                self.state = State::Beside(Brackets { left, right }, pending);
                 Ok(())
             }
-            Some(Entry::Either(right, doubt)) => {
-                self.push_pending(doubt)?;
+            Some(Entry::Either(right, pending)) => {
+                self.push_pending(pending)?;
                 self.push_index(Brackets { left, right })?;
                 self.state = State::Wanted;
                 Ok(())

@@ -5,7 +5,9 @@ mod commands;
 mod lines;
 mod reader;
 
-pub use apl_grammar::{Axis, Brackets, Columns, Form, Function, IndexedName, Operation, Program, Target};
+pub use apl_grammar::{
+    Axis, Brackets, Columns, Form, Function, IndexedName, Operation, Program, Target,
+};
 pub use lines::{Command, Line, ReadStop};
 pub use reader::{one_reading, read, some_reading};
 
