@@ -1,3 +1,4 @@
+pub mod Countdowns
 pub mod Failures
 pub mod Layout
 pub mod Put

@@ -1,5 +1,5 @@
 -- What contracts see of the sinks of this crate.
-use Rattle.std.specs.Prelude.{ℕ, ◌-◌, List, Option, Some, None, nat_lt, if◌then◌else◌}
+use Rattle.std.specs.Prelude.{ℕ, List, Option}
 
 -- a writer as a sink: the writer, and how many calls failed
 pub record OutValue (W : Type 0) : Type 0 where
@@ -13,8 +13,3 @@ pub record MemorySinkValue : Type 0 where
   pub most : ℕ
   pub calls_to_failure : Option ℕ
   pub failures : ℕ
-
--- how many calls there are up to the one that fails, after a call
-abbrev pub after_call : Option ℕ → Option ℕ
-after_call None = None
-after_call (Some calls) = if nat_lt 0 calls then Some (calls - 1) else None

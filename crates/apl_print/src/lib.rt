@@ -1,6 +1,7 @@
 //! What the calculator writes: printed values, reports, and the sinks that take them.
 #![tactic(auto)]
 
+mod countdowns;
 mod memory;
 mod replies;
 mod reporting;
@@ -10,6 +11,7 @@ mod sinks;
 mod streams;
 mod values;
 
+pub use countdowns::Countdown;
 pub use memory::MemorySink;
 pub use replies::Reply;
 pub use reporting::{reply, report};

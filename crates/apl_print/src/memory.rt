@@ -1,8 +1,9 @@
 //! A sink in memory, which fails at a chosen call.
 ghost use Rattle.std.specs.Prelude.{◌≡◌, ℕ, ◌<◌, ◌≤◌, ◌↔◌, ◌++◌, min, take, [], length, Some, IsTrue, IsErr, IfOk, OnErr};
 ghost use Rattle.apl_print.specs.Failures.{CountsFailure};
-ghost use Rattle.apl_print.specs.SinkValues.{after_call};
+ghost use Rattle.apl_print.specs.Countdowns.{after_call};
 
+use super::countdowns::Countdown;
 use super::sinks::{Sink, SinkFault};
 use std::alloc::Global;
 use std::marker::Model;
@@ -12,7 +13,7 @@ use std::marker::Model;
 pub struct MemorySink {
     bytes: Vec<u8>,
     most: usize,
-    calls_to_failure: Option<u64>,
+    countdown: Countdown,
     failures: u64,
 }
 
@@ -22,7 +23,7 @@ impl Model for MemorySink {
 
     ghost Value = { MemorySinkValue };
 
-    ghost view = { λ s. record { bytes = s.bytes.items; most = s.most; calls_to_failure = s.calls_to_failure; failures = s.failures } };
+    ghost view = { λ s. record { bytes = s.bytes.items; most = s.most; calls_to_failure = s.countdown; failures = s.failures } };
 
     ghost invariant = { λ s. 0 < s.most };
 }
@@ -40,7 +41,7 @@ impl MemorySink {
         MemorySink {
             bytes: Vec::new(alloc),
             most,
-            calls_to_failure: fail_at,
+            countdown: Countdown::new(fail_at),
             failures: 0,
         }
     }
@@ -50,16 +51,6 @@ impl MemorySink {
         ensures { result.now ≡ self.now.bytes }
     {
         self.bytes.as_slice()
-    }
-
-    /// Counts a call, and says whether it is the one that fails.
-    fn is_due(&mut self) -> bool
-        ensures due { IsTrue result ↔ (self.old.calls_to_failure ≡ Some 1) }
-        ensures counted { self.new ≡ record self.old { calls_to_failure = after_call self.old.calls_to_failure } }
-    {
-        let is_due = self.calls_to_failure == Some(1);
-        self.calls_to_failure = self.calls_to_failure.and_then(|calls| calls.checked_sub(1));
-        is_due
     }
 }
 
@@ -79,7 +70,7 @@ impl Sink for MemorySink {
         ensures most { self.new.most ≡ self.old.most }
     {
         let n = bytes.len().min(self.most);
-        if self.is_due() || self.bytes.extend_from_slice(&bytes[..n]).is_err() {
+        if self.countdown.is_due() || self.bytes.extend_from_slice(&bytes[..n]).is_err() {
             self.failures = self.failures.saturating_add(1);
             return Err(SinkFault);
         }

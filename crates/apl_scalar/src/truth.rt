@@ -1,5 +1,6 @@
 //! The functions of truth values, of which 1 is true and 0 is false.
 ghost use Rattle.std.specs.Prelude.{◌≡◌, Ok, Err, ◌&&◌, ◌||◌, not, if◌then◌else◌};
+ghost use Rattle.apl_pool.specs.declared.kernel.Fault.TheVariants.{Domain};
 ghost use Rattle.apl_scalar.specs.Scalar.{bit, is_bit, is_one, logical, negation};
 
 use apl_pool::Fault;
@@ -36,46 +37,46 @@ pub(crate) fn negation(x: i64) -> Result<i64, Fault>
     }
 }
 
+/// The truth values that two numbers stand for.
+#[inline(always)]
+fn truth_values(x: i64, y: i64) -> Result<(bool, bool), Fault>
+    ensures { result ≡ (if is_bit x && is_bit y then Ok (is_one x, is_one y) else Err Domain) }
+{
+    if is_bit(x) && is_bit(y) {
+        Ok((is_one(x), is_one(y)))
+    } else {
+        Err(Fault::Domain)
+    }
+}
+
 #[inline(always)]
 pub(crate) fn and(x: i64, y: i64) -> Result<i64, Fault>
     ensures { result ≡ logical (λ p q. p && q) x y }
 {
-    if is_bit(x) && is_bit(y) {
-        Ok(bit(is_one(x) && is_one(y)))
-    } else {
-        Err(Fault::Domain)
-    }
+    let (p, q) = truth_values(x, y)?;
+    Ok(bit(p && q))
 }
 
 #[inline(always)]
 pub(crate) fn or(x: i64, y: i64) -> Result<i64, Fault>
     ensures { result ≡ logical (λ p q. p || q) x y }
 {
-    if is_bit(x) && is_bit(y) {
-        Ok(bit(is_one(x) || is_one(y)))
-    } else {
-        Err(Fault::Domain)
-    }
+    let (p, q) = truth_values(x, y)?;
+    Ok(bit(p || q))
 }
 
 #[inline(always)]
 pub(crate) fn nand(x: i64, y: i64) -> Result<i64, Fault>
     ensures { result ≡ logical (λ p q. not (p && q)) x y }
 {
-    if is_bit(x) && is_bit(y) {
-        Ok(bit(!(is_one(x) && is_one(y))))
-    } else {
-        Err(Fault::Domain)
-    }
+    let (p, q) = truth_values(x, y)?;
+    Ok(bit(!(p && q)))
 }
 
 #[inline(always)]
 pub(crate) fn nor(x: i64, y: i64) -> Result<i64, Fault>
     ensures { result ≡ logical (λ p q. not (p || q)) x y }
 {
-    if is_bit(x) && is_bit(y) {
-        Ok(bit(!(is_one(x) || is_one(y))))
-    } else {
-        Err(Fault::Domain)
-    }
+    let (p, q) = truth_values(x, y)?;
+    Ok(bit(!(p || q)))
 }

@@ -1,9 +1,10 @@
 //! A source in memory, which fails at a chosen call.
 ghost use Rattle.std.specs.Prelude.{◌≡◌, ℕ, ◌<◌, ◌≤◌, ◌↔◌, ◌++◌, [], min, take, length, Some, IsTrue, IsErr, IfOk, OnErr};
 ghost use Rattle.apl_print.specs.Failures.{CountsFailure};
-ghost use Rattle.apl_session.specs.SourceValues.{after_call};
+ghost use Rattle.apl_print.specs.Countdowns.{after_call};
 
 use super::sources::{Source, SourceFault};
+use apl_print::Countdown;
 use std::marker::Model;
 
 /// Gives the bytes of a slice, at most a chosen number a call.
@@ -11,7 +12,7 @@ use std::marker::Model;
 pub struct MemorySource<'a> {
     bytes: &'a [u8],
     most: usize,
-    calls_to_failure: Option<u64>,
+    countdown: Countdown,
     failures: u64,
 }
 
@@ -21,7 +22,7 @@ impl<'a> Model for MemorySource<'a> {
 
     ghost Value = { MemorySourceValue };
 
-    ghost view = { λ s. record { bytes = s.bytes.now; most = s.most; calls_to_failure = s.calls_to_failure; failures = s.failures } };
+    ghost view = { λ s. record { bytes = s.bytes.now; most = s.most; calls_to_failure = s.countdown; failures = s.failures } };
 
     ghost invariant = { λ s. 0 < s.most };
 }
@@ -39,19 +40,9 @@ impl<'a> MemorySource<'a> {
         MemorySource {
             bytes,
             most,
-            calls_to_failure: fail_at,
+            countdown: Countdown::new(fail_at),
             failures: 0,
         }
-    }
-
-    /// Counts a call, and says whether it is the one that fails.
-    fn is_due(&mut self) -> bool
-        ensures due { IsTrue result ↔ (self.old.calls_to_failure ≡ Some 1) }
-        ensures counted { self.new ≡ record self.old { calls_to_failure = after_call self.old.calls_to_failure } }
-    {
-        let is_due = self.calls_to_failure == Some(1);
-        self.calls_to_failure = self.calls_to_failure.and_then(|calls| calls.checked_sub(1));
-        is_due
     }
 }
 
@@ -74,7 +65,7 @@ impl Source for MemorySource<'_> {
         ensures counted { self.new.calls_to_failure ≡ after_call self.old.calls_to_failure }
         ensures most { self.new.most ≡ self.old.most }
     {
-        if self.is_due() {
+        if self.countdown.is_due() {
             self.failures = self.failures.saturating_add(1);
             return Err(SourceFault);
         }

@@ -6,7 +6,7 @@ use Rattle.std.proofs.lemmas.Slice.Eq.{bytes_eq-Decides}
 use Rattle.std.proofs.lemmas.Bool.Decides.{nat_tests}
 use Rattle.apl_tokens.specs.Symbols.{is_digit}
 use Rattle.apl_tokens.specs.Fronts.{AllPass}
-use Rattle.apl_tokens.specs.Lexis.{AreDigits, decimal}
+use Rattle.apl_tokens.specs.Lexis.{AreDigits, number_of_digits}
 use Rattle.apl_array.specs.Axes.{origin_number}
 use Rattle.apl_array.specs.declared.axis.Origin.{Origin}
 use Rattle.apl_array.specs.declared.axis.Origin.TheVariants.{Zero, One}
@@ -117,25 +117,25 @@ Found word argument = (c : Command) × IsCommandOf word argument c
 some_origin : (argument : List ℕ) → Found (codes "ORIGIN") argument
 some_origin argument = by_digits (are_digits argument)
   where
-    by_number : (n : ℕ) → decimal argument ≡ n → AreDigits argument → Found (codes "ORIGIN") argument
+    by_number : (n : ℕ) → number_of_digits argument ≡ n → AreDigits argument → Found (codes "ORIGIN") argument
     by_number zero e digits = (command.Origin Zero, (refl, (digits, e)))
     by_number (suc zero) e digits = (command.Origin One, (refl, (digits, e)))
     by_number (suc (suc n)) e digits = (command.Incorrect, incorrect_origin argument (λ m h. omega (arith, e, h.1)))
 
     by_digits : AreDigits argument ⊎ (AreDigits argument → ⊥) → Found (codes "ORIGIN") argument
-    by_digits (inl digits) = by_number (decimal argument) refl digits
+    by_digits (inl digits) = by_number (number_of_digits argument) refl digits
     by_digits (inr not) = (command.Incorrect, incorrect_origin argument (λ m h. absurd (not h.0)))
 
 some_width : (argument : List ℕ) → Found (codes "WIDTH") argument
 some_width argument = by_digits (are_digits argument)
   where
-    by_test : (least most : Bool) → nat_le 30 (decimal argument) ≡ least → nat_le (decimal argument) 130 ≡ most → AreDigits argument → Found (codes "WIDTH") argument
-    by_test true true h k digits = (command.Width (decimal argument), (refl, (digits, refl), grind (arith, nat_tests, h), grind (arith, nat_tests, k)))
-    by_test false most h k digits = (command.Incorrect, incorrect_width argument (λ n is least most. (let same : decimal argument ≡ n = is.1 in grind (arith, nat_tests, h, same, least))))
-    by_test true false h k digits = (command.Incorrect, incorrect_width argument (λ n is least most. (let same : decimal argument ≡ n = is.1 in grind (arith, nat_tests, k, same, most))))
+    by_test : (least most : Bool) → nat_le 30 (number_of_digits argument) ≡ least → nat_le (number_of_digits argument) 130 ≡ most → AreDigits argument → Found (codes "WIDTH") argument
+    by_test true true h k digits = (command.Width (number_of_digits argument), (refl, (digits, refl), grind (arith, nat_tests, h), grind (arith, nat_tests, k)))
+    by_test false most h k digits = (command.Incorrect, incorrect_width argument (λ n is least most. (let same : number_of_digits argument ≡ n = is.1 in grind (arith, nat_tests, h, same, least))))
+    by_test true false h k digits = (command.Incorrect, incorrect_width argument (λ n is least most. (let same : number_of_digits argument ≡ n = is.1 in grind (arith, nat_tests, k, same, most))))
 
     by_digits : AreDigits argument ⊎ (AreDigits argument → ⊥) → Found (codes "WIDTH") argument
-    by_digits (inl digits) = by_test (nat_le 30 (decimal argument)) (nat_le (decimal argument) 130) refl refl digits
+    by_digits (inl digits) = by_test (nat_le 30 (number_of_digits argument)) (nat_le (number_of_digits argument) 130) refl refl digits
     by_digits (inr not) = (command.Incorrect, incorrect_width argument (λ n is least most. not is.0))
 
 same_or_not : (a b : List ℕ) → (a ≡ b) ⊎ (a ≡ b → ⊥)

@@ -2,7 +2,7 @@
 use Rattle.std.specs.Prelude.{◌≡◌, ◌≤◌, ℕ, Bool, false, not, List, [], ◌∷◌, ◌++◌, codes}
 use Rattle.apl_tokens.specs.Symbols.{is_blank}
 use Rattle.apl_tokens.specs.Fronts.{AllPass}
-use Rattle.apl_tokens.specs.Lexis.{BeginsWithNo, AreDigits, decimal}
+use Rattle.apl_tokens.specs.Lexis.{BeginsWithNo, AreDigits, number_of_digits}
 use Rattle.apl_array.specs.Axes.{origin_number}
 use Rattle.apl_syntax.specs.declared.lines.Command.{Command}
 use Rattle.apl_syntax.specs.declared.lines.Command.TheVariants.{Origin, Width, Clear, Off, Incorrect}
@@ -39,7 +39,7 @@ pub record HasWordAndArgument (text word argument : List ℕ) : Type 0 where
 
 -- one or more digits that spell the number
 abbrev pub AreDigitsOf : ℕ → List ℕ → Type 0
-AreDigitsOf number digits = AreDigits digits × (decimal digits ≡ number)
+AreDigitsOf number digits = AreDigits digits × (number_of_digits digits ≡ number)
 
 -- the word and the argument are those of the command
 abbrev pub IsSpelled : List ℕ → List ℕ → Command → Type 0

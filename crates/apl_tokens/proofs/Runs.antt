@@ -7,7 +7,7 @@ use Rattle.std.specs.Prelude.{ℤ, pos, ◌==◌}
 use Rattle.std.specs.Bool.{passes}
 use Rattle.apl_tokens.specs.Symbols.{is_digit, is_blank}
 use Rattle.apl_tokens.specs.Fronts.{AllPass}
-use Rattle.apl_tokens.specs.Lexis.{BeginsWithNo, decimal, decimal_after, AreDigits, IsNumeral, plain, negative, negated, HasNoNextNumeral, AreBlanks}
+use Rattle.apl_tokens.specs.Lexis.{BeginsWithNo, number_of_digits, number_after, AreDigits, IsNumeral, plain, negative, negated, HasNoNextNumeral, AreBlanks}
 use Rattle.apl_tokens.specs.Scans.{IsHeldAs, IsNumeralAt, HasNoNumeral}
 
 pub AllPass-more : (p : ℕ → Bool) (xs : List ℕ) (i x : ℕ) → i < length xs → AllPass p (take i xs) → x ≡ get_or xs i x → IsTrue (p x) → AllPass p (take (i + 1) xs)
@@ -18,26 +18,26 @@ AllPass-more p xs i x h front here passes = subst (λ (k : ℕ). AllPass p (take
     go (y ∷ xs) zero h front here = (subst (λ (z : ℕ). IsTrue (p z)) here passes, tt)
     go (y ∷ xs) (suc i) h front here = (front.0, go xs i (omega arith) front.1 here)
 
-decimal_grows : (n : ℕ) (ds : List ℕ) → n ≤ decimal_after n ds
-decimal_grows n [] = omega arith
-decimal_grows n (d ∷ ds) = omega (arith, decimal_grows (10 * n + (d - 48)) ds)
+number_grows : (n : ℕ) (ds : List ℕ) → n ≤ number_after n ds
+number_grows n [] = omega arith
+number_grows n (d ∷ ds) = omega (arith, number_grows (10 * n + (d - 48)) ds)
 
-pub decimal_beyond : (digits : List ℕ) (n i x most : ℕ) → i < length digits → decimal digits ≡ decimal_after n (drop i digits) → x ≡ get_or digits i x → most < 10 * n + (x - 48) → most < decimal digits
-decimal_beyond digits n i x most h so_far here beyond = subst (λ (k : ℕ). most < k) (sym so_far) (go digits i h here)
+pub number_beyond : (digits : List ℕ) (n i x most : ℕ) → i < length digits → number_of_digits digits ≡ number_after n (drop i digits) → x ≡ get_or digits i x → most < 10 * n + (x - 48) → most < number_of_digits digits
+number_beyond digits n i x most h so_far here beyond = subst (λ (k : ℕ). most < k) (sym so_far) (go digits i h here)
   where
-    go : (ds : List ℕ) (i : ℕ) → i < length ds → x ≡ get_or ds i x → most < decimal_after n (drop i ds)
+    go : (ds : List ℕ) (i : ℕ) → i < length ds → x ≡ get_or ds i x → most < number_after n (drop i ds)
     go [] i h here = absurd (omega arith)
-    go (d ∷ ds) zero h here = let beyond' : most < 10 * n + (d - 48) = subst (λ (z : ℕ). most < 10 * n + (z - 48)) here beyond in omega (arith, decimal_grows (10 * n + (d - 48)) ds)
+    go (d ∷ ds) zero h here = let beyond' : most < 10 * n + (d - 48) = subst (λ (z : ℕ). most < 10 * n + (z - 48)) here beyond in omega (arith, number_grows (10 * n + (d - 48)) ds)
     go (d ∷ ds) (suc i) h here = go ds i (omega arith) here
 
 are_digits : (ds : List ℕ) → (length ds ≡ 0 → ⊥) → AllPass is_digit ds → AreDigits ds
 are_digits [] some pass = absurd (some refl)
 are_digits (d ∷ ds) some pass = pass
 
-pub plain_at : (text : List ℕ) (d : ℕ) (v : Option ℤ) → d ≤ length text → (d ≡ 0 → ⊥) → AllPass is_digit (take d text) → BeginsWithNo is_digit (drop d text) → IsHeldAs (pos (decimal (take d text))) v → IsNumeralAt text d v
+pub plain_at : (text : List ℕ) (d : ℕ) (v : Option ℤ) → d ≤ length text → (d ≡ 0 → ⊥) → AllPass is_digit (take d text) → BeginsWithNo is_digit (drop d text) → IsHeldAs (pos (number_of_digits (take d text))) v → IsNumeralAt text d v
 plain_at text d v within some pass longest held = record {
   within = within;
-  z = pos (decimal (take d text));
+  z = pos (number_of_digits (take d text));
   is = plain (take d text) (are_digits (take d text) (λ none. some (omega (arith, length-take d text))) pass);
   longest = longest;
   held = held;
@@ -54,11 +54,11 @@ signed (c ∷ cs) x long at is =
     let head : c ≡ 175 = sym at ∙ is in
     cc
 
-pub negative_at : (text rest : List ℕ) (d : ℕ) (v : Option ℤ) → text ≡ 175 ∷ rest → d ≤ length rest → (d ≡ 0 → ⊥) → AllPass is_digit (take d rest) → BeginsWithNo is_digit (drop d rest) → IsHeldAs (negated (decimal (take d rest))) v → IsNumeralAt text (d + 1) v
+pub negative_at : (text rest : List ℕ) (d : ℕ) (v : Option ℤ) → text ≡ 175 ∷ rest → d ≤ length rest → (d ≡ 0 → ⊥) → AllPass is_digit (take d rest) → BeginsWithNo is_digit (drop d rest) → IsHeldAs (negated (number_of_digits (take d rest))) v → IsNumeralAt text (d + 1) v
 negative_at text rest d v split within some pass longest held =
     rw (split, add-one) (record {
       within = omega arith;
-      z = negated (decimal (take d rest));
+      z = negated (number_of_digits (take d rest));
       is = negative (take d rest) (are_digits (take d rest) (λ none. some (omega (arith, length-take d rest))) pass);
       longest = longest;
       held = held;

@@ -11,7 +11,7 @@ use Rattle.apl_tokens.specs.declared.token.Lexeme.{Lexeme}
 use Rattle.apl_tokens.specs.declared.token.Lexeme.TheVariants.{Constant, Name}
 use Rattle.apl_tokens.specs.Symbols.{is_digit, is_letter, is_name_character, is_blank, quote, is_quote, comment_mark, symbol_lexeme}
 use Rattle.apl_tokens.specs.Fronts.{AllPass}
-use Rattle.apl_tokens.specs.Lexis.{BeginsWithNo, decimal, IsNumeral, plain, negative, negated, Numeral, AreNumerals, EndsNumerals, HasNoNextNumeral, AreInRange, most_elements, constant_shape, doubled, quoted, IsToken, LexesUpTo, IsEnd, Lexes, BeginsWithNoToken, FirstOutOfRange, here, later, IsBeyondLimit, HasLexicalFault, HasLimitFault}
+use Rattle.apl_tokens.specs.Lexis.{BeginsWithNo, number_of_digits, IsNumeral, plain, negative, negated, Numeral, AreNumerals, EndsNumerals, HasNoNextNumeral, AreInRange, most_elements, constant_shape, doubled, quoted, IsToken, LexesUpTo, IsEnd, Lexes, BeginsWithNoToken, FirstOutOfRange, here, later, IsBeyondLimit, HasLexicalFault, HasLimitFault}
 use Rattle.apl_tokens.specs.Scans.{HasNoNumeral}
 use Rattle.apl_tokens.proofs.Runs.{no_plain, no_negative, no_blanks, numeral_begins, all_blanks}
 use Rattle.apl_tokens.proofs.Quotes.{no_quotation}
@@ -53,7 +53,7 @@ numeral_here (c ∷ cs) = by_test (c == 175) refl
       where
         by_front : (f r : List ℕ) → cs ≡ f ++ r → AllPass is_digit f → BeginsWithNo is_digit r → NumeralHere (c ∷ cs) ⊎ HasNoNumeral (c ∷ cs)
         by_front [] r split pass ends = inr (no_negative (c ∷ cs) cs (ap (λ x. x ∷ cs) e) (subst (BeginsWithNo is_digit) (sym split) ends))
-        by_front (d ∷ ds) r split pass ends = inl (record { front = 175 ∷ d ∷ ds; rest = r; z = negated (decimal (d ∷ ds)); split = cc; is = negative (d ∷ ds) pass; ends = ends })
+        by_front (d ∷ ds) r split pass ends = inl (record { front = 175 ∷ d ∷ ds; rest = r; z = negated (number_of_digits (d ∷ ds)); split = cc; is = negative (d ∷ ds) pass; ends = ends })
 
     unsigned : (c == 175) ≡ false → Cut is_digit (c ∷ cs) → NumeralHere (c ∷ cs) ⊎ HasNoNumeral (c ∷ cs)
     unsigned e h = by_front h.front h.rest h.split h.pass h.ends
@@ -65,7 +65,7 @@ numeral_here (c ∷ cs) = by_test (c == 175) refl
 
         by_front : (f r : List ℕ) → c ∷ cs ≡ f ++ r → AllPass is_digit f → BeginsWithNo is_digit r → NumeralHere (c ∷ cs) ⊎ HasNoNumeral (c ∷ cs)
         by_front [] r split pass ends = inr (no_plain (c ∷ cs) (λ h. no_sign) (subst (BeginsWithNo is_digit) (sym split) ends))
-        by_front (d ∷ ds) r split pass ends = inl (record { front = d ∷ ds; rest = r; z = pos (decimal (d ∷ ds)); split = split; is = plain (d ∷ ds) pass; ends = ends })
+        by_front (d ∷ ds) r split pass ends = inl (record { front = d ∷ ds; rest = r; z = pos (number_of_digits (d ∷ ds)); split = split; is = plain (d ∷ ds) pass; ends = ends })
 
     by_test : (b : Bool) → (c == 175) ≡ b → NumeralHere (c ∷ cs) ⊎ HasNoNumeral (c ∷ cs)
     by_test true e = after_sign (eqb→eq c 175 (passes (c == 175) e)) (cut is_digit cs)

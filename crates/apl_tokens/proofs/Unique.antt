@@ -8,7 +8,7 @@ use Rattle.apl_tokens.specs.declared.token.Lexeme.{Lexeme}
 use Rattle.apl_tokens.specs.declared.token.Lexeme.TheVariants.{Constant, Name}
 use Rattle.apl_tokens.specs.Symbols.{is_digit, is_letter, is_name_character, is_blank, quote, is_quote, symbol_lexeme}
 use Rattle.apl_tokens.specs.Fronts.{AllPass}
-use Rattle.apl_tokens.specs.Lexis.{BeginsWithNo, decimal, AreDigits, IsNumeral, plain, negative, negated, AreBlanks, Numeral, AreNumerals, EndsNumerals, HasNoNextNumeral, AreInRange, most_elements, constant_shape, IsNumberConstant, doubled, quoted, IsTextConstant, IsName, IsSymbol, IsToken, LexesUpTo, IsEnd, Lexes, BeginsWithNoToken, FirstOutOfRange, here, later, IsNumberBeyondLimit, IsTextBeyondLimit, IsBeyondLimit, HasLexicalFault, HasLimitFault}
+use Rattle.apl_tokens.specs.Lexis.{BeginsWithNo, number_of_digits, AreDigits, IsNumeral, plain, negative, negated, AreBlanks, Numeral, AreNumerals, EndsNumerals, HasNoNextNumeral, AreInRange, most_elements, constant_shape, IsNumberConstant, doubled, quoted, IsTextConstant, IsName, IsSymbol, IsToken, LexesUpTo, IsEnd, Lexes, BeginsWithNoToken, FirstOutOfRange, here, later, IsNumberBeyondLimit, IsTextBeyondLimit, IsBeyondLimit, HasLexicalFault, HasLimitFault}
 use Rattle.apl_tokens.proofs.Runs.{numeral_begins, all_blanks}
 use Rattle.apl_tokens.proofs.Quotes.{one_doubled}
 use Rattle.apl_tokens.proofs.Leads.{Lead, letter, figure, quotation, sign, Begins, lead_of, is_by_sign, numerals_begin, quote_begins, token_begins, one_lead, begins_no_blank, no_token_at_end, no_limit_at_end}
@@ -46,13 +46,13 @@ no_sign (d ∷ ds) es r q h e =
 one_numeral : (t u r q : List ℕ) (z w : ℤ) → IsNumeral t z → IsNumeral u w → BeginsWithNo is_digit r → BeginsWithNo is_digit q → t ++ r ≡ u ++ q → (t ≡ u) × (z ≡ w) × (r ≡ q)
 one_numeral t u r q z w (plain ds h) (plain es k) hr hq e =
     let same = longest is_digit ds es r q (digits_pass ds h) (digits_pass es k) hr hq e in
-    (same.0, ap (λ x. pos (decimal x)) same.0, same.1)
+    (same.0, ap (λ x. pos (number_of_digits x)) same.0, same.1)
 one_numeral t u r q z w (plain ds h) (negative es k) hr hq e = absurd (no_sign ds es r q h e)
 one_numeral t u r q z w (negative ds h) (plain es k) hr hq e = absurd (no_sign es ds q r k (sym e))
 one_numeral t u r q z w (negative ds h) (negative es k) hr hq e =
     let tails : ds ++ r ≡ es ++ q = cc in
     let same = longest is_digit ds es r q (digits_pass ds h) (digits_pass es k) hr hq tails in
-    (ap (λ x. 175 ∷ x) same.0, ap (λ x. negated (decimal x)) same.0, same.1)
+    (ap (λ x. 175 ∷ x) same.0, ap (λ x. negated (number_of_digits x)) same.0, same.1)
 
 blanks_no_digit : (gap r : List ℕ) → AreBlanks gap → BeginsWithNo is_digit (gap ++ r)
 blanks_no_digit [] r h = absurd h

@@ -14,12 +14,12 @@ BeginsWithNo p [] = Unit {0}
 BeginsWithNo p (c ∷ cs) = p c ≡ false
 
 -- the number that digits spell, behind those that spell n
-abbrev pub decimal_after : ℕ → List ℕ → ℕ
-decimal_after n [] = n
-decimal_after n (d ∷ ds) = decimal_after (10 * n + (d - 48)) ds
+abbrev pub number_after : ℕ → List ℕ → ℕ
+number_after n [] = n
+number_after n (d ∷ ds) = number_after (10 * n + (d - 48)) ds
 
-abbrev pub decimal : List ℕ → ℕ
-decimal digits = decimal_after 0 digits
+abbrev pub number_of_digits : List ℕ → ℕ
+number_of_digits digits = number_after 0 digits
 
 -- one or more digits
 abbrev pub AreDigits : List ℕ → Type 0
@@ -37,8 +37,8 @@ negated (suc n) = negsuc n
 
 -- perhaps a high minus, then digits
 pub data IsNumeral : List ℕ → ℤ → Type 0 where
-  plain : (digits : List ℕ) → AreDigits digits → IsNumeral digits (pos (decimal digits))
-  negative : (digits : List ℕ) → AreDigits digits → IsNumeral (high_minus ∷ digits) (negated (decimal digits))
+  plain : (digits : List ℕ) → AreDigits digits → IsNumeral digits (pos (number_of_digits digits))
+  negative : (digits : List ℕ) → AreDigits digits → IsNumeral (high_minus ∷ digits) (negated (number_of_digits digits))
 
 -- where a numeral begins within its constant, and its number
 abbrev pub Numeral : Type 0

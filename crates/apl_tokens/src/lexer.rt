@@ -3,7 +3,7 @@ ghost use Rattle.std.specs.Prelude.{if◌then◌else◌, ◌-◌, ◌≡◌, ◌
 ghost use Rattle.apl_tokens.specs.Symbols.{is_blank, is_digit, is_letter, is_name_character};
 ghost use Rattle.apl_tokens.specs.Fronts.{AllPass};
 ghost use Rattle.apl_array.specs.Array.{number_array, character_array};
-ghost use Rattle.apl_tokens.specs.Lexis.{BeginsWithNo, decimal, negated, HasNoNextNumeral, AreBlanks, EndsNumerals, constant_shape, Lexes};
+ghost use Rattle.apl_tokens.specs.Lexis.{BeginsWithNo, number_of_digits, negated, HasNoNextNumeral, AreBlanks, EndsNumerals, constant_shape, Lexes};
 ghost use Rattle.apl_tokens.specs.Stops.{IsLexicalStopOf};
 ghost use Rattle.apl_tokens.specs.Scans.{passes, IsHeldAs, IsNumeralAt, HasNoNumeral, IsNextNumeralAt, held_more, IsRow, IsSpelling, BeginsWithClosingQuote, IsQuotation, HasNoQuotation, BeginsWithQuote, IsTokenAt, IsStopAt};
 
@@ -89,8 +89,8 @@ pub fn blanks_before(text: &[char]) -> usize
 /// The number that digits spell, if it is at most 2 to the 63rd.
 fn magnitude(digits: &[char]) -> Option<u64>
     requires { AllPass is_digit digits.now }
-    ensures found { IfSome result (λ n. (n ≡ decimal digits.now) × (n ≤ 2 ^ 63)) }
-    ensures none { IfNone result (2 ^ 63 < decimal digits.now) }
+    ensures found { IfSome result (λ n. (n ≡ number_of_digits digits.now) × (n ≤ 2 ^ 63)) }
+    ensures none { IfNone result (2 ^ 63 < number_of_digits digits.now) }
 {
     let mut n: u64 = 0;
     for c in digits {
@@ -106,7 +106,7 @@ fn magnitude(digits: &[char]) -> Option<u64>
 /// The number that digits spell behind a high minus or none, if it is in range.
 fn number(digits: &[char], negative: bool) -> Option<i64>
     requires { AllPass is_digit digits.now }
-    ensures { IsHeldAs (if negative then negated (decimal digits.now) else pos (decimal digits.now)) result }
+    ensures { IsHeldAs (if negative then negated (number_of_digits digits.now) else pos (number_of_digits digits.now)) result }
 {
     match magnitude(digits) {
         None => None,

@@ -1,6 +1,17 @@
 //! Sinks over a writer and in memory.
-use crate::{MemorySink, Out, Sink, SinkFault, put_all};
+use crate::{Countdown, MemorySink, Out, Sink, SinkFault, put_all};
 use std::test::Fail;
+
+#[test]
+fn countdown_is_due_at_its_call_alone(rt: HostRuntime) -> Result<(), Fail> {
+    for fail_at in [None, Some(0), Some(1), Some(3)] {
+        let mut countdown = Countdown::new(fail_at);
+        for call in 1..6u64 {
+            assert_eq!(rt; countdown.is_due(), fail_at == Some(call), "call {call}");
+        }
+    }
+    Ok(())
+}
 
 #[test]
 fn sink_over_a_writer(rt: HostRuntime) -> Result<(), Fail> {
