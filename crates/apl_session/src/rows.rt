@@ -38,17 +38,12 @@ const WORKERS: [u8; 4] = [1, 2, 3, 64];
 /// What a cut answers to how many elements a piece has. One of none and one of more than there are cut too.
 const PIECES: [usize; 6] = [1, 2, 3, 4096, 0, usize::MAX];
 
-/// Checks what each session of a table writes, by takes and puts of each size.
+/// Checks what each session of a table writes, by takes and puts of each size, and on each pool.
 fn check<R: Abort + Threads + Sync>(rt: &R, alloc: Global, sessions: &[(&str, &str)]) {
     let pool = Pool::new(3, Every(2), Open);
     for most in SIZES {
         check_on(rt, alloc, &pool, most, sessions);
     }
-}
-
-/// Checks what each session of a table writes, by takes and puts of each size, and on each pool.
-fn check_on_each_pool<R: Abort + Threads + Sync>(rt: &R, alloc: Global, sessions: &[(&str, &str)]) {
-    check(rt, alloc, sessions);
     for workers in WORKERS {
         for piece in PIECES {
             let pool = Pool::new(workers, Every(piece), Open);
@@ -73,25 +68,25 @@ fn check_on<R: Abort + Threads + Sync>(
 
 #[test]
 fn values_names_and_functions(rt: HostRuntime) -> Result<(), Fail> {
-    check_on_each_pool(&rt, rt.alloc(), &VALUES);
+    check(&rt, rt.alloc(), &VALUES);
     Ok(())
 }
 
 #[test]
 fn scalar_functions(rt: HostRuntime) -> Result<(), Fail> {
-    check_on_each_pool(&rt, rt.alloc(), &SCALARS);
+    check(&rt, rt.alloc(), &SCALARS);
     Ok(())
 }
 
 #[test]
 fn lines_and_comments(rt: HostRuntime) -> Result<(), Fail> {
-    check_on_each_pool(&rt, rt.alloc(), &LINES);
+    check(&rt, rt.alloc(), &LINES);
     Ok(())
 }
 
 #[test]
 fn lines_of_other_kinds(rt: HostRuntime) -> Result<(), Fail> {
-    check_on_each_pool(&rt, rt.alloc(), &KINDS);
+    check(&rt, rt.alloc(), &KINDS);
     Ok(())
 }
 

@@ -121,7 +121,7 @@ pub(super) const LINES: [(&str, &str); 9] = [
     ),
 ];
 
-/// Lines of the other kinds, for each pool: texts, a numeral out of range, carets, commands and unlisted symbols.
+/// Sessions of the other kinds: texts, a numeral out of range, carets, commands and unlisted symbols.
 pub(super) const KINDS: [(&str, &str); 8] = [
     ("''\n", "\n"),
     ("''''\n", "'\n"),
