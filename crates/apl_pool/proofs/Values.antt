@@ -1,8 +1,9 @@
 -- One more value, one more stretch of values, and the first fault among them.
 use Rattle.std.proofs.Common.{◌≡◌, ℕ, ◌+◌, ◌-◌, ◌<◌, ◌≤◌, List, [], ◌∷◌, ◌++◌, length, get_or, Result, Ok, refl, sym, ap, ◌∙◌, subst, ⊎_elim, arith, length-append}
-use Rattle.std.specs.Prelude.{IsOk, OnOk}
+use Rattle.std.specs.Prelude.{IsOk, OnOk, IfErr}
 use Rattle.std.proofs.lemmas.List.{length_push, get_or_push, get_or_append_left, get_or-append_right}
 use Rattle.std.proofs.lemmas.Bool.{cases_lt}
+use Rattle.std.proofs.lemmas.Result.{IfErr-weaker}
 use Rattle.apl_pool.specs.declared.kernel.Fault.{Fault}
 use Rattle.apl_pool.specs.declared.kernel.Stop.{Stop}
 use Rattle.apl_pool.specs.declared.kernel.Stop.TheVariants.{Fault as FaultAt, Memory}
@@ -112,6 +113,12 @@ module _ {T : Type 0} (outcome : ℕ → Result T Fault) where
         (cases_lt k mid);
   }
   IsStopFrom-wider from mid to end values Memory low high all first = tt
+
+  -- why one worker stops is why all stop, where the workers before it have written their values
+  pub err_beside : {E X : Type 0} (rest : Result X E) (one : Result X Stop) (from mid to : ℕ) (x : X) (values : List T) → from ≤ mid → rest ≡ Ok x
+      → OnOk rest (AreValuesFrom outcome from mid values) → IfErr one (IsStopFrom outcome mid to) → IfErr one (IsStopFrom outcome from to)
+  err_beside rest one from mid to x values low is before stops =
+      IfErr-weaker _ _ _ (λ stop upper. IsStopFrom-wider from mid to to values stop low (omega arith) (on_ok_is _ _ is before) upper) stops
 
   -- no place whose value is written has a fault
   pub IsOk-from_written : (from to : ℕ) (values : List T) → AreWritten outcome from to values

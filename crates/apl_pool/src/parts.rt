@@ -135,8 +135,10 @@ where
     Ok(())
 }
 
-/// What `tasks` workers, of whom the first has share number `first`, write into the room for their shares, each in a thread.
-#[cycle(halves)]
+/// What the first `tasks` workers write into the room for their shares, the first of them in this thread and each other one in a
+/// thread of its own. This thread starts them all: a thread that has only just begun tends to share its processor with what it
+/// starts.
+#[cycle(crew)]
 pub(crate) fn write_shares<
     R: Threads + Sync,
     T: Copy + Send,
@@ -149,41 +151,28 @@ pub(crate) fn write_shares<
     cut: &C,
     gate: &G,
     shares: &Shares,
-    first: usize,
     tasks: usize,
     values: &mut [T],
 ) -> Result<(), Stop>
     requires some { 0 < tasks }
-    requires within { first + tasks ≤ shares.now.tasks }
+    requires within { tasks ≤ shares.now.tasks }
     requires count { shares.now.count ≡ K.place_count kernel.now }
-    requires room { slice_index shares.now.bounds.items first + length values.old ≡ slice_index shares.now.bounds.items (first + tasks) }
-    ensures ok { OnOk result (AreValuesFrom (K.outcome kernel.now) (slice_index shares.now.bounds.items first) (slice_index shares.now.bounds.items (first + tasks)) values.new) }
-    ensures stop { IfErr result (IsStopFrom (K.outcome kernel.now) (slice_index shares.now.bounds.items first) (slice_index shares.now.bounds.items (first + tasks))) }
+    requires room { length values.old ≡ slice_index shares.now.bounds.items tasks }
+    ensures ok { OnOk result (AreValuesFrom (K.outcome kernel.now) 0 (slice_index shares.now.bounds.items tasks) values.new) }
+    ensures stop { IfErr result (IsStopFrom (K.outcome kernel.now) 0 (slice_index shares.now.bounds.items tasks)) }
     ensures len { length values.new ≡ length values.old }
 {
     if tasks == 1 {
-        return write_share(kernel, cut, gate, shares.share(first), values);
+        return write_share(kernel, cut, gate, shares.share(0), values);
     }
-    let low = tasks / 2;
-    let middle = shares.share(first + low).from - shares.share(first).from;
-    let (front, back) = values.split_at_mut(middle);
-    write_halves(
-        rt,
-        kernel,
-        cut,
-        gate,
-        shares,
-        first,
-        low,
-        front,
-        tasks - low,
-        back,
-    )
+    let others = tasks - 1;
+    let (front, back) = values.split_at_mut(shares.share(others).from);
+    write_beside(rt, kernel, cut, gate, shares, others, front, back)
 }
 
-/// The same for the first `low` and the other `high` workers, who write behind them.
-#[cycle(halves)]
-fn write_halves<
+/// The same for the first `others` workers, and for one more, who writes behind them.
+#[cycle(crew)]
+fn write_beside<
     R: Threads + Sync,
     T: Copy + Send,
     K: Kernel<Out = T> + Sync,
@@ -195,38 +184,35 @@ fn write_halves<
     cut: &C,
     gate: &G,
     shares: &Shares,
-    first: usize,
-    low: usize,
+    others: usize,
     front: &mut [T],
-    high: usize,
     back: &mut [T],
 ) -> Result<(), Stop>
-    requires some { (0 < low) × (0 < high) }
-    requires within { first + low + high ≤ shares.now.tasks }
+    requires some { 0 < others }
+    requires within { others < shares.now.tasks }
     requires count { shares.now.count ≡ K.place_count kernel.now }
-    requires front_room { slice_index shares.now.bounds.items first + length front.old ≡ slice_index shares.now.bounds.items (first + low) }
-    requires back_room { slice_index shares.now.bounds.items (first + low) + length back.old ≡ slice_index shares.now.bounds.items (first + low + high) }
-    ensures ok { OnOk result (AreValuesFrom (K.outcome kernel.now) (slice_index shares.now.bounds.items first) (slice_index shares.now.bounds.items (first + low + high)) (front.new ++ back.new)) }
-    ensures stop { IfErr result (IsStopFrom (K.outcome kernel.now) (slice_index shares.now.bounds.items first) (slice_index shares.now.bounds.items (first + low + high))) }
+    requires front_room { length front.old ≡ slice_index shares.now.bounds.items others }
+    requires back_room { slice_index shares.now.bounds.items others + length back.old ≡ slice_index shares.now.bounds.items (others + 1) }
+    ensures ok { OnOk result (AreValuesFrom (K.outcome kernel.now) 0 (slice_index shares.now.bounds.items (others + 1)) (front.new ++ back.new)) }
+    ensures stop { IfErr result (IsStopFrom (K.outcome kernel.now) 0 (slice_index shares.now.bounds.items (others + 1))) }
     ensures front_len { length front.new ≡ length front.old }
     ensures back_len { length back.new ≡ length back.old }
 {
-    let middle = first + low;
-    let mut lower = || -> Result<(), Stop>
-        requires { IsSync R.row × IsSync K.row × IsSync C.row × IsSync G.row × (0 < low) × (first + low ≤ shares.now.tasks) × (shares.now.count ≡ K.place_count kernel.now)
-            × (slice_index shares.now.bounds.items first + length front.now ≡ slice_index shares.now.bounds.items (first + low)) }
-        ensures { OnOk result (AreValuesFrom (K.outcome kernel.entry.now) (slice_index shares.entry.now.bounds.items first) (slice_index shares.entry.now.bounds.items (first + low)) front.exit.now)
-            × IfErr result (IsStopFrom (K.outcome kernel.entry.now) (slice_index shares.entry.now.bounds.items first) (slice_index shares.entry.now.bounds.items (first + low)))
-            × (length front.exit.now ≡ length front.entry.now) }
-    { write_shares(rt, kernel, cut, gate, shares, first, low, front) };
-    let mut upper = || -> Result<(), Stop>
-        requires { IsSync R.row × IsSync K.row × IsSync C.row × IsSync G.row × (0 < high) × (middle + high ≤ shares.now.tasks) × (shares.now.count ≡ K.place_count kernel.now)
-            × (slice_index shares.now.bounds.items middle + length back.now ≡ slice_index shares.now.bounds.items (middle + high)) }
-        ensures { OnOk result (AreValuesFrom (K.outcome kernel.entry.now) (slice_index shares.entry.now.bounds.items middle) (slice_index shares.entry.now.bounds.items (middle + high)) back.exit.now)
-            × IfErr result (IsStopFrom (K.outcome kernel.entry.now) (slice_index shares.entry.now.bounds.items middle) (slice_index shares.entry.now.bounds.items (middle + high)))
+    let mut one = || -> Result<(), Stop>
+        requires { IsSync K.row × IsSync C.row × IsSync G.row × (others < shares.now.tasks) × (shares.now.count ≡ K.place_count kernel.now)
+            × (slice_index shares.now.bounds.items others + length back.now ≡ slice_index shares.now.bounds.items (others + 1)) }
+        ensures { OnOk result (AreValuesFrom (K.outcome kernel.entry.now) (slice_index shares.entry.now.bounds.items others) (slice_index shares.entry.now.bounds.items (others + 1)) back.exit.now)
+            × IfErr result (IsStopFrom (K.outcome kernel.entry.now) (slice_index shares.entry.now.bounds.items others) (slice_index shares.entry.now.bounds.items (others + 1)))
             × (length back.exit.now ≡ length back.entry.now) }
-    { write_shares(rt, kernel, cut, gate, shares, middle, high, back) };
-    let (lower, upper) = join_mut(rt, &mut lower, &mut upper);
-    lower?;
-    upper
+    { write_share(kernel, cut, gate, shares.share(others), back) };
+    let mut rest = || -> Result<(), Stop>
+        requires { IsSync R.row × IsSync K.row × IsSync C.row × IsSync G.row × (0 < others) × (others ≤ shares.now.tasks) × (shares.now.count ≡ K.place_count kernel.now)
+            × (length front.now ≡ slice_index shares.now.bounds.items others) }
+        ensures { OnOk result (AreValuesFrom (K.outcome kernel.entry.now) 0 (slice_index shares.entry.now.bounds.items others) front.exit.now)
+            × IfErr result (IsStopFrom (K.outcome kernel.entry.now) 0 (slice_index shares.entry.now.bounds.items others))
+            × (length front.exit.now ≡ length front.entry.now) }
+    { write_shares(rt, kernel, cut, gate, shares, others, front) };
+    let (one, rest) = join_mut(rt, &mut one, &mut rest);
+    rest?;
+    one
 }

@@ -92,6 +92,6 @@ impl<C: Cut + Sync, G: Gate + Sync> Pool<C, G> {
         ensures stop { IfErr result (IsStopOf (K.outcome kernel.now) (K.place_count kernel.now)) }
     {
         let (cut, gate) = (&self.cut, &self.gate);
-        write_shares(rt, kernel, cut, gate, shares, 0, shares.tasks(), values)
+        write_shares(rt, kernel, cut, gate, shares, shares.tasks(), values)
     }
 }
