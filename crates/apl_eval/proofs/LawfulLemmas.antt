@@ -28,7 +28,7 @@ use Rattle.apl_eval.specs.Workspace.{WorkspaceValue, value_of, with_origin, with
 use Rattle.apl_eval.specs.Functions.{caret_column, scalar_function, reported, monadic_scalar, dyadic_scalar, monadic_result, dyadic_result}
 use Rattle.apl_eval.specs.Meaning.{Outcome, done, failed, then, found, judged, mean, mean_operand, mean_slots, mean_slot, mean_axis}
 use Rattle.apl_eval.specs.Evaluates.{Evaluates}
-use Rattle.apl_eval.specs.Lawful.{IsLawful, IsLawfulOutcome}
+use Rattle.apl_eval.specs.Lawful.{IsLawful, LeavesLawful, IsLawfulOutcome}
 use Rattle.apl_eval.proofs.NameLemmas.{is_name, get-insert_name}
 
 pub opening_lawful : IsLawful opening_workspace
@@ -61,21 +61,16 @@ assigned_lawful text v w h k = record {
 
 -- ---- outcomes
 
--- the workspace is lawful, and the value, if there is one, has a property
-abbrev IsKept : {V : Type 0} → (V → Type 0) → Outcome V → Type 0
-IsKept P (done v w) = P v × IsLawful w
-IsKept P (failed report column w) = IsLawful w
-
-then_kept : {V U : Type 0} (P : V → Type 0) (Q : U → Type 0) (m : Outcome V) (next : V → WorkspaceValue → Outcome U) → IsKept P m
-    → ((v : V) (w : WorkspaceValue) → P v → IsLawful w → IsKept Q (next v w)) → IsKept Q (then m next)
+then_kept : {V U : Type 0} (P : V → Type 0) (Q : U → Type 0) (m : Outcome V) (next : V → WorkspaceValue → Outcome U) → LeavesLawful P m
+    → ((v : V) (w : WorkspaceValue) → P v → IsLawful w → LeavesLawful Q (next v w)) → LeavesLawful Q (then m next)
 then_kept P Q (done v w) next (h, k) goes_on = goes_on v w h k
 then_kept P Q (failed report column w) next h goes_on = h
 
-found_kept : (o : Option ArrayValue) (column : ℕ) (w : WorkspaceValue) → IfSome o HasNumbersInRange → IsLawful w → IsKept HasNumbersInRange (found o column w)
+found_kept : (o : Option ArrayValue) (column : ℕ) (w : WorkspaceValue) → IfSome o HasNumbersInRange → IsLawful w → IsLawfulOutcome (found o column w)
 found_kept (Some v) column w h k = (h, k)
 found_kept None column w h k = k
 
-judged_kept : (r : Result ArrayValue Report) (column : ℕ) (w : WorkspaceValue) → IfOk r HasNumbersInRange → IsLawful w → IsKept HasNumbersInRange (judged r column w)
+judged_kept : (r : Result ArrayValue Report) (column : ℕ) (w : WorkspaceValue) → IfOk r HasNumbersInRange → IsLawful w → IsLawfulOutcome (judged r column w)
 judged_kept (Ok v) column w h k = (h, k)
 judged_kept (Err report) column w h k = k
 
@@ -146,7 +141,7 @@ module _ (answers : AnswersLaw) where
   -- ---- trees
 
   mutual
-    mean_kept : (e : Expr) (w : WorkspaceValue) → HasConstantsInRange (spells e) → IsLawful w → IsKept HasNumbersInRange (mean e w)
+    mean_kept : (e : Expr) (w : WorkspaceValue) → HasConstantsInRange (spells e) → IsLawful w → IsLawfulOutcome (mean e w)
     mean_kept (value o) w h k = operand_kept o w h k
     mean_kept (dyadic o f a e) w h k =
         let behind_operand = behind (spells_operand o) (spells_form f ++ (spells_axis a ++ spells e)) h in
@@ -177,7 +172,7 @@ module _ (answers : AnswersLaw) where
         (λ right u b lawful. then_kept Any HasNumbersInRange (mean_slots s u) _ (slots_kept s u (front (spells_list s) behind_list inside) lawful)
         (λ slots v any lawful. lawful))
 
-    operand_kept : (o : Operand) (w : WorkspaceValue) → HasConstantsInRange (spells_operand o) → IsLawful w → IsKept HasNumbersInRange (mean_operand o w)
+    operand_kept : (o : Operand) (w : WorkspaceValue) → HasConstantsInRange (spells_operand o) → IsLawful w → IsLawfulOutcome (mean_operand o w)
     operand_kept (constant column v) w h k = (All-head InRange (token_at column (lexeme.Constant v)) [] h, k)
     operand_kept (name column text) w h k = found_kept (value_of text w) column w (k.values text) k
     operand_kept (group l e r) w h k = mean_kept e w (between (token_at l lexeme.OpenParen) (token_at r lexeme.CloseParen) (spells e) h) k
@@ -190,7 +185,7 @@ module _ (answers : AnswersLaw) where
         (λ slots u any lawful. then_kept HasNumbersInRange HasNumbersInRange (mean_operand o u) _ (operand_kept o u (front (spells_operand o) list h) lawful)
         (λ array v a lawful. lawful))
 
-    slots_kept : (s : Slots) (w : WorkspaceValue) → HasConstantsInRange (spells_list s) → IsLawful w → IsKept Any (mean_slots s w)
+    slots_kept : (s : Slots) (w : WorkspaceValue) → HasConstantsInRange (spells_list s) → IsLawful w → LeavesLawful Any (mean_slots s w)
     slots_kept (last s) w h k = then_kept Any Any (mean_slot s w) _ (slot_kept s w h k) (λ slot u any lawful. (tt, lawful))
     slots_kept (more s c ss) w h k =
         let semicolon = token_at c lexeme.Semicolon in
@@ -199,23 +194,19 @@ module _ (answers : AnswersLaw) where
         (λ slots u any lawful. then_kept Any Any (mean_slot s u) _ (slot_kept s u (front (spells_slot s) (semicolon ∷ spells_list ss) h) lawful)
         (λ slot v any lawful. (tt, lawful)))
 
-    slot_kept : (s : Slot) (w : WorkspaceValue) → HasConstantsInRange (spells_slot s) → IsLawful w → IsKept Any (mean_slot s w)
+    slot_kept : (s : Slot) (w : WorkspaceValue) → HasConstantsInRange (spells_slot s) → IsLawful w → LeavesLawful Any (mean_slot s w)
     slot_kept nothing w h k = (tt, k)
     slot_kept (given e) w h k = then_kept HasNumbersInRange Any (mean e w) _ (mean_kept e w h k) (λ v u b lawful. (tt, lawful))
 
-    axis_kept : (a : Axis) (w : WorkspaceValue) → HasConstantsInRange (spells_axis a) → IsLawful w → IsKept Any (mean_axis a w)
+    axis_kept : (a : Axis) (w : WorkspaceValue) → HasConstantsInRange (spells_axis a) → IsLawful w → LeavesLawful Any (mean_axis a w)
     axis_kept none w h k = (tt, k)
     axis_kept (along l e r) w h k =
         then_kept HasNumbersInRange Any (mean e w) _
         (mean_kept e w (between (token_at l lexeme.OpenBracket) (token_at r lexeme.CloseBracket) (spells e) h) k)
         (λ v u b lawful. (tt, lawful))
 
-  kept_lawful : (m : Outcome ArrayValue) → IsKept HasNumbersInRange m → IsLawfulOutcome m
-  kept_lawful (done v w) h = h
-  kept_lawful (failed report column w) h = h
-
   pub outcome_lawful : (tree : Expr) (w : WorkspaceValue) → HasConstantsInRange (spells tree) → IsLawful w → IsLawfulOutcome (mean tree w)
-  outcome_lawful tree w h k = kept_lawful (mean tree w) (mean_kept tree w h k)
+  outcome_lawful = mean_kept
 
   pub evaluated_lawful : (tree : Expr) (old new : WorkspaceValue) (result : Result Shown EvalStop) → HasConstantsInRange (spells tree) → IsLawful old
       → Evaluates tree old new result → IsLawful new

@@ -11,7 +11,11 @@ pub record IsLawful (w : WorkspaceValue) : Type 0 where
   pub least_width : 30 ≤ w.width
   pub greatest_width : w.width ≤ 130
 
--- the workspace behind a value or a report is lawful, and the numbers of the value are in the range
+-- the workspace behind a value or a report is lawful, and the value has a property
+abbrev pub LeavesLawful : {V : Type 0} → (V → Type 0) → Outcome V → Type 0
+LeavesLawful P (done v w) = P v × IsLawful w
+LeavesLawful P (failed report column w) = IsLawful w
+
+-- the property is that its numbers are in the range
 abbrev pub IsLawfulOutcome : Outcome ArrayValue → Type 0
-IsLawfulOutcome (done v w) = HasNumbersInRange v × IsLawful w
-IsLawfulOutcome (failed report column w) = IsLawful w
+IsLawfulOutcome = LeavesLawful HasNumbersInRange

@@ -64,6 +64,11 @@ abbrev pub HasValue : List Item → Type 0
 HasValue (Some v ∷ below) = Unit {0}
 HasValue _ = ⊥
 
+-- a value is on top, and one below it
+abbrev pub HasTwoValues : List Item → Type 0
+HasTwoValues (Some a ∷ Some b ∷ below) = Unit {0}
+HasTwoValues _ = ⊥
+
 -- the workspace with the assignments of the line
 abbrev pub staged_in : NameValues → WorkspaceValue → WorkspaceValue
 staged_in staged w = with_names (overlaid staged w.names) w

@@ -11,14 +11,15 @@ ghost use Rattle.apl_eval.specs.Functions.{caret_column};
 ghost use Rattle.apl_eval.specs.Meaning.{Outcome, done, found, judged, mean, is_assignment};
 ghost use Rattle.apl_eval.specs.Evaluates.{Evaluates, IsShownAs};
 ghost use Rattle.apl_eval.specs.Refusals.{Answers};
-ghost use Rattle.apl_eval.specs.Steps.{step, stuck, onto, staged_in, IsOutcome, IsState};
+ghost use Rattle.apl_grammar.specs.declared.program.Operation.TheVariants as op;
+ghost use Rattle.apl_eval.specs.Steps.{step, stuck, onto, staged_in, HasValue, HasTwoValues, IsOutcome, IsState};
 
 use super::functions::{Refusal, caret_column, dyadic, monadic};
 use super::names::Names;
 use super::stack::Stack;
 use super::workspace::Workspace;
 use apl_array::Array;
-use apl_grammar::{Form, Operation, Program};
+use apl_grammar::{Brackets, Form, Operation, Program};
 use apl_pool::{Cut, Gate, Pool};
 use apl_print::{Report, print};
 use apl_tokens::Constant;
@@ -137,6 +138,47 @@ fn put(stack: &mut Stack, value: Result<Rc<Array>, EvalStop>) -> Result<(), Eval
     }
 }
 
+/// Puts a function's result in the place of its right argument on the stack.
+fn apply_monadic<R: Threads + Sync, C: Cut + Sync, G: Gate + Sync>(
+    rt: &R,
+    alloc: Global,
+    pool: &Pool<C, G>,
+    stack: &mut Stack,
+    form: Form,
+    axis: Option<Brackets>,
+) -> Result<(), EvalStop>
+    requires { axis ≡ None → HasValue stack.old }
+    ensures { (w : WorkspaceValue) → IsState (step (op.Monadic form axis) stack.old w) stack.new w result }
+{
+    let None = axis else {
+        return Err(not_built(caret_column(form)));
+    };
+    let right = stack.pop_value();
+    let result = monadic(rt, alloc, pool, form, &right);
+    put(stack, judged(alloc, result, form))
+}
+
+/// Puts a function's result in the place of its arguments on the stack, of which the left one is on top.
+fn apply_dyadic<R: Threads + Sync, C: Cut + Sync, G: Gate + Sync>(
+    rt: &R,
+    alloc: Global,
+    pool: &Pool<C, G>,
+    stack: &mut Stack,
+    form: Form,
+    axis: Option<Brackets>,
+) -> Result<(), EvalStop>
+    requires { axis ≡ None → HasTwoValues stack.old }
+    ensures { (w : WorkspaceValue) → IsState (step (op.Dyadic form axis) stack.old w) stack.new w result }
+{
+    let None = axis else {
+        return Err(not_built(caret_column(form)));
+    };
+    let left = stack.pop_value();
+    let right = stack.pop_value();
+    let result = dyadic(rt, alloc, pool, form, &left, &right);
+    put(stack, judged(alloc, result, form))
+}
+
 /// Carries out one operation. The line's assignments are staged, and read before the workspace's names.
 fn carry_out<R: Threads + Sync, C: Cut + Sync, G: Gate + Sync>(
     rt: &R,
@@ -163,23 +205,10 @@ fn carry_out<R: Threads + Sync, C: Cut + Sync, G: Gate + Sync>(
             Ok(())
         }
         Operation::Dyadic(function, axis) => {
-            let form = function.form();
-            let None = axis.brackets() else {
-                return Err(not_built(caret_column(form)));
-            };
-            let left = stack.pop_value();
-            let right = stack.pop_value();
-            let result = dyadic(rt, alloc, pool, form, &left, &right);
-            put(stack, judged(alloc, result, form))
+            apply_dyadic(rt, alloc, pool, stack, function.form(), axis.brackets())
         }
         Operation::Monadic(function, axis) => {
-            let form = function.form();
-            let None = axis.brackets() else {
-                return Err(not_built(caret_column(form)));
-            };
-            let right = stack.pop_value();
-            let result = monadic(rt, alloc, pool, form, &right);
-            put(stack, judged(alloc, result, form))
+            apply_monadic(rt, alloc, pool, stack, function.form(), axis.brackets())
         }
         Operation::Index(_, brackets) => Err(not_built(brackets.left)),
         Operation::AssignAt(target) => Err(not_built(target.indexed_name().arrow)),
