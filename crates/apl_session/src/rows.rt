@@ -8,9 +8,7 @@ use std::alloc::{AllocError, Global};
 use std::process::Abort;
 use std::test::Fail;
 use std::thread::Threads;
-use tables::{
-    CARETS, COMMANDS, FORMS_TO_COME, KINDS, LINES, NUMERALS, SCALARS, TEXTS, UNLISTED, VALUES,
-};
+use tables::{CARETS, COMMANDS, FORMS_TO_COME, LINES, NUMERALS, SCALARS, TEXTS, UNLISTED, VALUES};
 
 /// Whether a session writes exactly this on a pool, by takes and puts of at most so many bytes.
 fn writes<R: Threads + Sync>(
@@ -81,12 +79,6 @@ fn scalar_functions(rt: HostRuntime) -> Result<(), Fail> {
 #[test]
 fn lines_and_comments(rt: HostRuntime) -> Result<(), Fail> {
     check(&rt, rt.alloc(), &LINES);
-    Ok(())
-}
-
-#[test]
-fn lines_of_other_kinds(rt: HostRuntime) -> Result<(), Fail> {
-    check(&rt, rt.alloc(), &KINDS);
     Ok(())
 }
 

@@ -121,35 +121,8 @@ pub(super) const LINES: [(&str, &str); 9] = [
     ),
 ];
 
-/// Sessions of the other kinds: texts, a numeral out of range, carets, commands and unlisted symbols.
-pub(super) const KINDS: [(&str, &str); 8] = [
-    ("''\n", "\n"),
-    ("''''\n", "'\n"),
-    (
-        "9223372036854775808\n",
-        "LIMIT ERROR\n      9223372036854775808\n      ∧\n",
-    ),
-    (
-        "3+\n(1+2\n1)\n2+<3\n3←4\nA+/B\n1 ¯ 2\n'AB\n",
-        "SYNTAX ERROR\n      3+\n       ∧\nSYNTAX ERROR\n      (1+2\n      ∧\nSYNTAX ERROR\n      1)\n      ∧\nSYNTAX ERROR\n      2+<3\n       ∧\nSYNTAX ERROR\n      3←4\n      ∧\nSYNTAX ERROR\n      A+/B\n      ∧\nSYNTAX ERROR\n      1 ¯ 2\n        ∧\nSYNTAX ERROR\n      'AB\n      ∧\n",
-    ),
-    (
-        ")WIDTH 30\n1 2 3 4 5 6 7 8 9 10 11 12 13 14 15 16 17 18 19 20\n",
-        "WAS 120\n1 2 3 4 5 6 7 8 9 10 11 12 13\n      14 15 16 17 18 19 20\n",
-    ),
-    (
-        ")ORIGIN 0\n)ORIGIN 0\n)ORIGIN 2\n)width 60\n)CLEAR\n)OFF\n1\n",
-        "WAS 1\nWAS 0\nINCORRECT COMMAND\nINCORRECT COMMAND\nCLEAR WS\n",
-    ),
-    ("2○3\n", "CHARACTER ERROR\n      2\n       ∧\n"),
-    (
-        "2○3\n2+3 4 5\n",
-        "CHARACTER ERROR\n      2\n       ∧\n5 6 7\n",
-    ),
-];
-
 /// Numerals and the range.
-pub(super) const NUMERALS: [(&str, &str); 10] = [
+pub(super) const NUMERALS: [(&str, &str); 11] = [
     (
         "99999999999999999999 '\n",
         "LIMIT ERROR\n      99999999999999999999 '\n      ∧\n",
@@ -172,10 +145,14 @@ pub(super) const NUMERALS: [(&str, &str); 10] = [
         "1 9223372036854775808 ¯\n",
         "LIMIT ERROR\n      1 9223372036854775808 ¯\n        ∧\n",
     ),
+    (
+        "9223372036854775808\n",
+        "LIMIT ERROR\n      9223372036854775808\n      ∧\n",
+    ),
 ];
 
 /// Text constants.
-pub(super) const TEXTS: [(&str, &str); 9] = [
+pub(super) const TEXTS: [(&str, &str); 11] = [
     ("'AB'\n", "AB\n"),
     ("A←'AB'⍝ N\n", ""),
     ("'''\n", "SYNTAX ERROR\n      '''\n      ∧\n"),
@@ -185,10 +162,12 @@ pub(super) const TEXTS: [(&str, &str); 9] = [
     ("'A' 'B'\n", "SYNTAX ERROR\n      'A' 'B'\n      ∧\n"),
     ("''''''\n", "''\n"),
     ("' '\n", " \n"),
+    ("''\n", "\n"),
+    ("''''\n", "'\n"),
 ];
 
 /// Lines that are no statement, each with its caret.
-pub(super) const CARETS: [(&str, &str); 46] = [
+pub(super) const CARETS: [(&str, &str); 47] = [
     ("3+\n", "SYNTAX ERROR\n      3+\n       ∧\n"),
     ("_A\n", "SYNTAX ERROR\n      _A\n      ∧\n"),
     ("#\n", "SYNTAX ERROR\n      #\n      ∧\n"),
@@ -238,6 +217,10 @@ pub(super) const CARETS: [(&str, &str); 46] = [
     ("A+.×/B\n", "SYNTAX ERROR\n      A+.×/B\n        ∧\n"),
     ("'A'←3\n", "SYNTAX ERROR\n      'A'←3\n      ∧\n"),
     ("A[(1]\n", "SYNTAX ERROR\n      A[(1]\n        ∧\n"),
+    (
+        "3+\n(1+2\n1)\n2+<3\n3←4\nA+/B\n1 ¯ 2\n'AB\n",
+        "SYNTAX ERROR\n      3+\n       ∧\nSYNTAX ERROR\n      (1+2\n      ∧\nSYNTAX ERROR\n      1)\n      ∧\nSYNTAX ERROR\n      2+<3\n       ∧\nSYNTAX ERROR\n      3←4\n      ∧\nSYNTAX ERROR\n      A+/B\n      ∧\nSYNTAX ERROR\n      1 ¯ 2\n        ∧\nSYNTAX ERROR\n      'AB\n      ∧\n",
+    ),
 ];
 
 /// Forms that are not evaluated yet: their operands are, and then their caret is shown.
@@ -258,7 +241,7 @@ pub(super) const FORMS_TO_COME: [(&str, &str); 13] = [
 ];
 
 /// Commands.
-pub(super) const COMMANDS: [(&str, &str); 18] = [
+pub(super) const COMMANDS: [(&str, &str); 20] = [
     (")ORIGIN 00\n )ORIGIN 1\n", "WAS 1\nWAS 0\n"),
     (
         ")ORIGIN\n)WIDTH 29\n) CLEAR\n)CLEAR 1\n",
@@ -289,10 +272,18 @@ pub(super) const COMMANDS: [(&str, &str); 18] = [
         "A←3\n)ORIGIN 0\n)WIDTH 60\n)CLEAR\nA\n)ORIGIN 1\n)WIDTH 120\n",
         "WAS 1\nWAS 120\nCLEAR WS\nVALUE ERROR\n      A\n      ∧\nWAS 1\nWAS 120\n",
     ),
+    (
+        ")WIDTH 30\n1 2 3 4 5 6 7 8 9 10 11 12 13 14 15 16 17 18 19 20\n",
+        "WAS 120\n1 2 3 4 5 6 7 8 9 10 11 12 13\n      14 15 16 17 18 19 20\n",
+    ),
+    (
+        ")ORIGIN 0\n)ORIGIN 0\n)ORIGIN 2\n)width 60\n)CLEAR\n)OFF\n1\n",
+        "WAS 1\nWAS 0\nINCORRECT COMMAND\nINCORRECT COMMAND\nCLEAR WS\n",
+    ),
 ];
 
 /// An unlisted symbol is judged before all else.
-pub(super) const UNLISTED: [(&str, &str); 7] = [
+pub(super) const UNLISTED: [(&str, &str); 9] = [
     ("\u{feff}\n", "CHARACTER ERROR\n      \n      ∧\n"),
     ("1\t2\n", "CHARACTER ERROR\n      1\n       ∧\n"),
     ("1\r\r\n", "CHARACTER ERROR\n      1\n       ∧\n"),
@@ -300,4 +291,9 @@ pub(super) const UNLISTED: [(&str, &str); 7] = [
     ("'○'\n", "CHARACTER ERROR\n      '\n       ∧\n"),
     ("# ○\n", "CHARACTER ERROR\n      # \n        ∧\n"),
     ("'⍴×'○\n", "CHARACTER ERROR\n      '⍴×'\n          ∧\n"),
+    ("2○3\n", "CHARACTER ERROR\n      2\n       ∧\n"),
+    (
+        "2○3\n2+3 4 5\n",
+        "CHARACTER ERROR\n      2\n       ∧\n5 6 7\n",
+    ),
 ];
