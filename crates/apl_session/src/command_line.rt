@@ -20,13 +20,13 @@ pub fn settings(alloc: Global, words: &[&str]) -> Result<Settings, Error>
         .value_name("N")
         .help("How many workers share the work, from 1 to 64")
         .value_parser(value_parser!(u8).range(1..=i64::from(MOST_WORKERS)))
-        .default_value("4");
+        .default_value(WORKERS);
     let piece = Arg::new(alloc, "piece")
         .long("piece")
         .value_name("N")
         .help("How many elements each piece of the work has, from 1 to 1048576")
         .value_parser(value_parser!(u32).range(1..=i64::from(LONGEST_PIECE)))
-        .default_value("4096");
+        .default_value(PIECE);
     let command = Command::new(alloc, "aplcalc")
         .about(
             "Reads lines of APL from standard input, and writes the answer to each to standard output.",
@@ -36,8 +36,8 @@ pub fn settings(alloc: Global, words: &[&str]) -> Result<Settings, Error>
         .arg(piece)?;
     let matches = command.try_get_matches_from(words)?;
     // The ranges are checked and the defaults are filled in by now, so nothing changes below.
-    let workers = matches.get_one::<u8>("workers").unwrap_or(WORKERS);
-    let piece = matches.get_one::<u32>("piece").unwrap_or(PIECE);
+    let workers = matches.get_one::<u8>("workers").unwrap_or(1);
+    let piece = matches.get_one::<u32>("piece").unwrap_or(1);
     Ok(Settings {
         workers: workers.clamp(1, MOST_WORKERS),
         piece: piece.clamp(1, LONGEST_PIECE),
@@ -45,10 +45,10 @@ pub fn settings(alloc: Global, words: &[&str]) -> Result<Settings, Error>
 }
 
 /// How many workers there are where no option says so.
-const WORKERS: u8 = 4;
+const WORKERS: &str = "4";
 
 /// How many elements a piece has where no option says so.
-const PIECE: u32 = 4096;
+const PIECE: &str = "4096";
 
 /// The end of the help.
 const STATUSES: &str = "Exit status:
