@@ -55,9 +55,3 @@ bounds_within tasks count bounds are k inside =
     let same : k + (tasks - k) ≡ tasks = omega arith in
     let apart = rw same at (bounds_apart tasks count bounds are k (tasks - k) (omega arith)) in
     omega (arith, apart, are.last)
-
--- stretches begin in order
-pub bounds_order : (tasks count : ℕ) (bounds : List ℕ) → AreBounds tasks count bounds → (j k : ℕ) → j ≤ k → k ≤ tasks → slice_index bounds j ≤ slice_index bounds k
-bounds_order tasks count bounds are j k order inside =
-    let same : j + (k - j) ≡ k = omega arith in
-    rw same at (bounds_apart tasks count bounds are j (k - j) (omega arith))
