@@ -1,0 +1,66 @@
+3+
+(1+2
+1)
+2+<3
+3←4
+A+/B
+1 ¯ 2
+'AB
+)CLEAR
+  1)
+)CLEAR
+ ←3
+)CLEAR
+A←
+)CLEAR
+A[1
+)CLEAR
+[1]
+)CLEAR
+()
+)CLEAR
+A[1;2
+)CLEAR
+1 2;3
+)CLEAR
+(A)←3
+)CLEAR
+(A)[1]←3
+)CLEAR
+A[1][2]←3
+)CLEAR
+A∘+B
+)CLEAR
+A+.B
+)CLEAR
+A∘.⍴B
+)CLEAR
+∘.+B
+)CLEAR
+A+[1]B
+)CLEAR
+,[1]B
+)CLEAR
+⍋[1]B
+)CLEAR
+~/B
+)CLEAR
+⍴/B
+)CLEAR
+/B
+)CLEAR
+A⌽[1;2]B
+)CLEAR
+A⌽[]B
+)CLEAR
+1+2)
+)CLEAR
+(1)2
+)CLEAR
+A B
+)CLEAR
+A+.×/B
+)CLEAR
+'A'←3
+)CLEAR
+A[(1]

@@ -1,0 +1,23 @@
+2○3
+)CLEAR
+99999999999999999999 '
+)CLEAR
+1 ⍝ ○
+)CLEAR
+'○'
+)CLEAR
+# ○
+)CLEAR
+'⍴×'○
+)CLEAR
+1^2
+)CLEAR
+1.5
+)CLEAR
+A←3 {
+)CLEAR
+"A"
+)CLEAR
+?6
+)CLEAR
+∘
