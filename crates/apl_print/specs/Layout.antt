@@ -1,4 +1,5 @@
--- How the printer lays out a row, field by field. Only the contracts of its own functions cite this: what is printed is said by `Row` and `Shown`.
+-- How the printer lays out a row, field by field: what is printed is said by `Row` and `Shown`. No contract of a public function
+-- cites this file.
 use Rattle.std.specs.Prelude.{ℕ, ◌+◌, ◌-◌, List, [], ◌∷◌, ◌++◌, Option, Some, None, length, take, drop, map, replicate, nat_le, if◌then◌else◌}
 use Rattle.apl_print.specs.Text.{line_feed, blanks, indent}
 use Rattle.apl_array.specs.Array.{ArrayValue}

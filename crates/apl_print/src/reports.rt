@@ -11,7 +11,7 @@ pub enum Report {
     Domain,
     Limit,
     Character,
-    /// The line needed more memory than there was.
+    /// A growth was refused.
     WsFull,
 }
 

@@ -1,4 +1,4 @@
--- How far a run has come, in the middle of its text.
+-- How far a run has come, in the middle of its text. No contract of a public function cites this file.
 use Rattle.std.specs.Prelude.{◌≡◌, ℕ, ◌<◌, ◌≤◌, List, [], ◌∷◌, ◌++◌, length, flat_map, All, Option, Some, false, Result, Ok, Err}
 use Rattle.std.specs.Io.KnownBytes.{Appends}
 use Rattle.apl_print.specs.Text.{ended}

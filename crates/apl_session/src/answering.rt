@@ -39,11 +39,12 @@ pub fn run<R: Threads + Sync, C: Cut + Sync, G: Gate + Sync, I: Source, S: Sink>
     ensures write { result ≡ Err RunFault.Write → AnswersFront session_semantics opening_workspace (I.coming source.old)
         (S.taken sink.old) (S.taken sink.new) }
 
-    // The text of the lines before the one that could not be held is written, and nothing else.
+    // The text of the first lines is written, and nothing else. What is left begins with a byte of the next line, after which
+    // at most one block was taken.
     ensures memory { result ≡ Err RunFault.Memory → AnswersLines session_semantics opening_workspace (I.coming source.old)
         (S.taken sink.old) (S.taken sink.new) (BeginsUnheld BLOCK (I.coming source.new)) }
 
-    // A fault of a device comes only where that device failed in the call, and then it failed once.
+    // A fault of a device comes only where the device's count of failures rose in the call, and then it rose by one.
     ensures source_failed { result ≡ Err RunFault.Read → I.failures source.new ≡ one_more (I.failures source.old) }
     ensures source_sound { result ≢ Err RunFault.Read → I.failures source.new ≡ I.failures source.old }
     ensures sink_failed { result ≡ Err RunFault.Write → S.failures sink.new ≡ one_more (S.failures sink.old) }
