@@ -16,9 +16,9 @@ use Rattle.apl_grammar.specs.declared.program.Form.TheVariants.{Plain, Reduce, I
 use Rattle.apl_grammar.specs.Tree.{Expr, value, dyadic, monadic, assign, assign_at, Operand, constant, name, group, index, Slots, last, more, Slot, nothing, given, Axis, none, along, token_at, spells, spells_form, spells_operand, spells_list, spells_slot, spells_axis}
 use Rattle.apl_print.specs.declared.reports.Report.{Report}
 use Rattle.apl_print.specs.declared.reports.Report.TheVariants.{Syntax}
-use Rattle.apl_scalar.specs.declared.function.ScalarFunction.{ScalarFunction}
+use Rattle.apl_array.specs.declared.function.ScalarFunction.{ScalarFunction}
 use Rattle.apl_scalar.specs.declared.function.OpFault.{OpFault}
-use Rattle.apl_scalar.specs.Scalar.{has_monadic, has_dyadic}
+use Rattle.apl_array.specs.Valences.{has_monadic, has_dyadic}
 use Rattle.apl_scalar.specs.Monadic.{monadic_answer}
 use Rattle.apl_scalar.specs.Dyadic.{dyadic_answer}
 use Rattle.apl_eval.specs.declared.statement.Shown.{Shown}

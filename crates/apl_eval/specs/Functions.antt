@@ -1,17 +1,16 @@
 -- Functions in all their forms: where their faults are shown, and their results.
 use Rattle.std.specs.Prelude.{ℕ, Option, Some, None, Result, Ok, Err, if◌then◌else◌}
 use Rattle.apl_array.specs.Array.{ArrayValue}
+use Rattle.apl_array.specs.declared.function.ScalarFunction.{ScalarFunction}
+use Rattle.apl_array.specs.Valences.{has_monadic, has_dyadic}
 use Rattle.apl_tokens.specs.declared.token.Glyph.{Glyph}
-use Rattle.apl_tokens.specs.declared.token.Glyph.TheVariants as glyph
+use Rattle.apl_tokens.specs.declared.token.Glyph.TheVariants.{Scalar}
 use Rattle.apl_grammar.specs.declared.program.Form.{Form}
 use Rattle.apl_grammar.specs.declared.program.Form.TheVariants.{Plain, Reduce, Inner, Outer}
 use Rattle.apl_print.specs.declared.reports.Report.{Report}
 use Rattle.apl_print.specs.declared.reports.Report.TheVariants as report
-use Rattle.apl_scalar.specs.declared.function.ScalarFunction.{ScalarFunction}
-use Rattle.apl_scalar.specs.declared.function.ScalarFunction.TheVariants as scalar
 use Rattle.apl_scalar.specs.declared.function.OpFault.{OpFault}
 use Rattle.apl_scalar.specs.declared.function.OpFault.TheVariants as fault
-use Rattle.apl_scalar.specs.Scalar.{has_monadic, has_dyadic}
 use Rattle.apl_scalar.specs.Monadic.{monadic_answer}
 use Rattle.apl_scalar.specs.Dyadic.{dyadic_answer}
 
@@ -24,26 +23,7 @@ caret_column (Outer jot dot column function) = dot
 
 -- the scalar function of a glyph, if it has one
 abbrev pub scalar_function : Glyph → Option ScalarFunction
-scalar_function glyph.Plus = Some scalar.Plus
-scalar_function glyph.Minus = Some scalar.Minus
-scalar_function glyph.Times = Some scalar.Times
-scalar_function glyph.Divide = Some scalar.Divide
-scalar_function glyph.Stile = Some scalar.Stile
-scalar_function glyph.Star = Some scalar.Star
-scalar_function glyph.Bang = Some scalar.Bang
-scalar_function glyph.Floor = Some scalar.Floor
-scalar_function glyph.Ceiling = Some scalar.Ceiling
-scalar_function glyph.And = Some scalar.And
-scalar_function glyph.Or = Some scalar.Or
-scalar_function glyph.Nand = Some scalar.Nand
-scalar_function glyph.Nor = Some scalar.Nor
-scalar_function glyph.Less = Some scalar.Less
-scalar_function glyph.LessOrEqual = Some scalar.LessOrEqual
-scalar_function glyph.Equal = Some scalar.Equal
-scalar_function glyph.GreaterOrEqual = Some scalar.GreaterOrEqual
-scalar_function glyph.Greater = Some scalar.Greater
-scalar_function glyph.NotEqual = Some scalar.NotEqual
-scalar_function glyph.Tilde = Some scalar.Tilde
+scalar_function (Scalar f) = Some f
 scalar_function _ = None
 
 -- the report of a fault; want of memory is the answer of no function

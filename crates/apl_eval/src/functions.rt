@@ -56,26 +56,7 @@ fn scalar_function(glyph: Glyph) -> Option<Prim>
     ensures { result ≡ scalar_function glyph }
 {
     match glyph {
-        Glyph::Plus => Some(Prim::Plus),
-        Glyph::Minus => Some(Prim::Minus),
-        Glyph::Times => Some(Prim::Times),
-        Glyph::Divide => Some(Prim::Divide),
-        Glyph::Stile => Some(Prim::Stile),
-        Glyph::Star => Some(Prim::Star),
-        Glyph::Bang => Some(Prim::Bang),
-        Glyph::Floor => Some(Prim::Floor),
-        Glyph::Ceiling => Some(Prim::Ceiling),
-        Glyph::And => Some(Prim::And),
-        Glyph::Or => Some(Prim::Or),
-        Glyph::Nand => Some(Prim::Nand),
-        Glyph::Nor => Some(Prim::Nor),
-        Glyph::Less => Some(Prim::Less),
-        Glyph::LessOrEqual => Some(Prim::LessOrEqual),
-        Glyph::Equal => Some(Prim::Equal),
-        Glyph::GreaterOrEqual => Some(Prim::GreaterOrEqual),
-        Glyph::Greater => Some(Prim::Greater),
-        Glyph::NotEqual => Some(Prim::NotEqual),
-        Glyph::Tilde => Some(Prim::Tilde),
+        Glyph::Scalar(function) => Some(function),
         _ => None,
     }
 }

@@ -3,9 +3,12 @@ use Rattle.std.proofs.Common.{◌≡◌, ◌++◌, ◌∷◌, [], List, Some, re
 use Rattle.std.specs.Prelude.{ℕ, Bool, true, false, IsTrue, ◌&&◌, option_and_then}
 use Rattle.apl_tokens.specs.declared.token.Lexeme.TheVariants as lexeme
 use Rattle.apl_tokens.specs.declared.token.Glyph.{Glyph}
+use Rattle.apl_tokens.specs.declared.token.Class.{Class}
+use Rattle.apl_tokens.specs.declared.token.Class.TheVariants.{Scalar, Rotation, Slash, Backslash}
+use Rattle.apl_tokens.specs.Symbols.{class_of}
 use Rattle.apl_grammar.specs.declared.program.Form.{Form}
 use Rattle.apl_grammar.specs.declared.program.Form.TheVariants.{Plain, Reduce, Inner, Outer}
-use Rattle.apl_grammar.specs.Functions.{Class, scalar_both, rotation, slash, backslash, class_of, is_scalar, is_monadic, takes_axis, is_rotation, reduces, may_be_monadic, may_be_dyadic}
+use Rattle.apl_grammar.specs.Functions.{is_dyadic_scalar, is_monadic, takes_axis, is_rotation, reduces, may_be_monadic, may_be_dyadic}
 use Rattle.apl_grammar.specs.Tree.{Expr, value, dyadic, monadic, assign, assign_at, Operand, constant, name, group, index, Slots, last, more, Slot, nothing, given, Axis, none, along, has_axis, IsTree, IsOperand, IsList, IsSlot, IsAxis, token_at, spells, spells_operand, spells_list, spells_slot, spells_axis, spells_form}
 use Rattle.apl_grammar.proofs.Partial.{Wanted, alone, applied, indexed, fill, Level, wanted, whole, dotted, arrowed, beside, named, no_slots, slots, Frame, grouped, sliced, either, stored, as_dyadic, with_index, as_wanted, level_by, level_for, at_operand, at_name, at_close, at_slice, at_close_bracket, only, at_function, at_dot, slot_of, sliced_by, at_semicolon, wanted_by, at_open_bracket, step, run_from, run_from-parts}
 
@@ -15,16 +18,16 @@ both_true false b h = absurd cc
 
 -- what the symbol of a reduction may not do
 reduces_plain : (k : Class) → IsTrue (reduces k) → (is_monadic k ≡ false) × IsTrue (takes_axis k) × (is_rotation k ≡ false)
-reduces_plain slash h = (refl, refl, refl)
-reduces_plain backslash h = (refl, refl, refl)
-reduces_plain scalar_both h = absurd cc
+reduces_plain Slash h = (refl, refl, refl)
+reduces_plain Backslash h = (refl, refl, refl)
+reduces_plain (Scalar f) h = absurd cc
 reduces_plain _ h = absurd cc
 
 abbrev pub level_axis : Axis → Expr → Level
 level_axis none e = whole e
 level_axis (along l x r) e = beside l x r e
 
-dot_read : (b : Bool) (fr : List Frame) (d c : ℕ) (g : Glyph) (e : Expr) → IsTrue (is_scalar (class_of g)) → at_dot fr d (level_by b (Plain c g) none e) ≡ Some (fr, dotted d c g e)
+dot_read : (b : Bool) (fr : List Frame) (d c : ℕ) (g : Glyph) (e : Expr) → IsTrue (is_dyadic_scalar (class_of g)) → at_dot fr d (level_by b (Plain c g) none e) ≡ Some (fr, dotted d c g e)
 dot_read true fr d c g e h = rw h refl
 dot_read false fr d c g e h = rw h refl
 
@@ -33,7 +36,7 @@ form2_read : (f : Form) (a : Axis) (e : Expr) (fr : List Frame) → IsTrue (may_
 form2_read (Plain c g) none e fr h = refl
 form2_read (Plain c g) (along l x r) e fr h = rw h refl
 form2_read (Inner c f d k g) none e fr h =
-    let both : IsTrue (is_scalar (class_of f)) × IsTrue (is_scalar (class_of g)) = both_true (is_scalar (class_of f)) (is_scalar (class_of g)) h in
+    let both : IsTrue (is_dyadic_scalar (class_of f)) × IsTrue (is_dyadic_scalar (class_of g)) = both_true (is_dyadic_scalar (class_of f)) (is_dyadic_scalar (class_of g)) h in
     ap (option_and_then (step (token_at c (lexeme.Function f)))) (dot_read (is_monadic (class_of g)) fr d k g e both.1)
     ∙ ap (λ b. only b fr (wanted (applied (Inner c f d k g) none e))) both.0
 form2_read (Outer j d c g) none e fr h = ap (option_and_then (step (token_at j lexeme.Jot))) (dot_read (is_monadic (class_of g)) fr d c g e h)
@@ -42,7 +45,7 @@ form2_read (Outer j d c g) (along l x r) e fr h = absurd cc
 form2_read (Reduce c f s g) none e fr h = absurd cc
 form2_read (Reduce c f s g) (along l x r) e fr h = absurd cc
 
-reduce_read : (fr : List Frame) (c : ℕ) (f : Glyph) (s : ℕ) (g : Glyph) (a : Axis) (e : Expr) (b : Bool) → b ≡ false → IsTrue (is_scalar (class_of f)) → IsTrue (reduces (class_of g)) → at_function fr c f (level_by b (Plain s g) a e) ≡ Some (fr, whole (monadic (Reduce c f s g) a e))
+reduce_read : (fr : List Frame) (c : ℕ) (f : Glyph) (s : ℕ) (g : Glyph) (a : Axis) (e : Expr) (b : Bool) → b ≡ false → IsTrue (is_dyadic_scalar (class_of f)) → IsTrue (reduces (class_of g)) → at_function fr c f (level_by b (Plain s g) a e) ≡ Some (fr, whole (monadic (Reduce c f s g) a e))
 reduce_read fr c f s g a e true h hf hg = absurd cc
 reduce_read fr c f s g a e false h hf hg = rw (hf, hg) refl
 
@@ -51,14 +54,14 @@ form1_read (Plain c g) none e fr h = rw h refl
 form1_read (Plain c g) (along l x r) e fr h = rw (rotation_takes (class_of g) h, h) refl
   where
     rotation_takes : (k : Class) → IsTrue (is_rotation k) → takes_axis k ≡ true
-    rotation_takes rotation h = refl
-    rotation_takes scalar_both h = absurd cc
+    rotation_takes Rotation h = refl
+    rotation_takes (Scalar f) h = absurd cc
     rotation_takes _ h = absurd cc
 form1_read (Reduce c f s g) none e fr h =
-    let both : IsTrue (is_scalar (class_of f)) × IsTrue (reduces (class_of g)) = both_true (is_scalar (class_of f)) (reduces (class_of g)) h in
+    let both : IsTrue (is_dyadic_scalar (class_of f)) × IsTrue (reduces (class_of g)) = both_true (is_dyadic_scalar (class_of f)) (reduces (class_of g)) h in
     reduce_read fr c f s g none e (is_monadic (class_of g)) (reduces_plain (class_of g) both.1).0 both.0 both.1
 form1_read (Reduce c f s g) (along l x r) e fr h =
-    let both : IsTrue (is_scalar (class_of f)) × IsTrue (reduces (class_of g)) = both_true (is_scalar (class_of f)) (reduces (class_of g)) h in
+    let both : IsTrue (is_dyadic_scalar (class_of f)) × IsTrue (reduces (class_of g)) = both_true (is_dyadic_scalar (class_of f)) (reduces (class_of g)) h in
     ap (λ b. option_and_then (step (token_at c (lexeme.Function f))) (only b fr (level_for (Plain s g) (along l x r) e))) (reduces_plain (class_of g) both.1).1
     ∙ reduce_read fr c f s g (along l x r) e (is_rotation (class_of g)) (reduces_plain (class_of g) both.1).2 both.0 both.1
 form1_read (Inner c f d k g) a e fr h = absurd cc

@@ -6,6 +6,7 @@ use Rattle.apl_tokens.specs.declared.token.Token.{Token}
 use Rattle.apl_tokens.specs.declared.token.Lexeme.{Lexeme}
 use Rattle.apl_tokens.specs.declared.token.Lexeme.TheVariants as lexeme
 use Rattle.apl_tokens.specs.declared.token.Glyph.{Glyph}
+use Rattle.apl_tokens.specs.Symbols.{class_of}
 use Rattle.apl_grammar.specs.declared.program.Form.TheVariants.{Plain, Reduce, Inner, Outer}
 use Rattle.apl_grammar.specs.declared.program.Operation.{Operation}
 use Rattle.apl_grammar.specs.declared.program.Operation.TheVariants as op
@@ -13,7 +14,7 @@ use Rattle.apl_grammar.specs.declared.reader.State.{State}
 use Rattle.apl_grammar.specs.declared.reader.State.TheVariants as state
 use Rattle.apl_grammar.specs.declared.reader.Entry.{Entry}
 use Rattle.apl_grammar.specs.declared.reader.Entry.TheVariants as entry
-use Rattle.apl_grammar.specs.Functions.{class_of, is_scalar, takes_axis, reduces, may_be_dyadic}
+use Rattle.apl_grammar.specs.Functions.{is_dyadic_scalar, takes_axis, reduces, may_be_dyadic}
 use Rattle.apl_grammar.specs.Tree.{Expr, value, dyadic, monadic, assign, assign_at, Operand, constant, name, group, last, Slot, nothing, given, none, along, has_axis, brackets, indexed_name, axis_brackets, semicolons, operations, operand_operations, list_operations, slot_operations, axis_operations}
 use Rattle.apl_grammar.specs.Automaton.{Machine, machine, completed, with_dyadic, with_index, waiting, with_operand, with_name, settled, applied, filled, with_function, with_dot, with_jot, with_arrow, closed_group, with_open_paren, with_close_paren, with_close_bracket, with_slot, is_empty_slot, parted, with_semicolon, closed_list, with_open_bracket, step, step_lexeme, run, ended, finished}
 use Rattle.apl_grammar.proofs.Partial as partial
@@ -138,14 +139,14 @@ function_follows c g fr (beside l x r e) ps os h = by_axis (takes_axis (class_of
     by_axis : (b : Bool) → takes_axis (class_of g) ≡ b → Follows (only (takes_axis (class_of g)) fr (level_for (Plain c g) (along l x r) e)) (if takes_axis (class_of g) then Some (applied (Plain c g) (Some (brackets l r)) (filled os (pending_of e (first_place ps))) (frame_entries fr (other_places ps))) else None)
     by_axis true is = rw is (applied_Holds (Plain c g) (along l x r) e fr (other_places ps) (filled os (pending_of e (first_place ps))) (axis_Emits fr ps r e (operations x) os h))
     by_axis false is = rw is tt
-function_follows c g fr (dotted d k f e) ps os h = by_class (is_scalar (class_of g)) refl
+function_follows c g fr (dotted d k f e) ps os h = by_class (is_dyadic_scalar (class_of g)) refl
   where
-    by_class : (b : Bool) → is_scalar (class_of g) ≡ b → Follows (only (is_scalar (class_of g)) fr (wanted (applied_to (Inner c g d k f) none e))) (if is_scalar (class_of g) then Some (machine os (entry.Waiting (op.Dyadic (Inner c g d k f) None) ∷ frame_entries fr ps) state.Wanted) else None)
+    by_class : (b : Bool) → is_dyadic_scalar (class_of g) ≡ b → Follows (only (is_dyadic_scalar (class_of g)) fr (wanted (applied_to (Inner c g d k f) none e))) (if is_dyadic_scalar (class_of g) then Some (machine os (entry.Waiting (op.Dyadic (Inner c g d k f) None) ∷ frame_entries fr ps) state.Wanted) else None)
     by_class true is = rw is (record { places = ps; emits = Emits-nil fr ps (operations e) os h; entries = refl; state = refl })
     by_class false is = rw is tt
-function_follows c g fr (wanted (applied_to (Plain s f) a e)) ps os h = by_class (is_scalar (class_of g) && reduces (class_of f)) refl
+function_follows c g fr (wanted (applied_to (Plain s f) a e)) ps os h = by_class (is_dyadic_scalar (class_of g) && reduces (class_of f)) refl
   where
-    by_class : (b : Bool) → (is_scalar (class_of g) && reduces (class_of f)) ≡ b → Follows (only (is_scalar (class_of g) && reduces (class_of f)) fr (whole (monadic (Reduce c g s f) a e))) (if is_scalar (class_of g) && reduces (class_of f) then Some (machine os (frame_entries fr ps) (state.Monadic (Reduce c g s f) (axis_brackets a))) else None)
+    by_class : (b : Bool) → (is_dyadic_scalar (class_of g) && reduces (class_of f)) ≡ b → Follows (only (is_dyadic_scalar (class_of g) && reduces (class_of f)) fr (whole (monadic (Reduce c g s f) a e))) (if is_dyadic_scalar (class_of g) && reduces (class_of f) then Some (machine os (frame_entries fr ps) (state.Monadic (Reduce c g s f) (axis_brackets a))) else None)
     by_class true is = rw is (record { places = ps; emits = h; entries = refl; state = refl })
     by_class false is = rw is tt
 function_follows c g [] (wanted alone) ps os h = tt
@@ -161,9 +162,9 @@ function_follows c g fr (arrowed r e) ps os h = tt
 function_follows c g fr (named l s d r e) ps os h = tt
 
 dot_follows : (d : ℕ) (fr : List Frame) (l : Level) (ps : List ℕ) (os : List (Option Operation)) → EmitsLevel fr l ps os → Follows (at_dot fr d l) (with_dot os (level_entries fr l ps) (level_state l ps) d)
-dot_follows d fr (whole (monadic (Plain c g) none e)) ps os h = by_class (is_scalar (class_of g)) refl
+dot_follows d fr (whole (monadic (Plain c g) none e)) ps os h = by_class (is_dyadic_scalar (class_of g)) refl
   where
-    by_class : (b : Bool) → is_scalar (class_of g) ≡ b → Follows (only (is_scalar (class_of g)) fr (dotted d c g e)) (if is_scalar (class_of g) then Some (machine os (frame_entries fr ps) (state.Dotted d c g)) else None)
+    by_class : (b : Bool) → is_dyadic_scalar (class_of g) ≡ b → Follows (only (is_dyadic_scalar (class_of g)) fr (dotted d c g e)) (if is_dyadic_scalar (class_of g) then Some (machine os (frame_entries fr ps) (state.Dotted d c g)) else None)
     by_class true is = rw is (record { places = ps; emits = Emits-same fr ps (operations e ++ []) (operations e) os (append-nil (operations e)) h; entries = refl; state = refl })
     by_class false is = rw is tt
 dot_follows d fr (whole (monadic (Plain c g) (along l x r) e)) ps os h = tt
@@ -174,9 +175,9 @@ dot_follows d fr (whole (value o)) ps os h = tt
 dot_follows d fr (whole (dyadic o f a e)) ps os h = tt
 dot_follows d fr (whole (assign c n r e)) ps os h = tt
 dot_follows d fr (whole (assign_at c n l s k r e)) ps os h = tt
-dot_follows d fr (wanted (applied_to (Plain c g) none e)) ps os h = by_class (is_scalar (class_of g)) refl
+dot_follows d fr (wanted (applied_to (Plain c g) none e)) ps os h = by_class (is_dyadic_scalar (class_of g)) refl
   where
-    by_class : (b : Bool) → is_scalar (class_of g) ≡ b → Follows (only (is_scalar (class_of g)) fr (dotted d c g e)) (if is_scalar (class_of g) then Some (machine os (frame_entries fr ps) (state.Dotted d c g)) else None)
+    by_class : (b : Bool) → is_dyadic_scalar (class_of g) ≡ b → Follows (only (is_dyadic_scalar (class_of g)) fr (dotted d c g e)) (if is_dyadic_scalar (class_of g) then Some (machine os (frame_entries fr ps) (state.Dotted d c g)) else None)
     by_class true is = rw is (record { places = ps; emits = Emits-same fr ps (operations e ++ []) (operations e) os (append-nil (operations e)) h; entries = refl; state = refl })
     by_class false is = rw is tt
 dot_follows d fr (wanted (applied_to (Plain c g) (along l x r) e)) ps os h = tt

@@ -5,9 +5,10 @@ use Rattle.apl_tokens.specs.declared.token.Token.{Token}
 use Rattle.apl_tokens.specs.declared.token.Lexeme.{Lexeme}
 use Rattle.apl_tokens.specs.declared.token.Lexeme.TheVariants as lexeme
 use Rattle.apl_tokens.specs.declared.token.Glyph.{Glyph}
+use Rattle.apl_tokens.specs.Symbols.{class_of}
 use Rattle.apl_grammar.specs.declared.program.Form.{Form}
 use Rattle.apl_grammar.specs.declared.program.Form.TheVariants.{Plain, Reduce, Inner, Outer}
-use Rattle.apl_grammar.specs.Functions.{class_of, is_scalar, takes_axis, reduces, may_be_monadic, may_be_dyadic}
+use Rattle.apl_grammar.specs.Functions.{is_dyadic_scalar, takes_axis, reduces, may_be_monadic, may_be_dyadic}
 use Rattle.apl_grammar.specs.Tree.{Expr, value, dyadic, monadic, assign, assign_at, Operand, constant, name, group, index, Slots, last, more, Slot, nothing, given, Axis, none, along, has_axis}
 
 -- what an operand is wanted for
@@ -105,13 +106,13 @@ only false fr l = None
 abbrev pub at_function : List Frame → ℕ → Glyph → Level → Option Config
 at_function fr c g (whole e) = Some (fr, level_for (Plain c g) none e)
 at_function fr c g (beside l x r e) = only (takes_axis (class_of g)) fr (level_for (Plain c g) (along l x r) e)
-at_function fr c g (dotted d k h e) = only (is_scalar (class_of g)) fr (wanted (applied (Inner c g d k h) none e))
-at_function fr c g (wanted (applied (Plain s h) a e)) = only (is_scalar (class_of g) && reduces (class_of h)) fr (whole (monadic (Reduce c g s h) a e))
+at_function fr c g (dotted d k h e) = only (is_dyadic_scalar (class_of g)) fr (wanted (applied (Inner c g d k h) none e))
+at_function fr c g (wanted (applied (Plain s h) a e)) = only (is_dyadic_scalar (class_of g) && reduces (class_of h)) fr (whole (monadic (Reduce c g s h) a e))
 at_function fr c g _ = None
 
 abbrev pub at_dot : List Frame → ℕ → Level → Option Config
-at_dot fr d (whole (monadic (Plain c g) none e)) = only (is_scalar (class_of g)) fr (dotted d c g e)
-at_dot fr d (wanted (applied (Plain c g) none e)) = only (is_scalar (class_of g)) fr (dotted d c g e)
+at_dot fr d (whole (monadic (Plain c g) none e)) = only (is_dyadic_scalar (class_of g)) fr (dotted d c g e)
+at_dot fr d (wanted (applied (Plain c g) none e)) = only (is_dyadic_scalar (class_of g)) fr (dotted d c g e)
 at_dot fr d _ = None
 
 abbrev pub at_jot : List Frame → ℕ → Level → Option Config

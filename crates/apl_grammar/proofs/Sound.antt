@@ -1,12 +1,18 @@
 -- What was read is spelled by partial trees, and some tree ends with it.
 use Rattle.std.proofs.Common.{◌≡◌, ◌++◌, ◌∷◌, [], List, Option, Some, None, refl, sym, ◌∙◌, ap, subst, append_assoc}
 use Rattle.std.specs.Prelude.{ℕ, Bool, true, false, IsTrue, ◌&&◌, option_and_then}
+use Rattle.apl_array.specs.declared.function.ScalarFunction.{ScalarFunction}
+use Rattle.apl_array.specs.declared.function.ScalarFunction.TheVariants.{Tilde}
+use Rattle.apl_array.specs.Valences.{has_monadic, has_dyadic}
 use Rattle.apl_tokens.specs.declared.token.Token.{Token}
 use Rattle.apl_tokens.specs.declared.token.Lexeme.{Lexeme}
 use Rattle.apl_tokens.specs.declared.token.Lexeme.TheVariants as lexeme
 use Rattle.apl_tokens.specs.declared.token.Glyph.{Glyph}
+use Rattle.apl_tokens.specs.declared.token.Class.{Class}
+use Rattle.apl_tokens.specs.declared.token.Class.TheVariants.{Scalar, MonadicOnly}
+use Rattle.apl_tokens.specs.Symbols.{class_of}
 use Rattle.apl_grammar.specs.declared.program.Form.TheVariants.{Plain, Reduce, Inner, Outer}
-use Rattle.apl_grammar.specs.Functions.{Class, scalar_both, monadic_only, class_of, is_scalar, is_monadic, is_dyadic, takes_axis, is_rotation, reduces, may_be_monadic, may_be_dyadic}
+use Rattle.apl_grammar.specs.Functions.{is_dyadic_scalar, is_monadic, is_dyadic, takes_axis, is_rotation, reduces, may_be_monadic, may_be_dyadic}
 use Rattle.apl_grammar.specs.Tree.{Expr, value, dyadic, monadic, assign, assign_at, Operand, constant, name, group, index, Slots, last, Slot, nothing, given, Axis, none, along, has_axis, IsTree, IsOperand, IsList, IsSlot, IsAxis, token_at, spells, spells_operand, spells_list, spells_slot, spells_axis, spells_form}
 use Rattle.apl_grammar.proofs.Partial.{Wanted, alone, applied, indexed, fill, Level, wanted, whole, dotted, arrowed, beside, named, Tail, no_slots, slots, Frame, grouped, sliced, either, stored, Config, join, when, as_dyadic, with_index, as_wanted, level_by, level_for, at_operand, at_name, at_close, at_slice, at_close_bracket, only, at_function, at_dot, at_jot, at_arrow, at_open, slot_of, sliced_by, at_semicolon, wanted_by, at_open_bracket, step_lexeme, step, run}
 use Rattle.std.specs.Prelude.{IfSome}
@@ -47,7 +53,7 @@ IsWanted (indexed w l s r) = IsWanted w × IsList s
 abbrev pub IsLevel : Level → Type 0
 IsLevel (wanted w) = IsWanted w
 IsLevel (whole e) = IsTree e
-IsLevel (dotted d c g e) = IsTrue (is_scalar (class_of g)) × IsTree e
+IsLevel (dotted d c g e) = IsTrue (is_dyadic_scalar (class_of g)) × IsTree e
 IsLevel (arrowed r e) = IsTree e
 IsLevel (beside l x r e) = IsTree x × IsTree e
 IsLevel (named l s d r e) = IsList s × IsTree e
@@ -166,10 +172,14 @@ close_bracket_sound c fr (dotted d k g e) hf hl = tt
 close_bracket_sound c fr (beside l x r e) hf hl = slice_sound c fr (beside l x r e) hf hl
 close_bracket_sound c fr (named l s d r e) hf hl = tt
 
+scalar_dyadic : (f : ScalarFunction) → has_monadic f ≡ false → IsTrue (has_dyadic f)
+scalar_dyadic Tilde h = absurd cc
+scalar_dyadic _ h = refl
+
 -- a symbol that may not be monadic may be dyadic
 plain_dyadic : (k : Class) → is_monadic k ≡ false → IsTrue (is_dyadic k)
-plain_dyadic monadic_only h = absurd cc
-plain_dyadic scalar_both h = refl
+plain_dyadic MonadicOnly h = absurd cc
+plain_dyadic (Scalar f) h = scalar_dyadic f h
 plain_dyadic _ h = refl
 
 level_sound : (c : ℕ) (g : Glyph) (a : Axis) (e : Expr) (fr : List Frame) (ts : List Token) (b : Bool) → (b ≡ may_be_monadic (Plain c g) (has_axis a)) → (b ≡ false → IsTrue (may_be_dyadic (Plain c g) (has_axis a))) → AreFrames fr → IsAxis a → IsTree e → (spells_axis a ++ spells e) ++ spelled_frames fr ≡ ts → Reads (token_at c (lexeme.Function g)) ts (fr, level_by b (Plain c g) a e)
@@ -188,10 +198,10 @@ function_sound c g fr (beside l x r e) hf hl =
     only_sound (takes_axis (class_of g)) fr (level_for (Plain c g) (along l x r) e) (token_at c (lexeme.Function g)) (spelled fr (beside l x r e))
     (λ h. level_sound c g (along l x r) e fr (spelled fr (beside l x r e)) (is_rotation (class_of g)) refl (λ _. h) hf hl.0 hl.1 (simp append_assoc))
 function_sound c g fr (dotted d k h e) hf hl =
-    only_sound (is_scalar (class_of g)) fr (wanted (applied (Inner c g d k h) none e)) (token_at c (lexeme.Function g)) (spelled fr (dotted d k h e))
+    only_sound (is_dyadic_scalar (class_of g)) fr (wanted (applied (Inner c g d k h) none e)) (token_at c (lexeme.Function g)) (spelled fr (dotted d k h e))
     (λ i. record { frames = hf; level = (rw (i, hl.0) refl, tt, hl.1); spelled_so = refl })
 function_sound c g fr (wanted (applied (Plain s h) a e)) hf hl =
-    only_sound (is_scalar (class_of g) && reduces (class_of h)) fr (whole (monadic (Reduce c g s h) a e)) (token_at c (lexeme.Function g)) (spelled fr (wanted (applied (Plain s h) a e)))
+    only_sound (is_dyadic_scalar (class_of g) && reduces (class_of h)) fr (whole (monadic (Reduce c g s h) a e)) (token_at c (lexeme.Function g)) (spelled fr (wanted (applied (Plain s h) a e)))
     (λ i. record { frames = hf; level = (i, hl.1, hl.2); spelled_so = refl })
 function_sound c g fr (wanted alone) hf hl = tt
 function_sound c g fr (wanted (indexed w l s r)) hf hl = tt
@@ -203,10 +213,10 @@ function_sound c g fr (named l s d r e) hf hl = tt
 
 dot_sound : (d : ℕ) (fr : List Frame) (l : Level) → AreFrames fr → IsLevel l → IfSome (at_dot fr d l) (Reads (token_at d lexeme.Dot) (spelled fr l))
 dot_sound d fr (whole (monadic (Plain c g) none e)) hf hl =
-    only_sound (is_scalar (class_of g)) fr (dotted d c g e) (token_at d lexeme.Dot) (spelled fr (whole (monadic (Plain c g) none e)))
+    only_sound (is_dyadic_scalar (class_of g)) fr (dotted d c g e) (token_at d lexeme.Dot) (spelled fr (whole (monadic (Plain c g) none e)))
     (λ i. record { frames = hf; level = (i, hl.2); spelled_so = refl })
 dot_sound d fr (wanted (applied (Plain c g) none e)) hf hl =
-    only_sound (is_scalar (class_of g)) fr (dotted d c g e) (token_at d lexeme.Dot) (spelled fr (wanted (applied (Plain c g) none e)))
+    only_sound (is_dyadic_scalar (class_of g)) fr (dotted d c g e) (token_at d lexeme.Dot) (spelled fr (wanted (applied (Plain c g) none e)))
     (λ i. record { frames = hf; level = (i, hl.2); spelled_so = refl })
 dot_sound d fr _ hf hl = tt
 

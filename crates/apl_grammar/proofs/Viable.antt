@@ -7,7 +7,8 @@ use Rattle.apl_grammar.specs.declared.program.Form.TheVariants.{Plain, Inner}
 use Rattle.apl_grammar.specs.Tree.{Expr, dyadic, assign, assign_at, Operand, name, group, index, given, none, along, IsTree, token_at, spells}
 use Rattle.apl_grammar.proofs.Partial.{fill, Level, wanted, whole, dotted, arrowed, beside, named, Frame, grouped, sliced, either, stored, Config, join, step, run}
 use Rattle.std.proofs.lemmas.List.{append-nil}
-use Rattle.apl_tokens.specs.declared.token.Glyph.TheVariants.{Plus, Comma}
+use Rattle.apl_array.specs.declared.function.ScalarFunction.TheVariants.{Plus}
+use Rattle.apl_tokens.specs.declared.token.Glyph.TheVariants.{Scalar, Comma}
 use Rattle.apl_grammar.specs.Caret.{IsViableSuffix, IsCaret, HasNoTree}
 use Rattle.apl_grammar.proofs.Complete.{run_from-spells}
 use Rattle.apl_grammar.proofs.Sound.{spelled_wanted, spelled_level, spelled_frames, spelled, IsLevel, AreFrames, fill-spells, fill_tree, join-spells, join_list, Spelled-of}
@@ -29,7 +30,7 @@ level_ends : (l : Level) → IsLevel l → Ends (spelled_level l)
 unfolding some_operand
 level_ends (wanted w) h = record { tree = fill w some_operand; front = token_at 0 (lexeme.Name some_name) ∷ []; fits = fill_tree w some_operand tt h; same = fill-spells w some_operand }
 level_ends (whole e) h = record { tree = e; front = []; fits = h; same = refl }
-level_ends (dotted d c g e) h = record { tree = dyadic some_operand (Inner 0 Plus d c g) none e; front = token_at 0 (lexeme.Name some_name) ∷ token_at 0 (lexeme.Function Plus) ∷ []; fits = (tt, h.0, tt, h.1); same = refl }
+level_ends (dotted d c g e) h = record { tree = dyadic some_operand (Inner 0 (Scalar Plus) d c g) none e; front = token_at 0 (lexeme.Name some_name) ∷ token_at 0 (lexeme.Function (Scalar Plus)) ∷ []; fits = (tt, h.0, tt, h.1); same = refl }
 level_ends (arrowed r e) h = record { tree = assign 0 some_name r e; front = token_at 0 (lexeme.Name some_name) ∷ []; fits = h; same = refl }
 level_ends (beside l x r e) h = record { tree = dyadic some_operand (Plain 0 Comma) (along l x r) e; front = token_at 0 (lexeme.Name some_name) ∷ token_at 0 (lexeme.Function Comma) ∷ []; fits = (tt, refl, h.0, h.1); same = simp append_assoc }
 level_ends (named l s d r e) h = record { tree = assign_at 0 some_name l s d r e; front = token_at 0 (lexeme.Name some_name) ∷ []; fits = h; same = refl }

@@ -4,6 +4,7 @@ use Rattle.apl_tokens.specs.declared.token.Token.{Token}
 use Rattle.apl_tokens.specs.declared.token.Lexeme.{Lexeme}
 use Rattle.apl_tokens.specs.declared.token.Lexeme.TheVariants as lexeme
 use Rattle.apl_tokens.specs.declared.token.Glyph.{Glyph}
+use Rattle.apl_tokens.specs.Symbols.{class_of}
 use Rattle.apl_grammar.specs.declared.program.Brackets.{Brackets}
 use Rattle.apl_grammar.specs.declared.program.Form.{Form}
 use Rattle.apl_grammar.specs.declared.program.Form.TheVariants.{Plain, Reduce, Inner, Outer}
@@ -17,7 +18,7 @@ use Rattle.apl_grammar.specs.declared.reader.Entry.{Entry}
 use Rattle.apl_grammar.specs.declared.reader.Entry.TheVariants as entry
 use Rattle.apl_grammar.specs.declared.statement.GrammarStop.{GrammarStop}
 use Rattle.apl_grammar.specs.declared.statement.GrammarStop.TheVariants as stop
-use Rattle.apl_grammar.specs.Functions.{class_of, is_scalar, takes_axis, reduces, may_be_monadic, may_be_dyadic}
+use Rattle.apl_grammar.specs.Functions.{is_dyadic_scalar, takes_axis, reduces, may_be_monadic, may_be_dyadic}
 use Rattle.apl_grammar.specs.Tree.{brackets, indexed_name}
 
 -- The operations emitted so far, with empty places among them; what waits, the innermost first; and the state.
@@ -88,21 +89,21 @@ abbrev pub with_function : List (Option Operation) → List Entry → State → 
 with_function os es (state.Beside b p) c g =
     if takes_axis (class_of g) then Some (applied (Plain c g) (Some b) (filled os p) es) else None
 with_function os es (state.Dotted d k h) c g =
-    if is_scalar (class_of g) then Some (machine os (entry.Waiting (op.Dyadic (Inner c g d k h) None) ∷ es) state.Wanted) else None
+    if is_dyadic_scalar (class_of g) then Some (machine os (entry.Waiting (op.Dyadic (Inner c g d k h) None) ∷ es) state.Wanted) else None
 with_function os (entry.Waiting (op.Dyadic (Plain s h) a) ∷ es) state.Wanted c g =
-    if is_scalar (class_of g) && reduces (class_of h) then Some (machine os es (state.Monadic (Reduce c g s h) a)) else None
+    if is_dyadic_scalar (class_of g) && reduces (class_of h) then Some (machine os es (state.Monadic (Reduce c g s h) a)) else None
 with_function os es s c g = option_map (λ os. applied (Plain c g) None os es) (settled os s)
 
 -- a dot before a function
 abbrev pub dotted : ℕ → Form → Option Brackets → Option State
-dotted d (Plain c g) None = if is_scalar (class_of g) then Some (state.Dotted d c g) else None
+dotted d (Plain c g) None = if is_dyadic_scalar (class_of g) then Some (state.Dotted d c g) else None
 dotted d f a = None
 
 abbrev pub with_dot : List (Option Operation) → List Entry → State → ℕ → Option Machine
 with_dot os es (state.Monadic (Plain c g) None) d =
-    if is_scalar (class_of g) then Some (machine os es (state.Dotted d c g)) else None
+    if is_dyadic_scalar (class_of g) then Some (machine os es (state.Dotted d c g)) else None
 with_dot os (entry.Waiting (op.Dyadic (Plain c g) None) ∷ es) state.Wanted d =
-    if is_scalar (class_of g) then Some (machine os es (state.Dotted d c g)) else None
+    if is_dyadic_scalar (class_of g) then Some (machine os es (state.Dotted d c g)) else None
 with_dot os es s d = None
 
 abbrev pub with_jot : List (Option Operation) → List Entry → State → ℕ → Option Machine

@@ -1,76 +1,48 @@
 //! Which function may be monadic, dyadic, or take an axis.
 ghost use Rattle.std.specs.Prelude.{◌≡◌};
-ghost use Rattle.apl_grammar.specs.Functions.{class_of, may_be_monadic, may_be_dyadic, is_scalar, is_monadic, is_dyadic, is_rotation, takes_axis, reduces};
+ghost use Rattle.apl_tokens.specs.Symbols.{class_of};
+ghost use Rattle.apl_grammar.specs.Functions.{may_be_monadic, may_be_dyadic, is_dyadic_scalar, is_monadic, is_dyadic, is_rotation, takes_axis, reduces};
 
 use super::program::Form;
-use apl_tokens::Glyph;
+use apl_tokens::{Class, Glyph};
 
 /// Whether the function applies element by element to two arguments.
-pub(crate) fn is_scalar(glyph: Glyph) -> bool
-    ensures { result ≡ is_scalar (class_of glyph) }
+pub(crate) fn is_dyadic_scalar(glyph: Glyph) -> bool
+    ensures { result ≡ is_dyadic_scalar (class_of glyph) }
 {
-    matches!(
-        glyph,
-        Glyph::Plus
-            | Glyph::Minus
-            | Glyph::Times
-            | Glyph::Divide
-            | Glyph::Stile
-            | Glyph::Bang
-            | Glyph::Floor
-            | Glyph::Ceiling
-            | Glyph::Star
-            | Glyph::And
-            | Glyph::Or
-            | Glyph::Nand
-            | Glyph::Nor
-            | Glyph::Less
-            | Glyph::LessOrEqual
-            | Glyph::Equal
-            | Glyph::GreaterOrEqual
-            | Glyph::Greater
-            | Glyph::NotEqual
-    )
+    match glyph.class() {
+        Class::Scalar(function) => function.is_dyadic(),
+        _ => false,
+    }
 }
 
 /// Whether the function's symbol may stand alone before one argument.
 fn is_monadic(glyph: Glyph) -> bool
     ensures { result ≡ is_monadic (class_of glyph) }
 {
-    matches!(
-        glyph,
-        Glyph::Plus
-            | Glyph::Minus
-            | Glyph::Times
-            | Glyph::Divide
-            | Glyph::Stile
-            | Glyph::Bang
-            | Glyph::Floor
-            | Glyph::Ceiling
-            | Glyph::Tilde
-            | Glyph::GradeUp
-            | Glyph::GradeDown
-            | Glyph::Rho
-            | Glyph::Iota
-            | Glyph::Transpose
-            | Glyph::CircleStile
-            | Glyph::CircleBar
-            | Glyph::Comma
-    )
+    match glyph.class() {
+        Class::Scalar(function) => function.is_monadic(),
+        Class::MonadicOnly | Class::BothValences | Class::Rotation | Class::Catenation => true,
+        Class::DyadicOnly | Class::Slash | Class::Backslash => false,
+    }
 }
 
 /// Whether the function's symbol may stand between two arguments.
 fn is_dyadic(glyph: Glyph) -> bool
     ensures { result ≡ is_dyadic (class_of glyph) }
 {
-    !matches!(glyph, Glyph::Tilde | Glyph::GradeUp | Glyph::GradeDown)
+    match glyph.class() {
+        Class::Scalar(function) => function.is_dyadic(),
+        Class::MonadicOnly => false,
+        _ => true,
+    }
 }
 
 /// Whether the function of one argument takes an axis.
 fn is_rotation(glyph: Glyph) -> bool
     ensures { result ≡ is_rotation (class_of glyph) }
 {
-    matches!(glyph, Glyph::CircleStile | Glyph::CircleBar)
+    matches!(glyph.class(), Class::Rotation)
 }
 
 /// Whether the function of two arguments takes an axis.
@@ -78,14 +50,8 @@ pub(crate) fn takes_axis(glyph: Glyph) -> bool
     ensures { result ≡ takes_axis (class_of glyph) }
 {
     matches!(
-        glyph,
-        Glyph::CircleStile
-            | Glyph::CircleBar
-            | Glyph::Comma
-            | Glyph::Slash
-            | Glyph::SlashBar
-            | Glyph::Backslash
-            | Glyph::BackslashBar
+        glyph.class(),
+        Class::Rotation | Class::Catenation | Class::Slash | Class::Backslash
     )
 }
 
@@ -93,7 +59,7 @@ pub(crate) fn takes_axis(glyph: Glyph) -> bool
 pub(crate) fn reduces(glyph: Glyph) -> bool
     ensures { result ≡ reduces (class_of glyph) }
 {
-    matches!(glyph, Glyph::Slash | Glyph::SlashBar)
+    matches!(glyph.class(), Class::Slash)
 }
 
 /// Whether the form may be a function of one argument.
@@ -107,7 +73,7 @@ pub(crate) fn may_be_monadic(form: Form, has_axis: bool) -> bool
             function,
             slash,
             ..
-        } => is_scalar(function) && reduces(slash),
+        } => is_dyadic_scalar(function) && reduces(slash),
         Form::Inner { .. } | Form::Outer { .. } => false,
     }
 }
@@ -119,8 +85,9 @@ pub(crate) fn may_be_dyadic(form: Form, has_axis: bool) -> bool
     match form {
         Form::Plain { glyph, .. } if has_axis => takes_axis(glyph),
         Form::Plain { glyph, .. } => is_dyadic(glyph),
-        Form::Inner { left, right, .. } if !has_axis => is_scalar(left) && is_scalar(right),
-        Form::Outer { function, .. } if !has_axis => is_scalar(function),
+        Form::Inner { left, right, .. } if !has_axis => is_dyadic_scalar(left)
+            && is_dyadic_scalar(right),
+        Form::Outer { function, .. } if !has_axis => is_dyadic_scalar(function),
         _ => false,
     }
 }

@@ -5,7 +5,7 @@ ghost use Rattle.apl_grammar.specs.declared.program.Form.TheVariants.{Plain};
 ghost use Rattle.apl_grammar.specs.declared.program.Operation.{Operation};
 ghost use Rattle.apl_grammar.specs.declared.reader.State.TheVariants.{Whole, Wanted};
 
-use super::functions::{is_scalar, may_be_dyadic, may_be_monadic, reduces, takes_axis};
+use super::functions::{is_dyadic_scalar, may_be_dyadic, may_be_monadic, reduces, takes_axis};
 use super::places::Places;
 use super::program::{Axis, Brackets, Columns, Form, Function, IndexedName, Operation, Target};
 use super::statement::GrammarStop;
@@ -353,7 +353,7 @@ impl Reader {
             Form::Plain {
                 column: slash_column,
                 glyph: slash,
-            } if is_scalar(glyph) && reduces(slash) => {
+            } if is_dyadic_scalar(glyph) && reduces(slash) => {
                 let form = Form::Reduce {
                     column,
                     function: glyph,
@@ -381,7 +381,7 @@ impl Reader {
                 self.apply(column, glyph, axis)
             }
             State::Dotted(dot, right_column, right) => {
-                if !is_scalar(glyph) {
+                if !is_dyadic_scalar(glyph) {
                     return Err(Refusal::Syntax);
                 }
                 let form = Form::Inner {
@@ -409,7 +409,7 @@ impl Reader {
         ensures entries { self.new.entries ≡ self.old.entries }
     {
         match function.form() {
-            Form::Plain { column, glyph } if is_scalar(glyph) && !axis.is_some() => {
+            Form::Plain { column, glyph } if is_dyadic_scalar(glyph) && !axis.is_some() => {
                 self.state = State::Dotted(dot, column, glyph);
                 Ok(())
             }

@@ -18,8 +18,8 @@ use Rattle.apl_array.specs.Array.{ArrayValue, element_at}
 use Rattle.apl_array.specs.Range.{IsInRange, in_range, IsElementInRange, HasNumbersInRange}
 use Rattle.apl_pool.specs.declared.kernel.Fault.{Fault}
 use Rattle.apl_pool.specs.declared.kernel.Fault.TheVariants.{Limit}
-use Rattle.apl_scalar.specs.declared.function.ScalarFunction.{ScalarFunction}
-use Rattle.apl_scalar.specs.declared.function.ScalarFunction.TheVariants.{Plus, Minus, Times, Divide, Stile, Star, Bang, Floor, Ceiling, And, Or, Nand, Nor, Less, LessOrEqual, Equal, GreaterOrEqual, Greater, NotEqual, Tilde}
+use Rattle.apl_array.specs.declared.function.ScalarFunction.{ScalarFunction}
+use Rattle.apl_array.specs.declared.function.ScalarFunction.TheVariants.{Plus, Minus, Times, Divide, Stile, Star, Bang, Floor, Ceiling, And, Or, Nand, Nor, Less, LessOrEqual, Equal, GreaterOrEqual, Greater, NotEqual, Tilde}
 use Rattle.apl_scalar.specs.declared.function.OpFault.{OpFault}
 use Rattle.apl_scalar.specs.Arithmetic.{factorial, binomial, residue}
 use Rattle.apl_scalar.specs.Scalar.{exact, bit, is_bit, is_one, logical, quotient, power, monadic_number, dyadic_numbers, monadic_of, compare_elements, dyadic_of, as_element}

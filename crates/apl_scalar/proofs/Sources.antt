@@ -12,8 +12,8 @@ use Rattle.apl_array.specs.Array.{ArrayValue, IsArray, element_in, element_at, k
 use Rattle.apl_pool.specs.declared.kernel.Fault.TheVariants.{Domain}
 use Rattle.apl_scalar.specs.declared.function.OpFault.{OpFault}
 use Rattle.apl_scalar.specs.declared.function.OpFault.TheVariants.{Rank, Length}
-use Rattle.apl_scalar.specs.declared.function.ScalarFunction.{ScalarFunction}
-use Rattle.apl_scalar.specs.declared.function.ScalarFunction.TheVariants.{Equal, NotEqual}
+use Rattle.apl_array.specs.declared.function.ScalarFunction.{ScalarFunction}
+use Rattle.apl_array.specs.declared.function.ScalarFunction.TheVariants.{Equal, NotEqual}
 use Rattle.apl_scalar.specs.Extension.{is_same_shape, has_one_element, extended_shape, source_index}
 use Rattle.apl_scalar.specs.Operands.{operand_at, pair_at}
 use Rattle.apl_scalar.specs.Scalar.{monadic_number, monadic_of, dyadic_of, compare_elements}

@@ -3,7 +3,7 @@ use Rattle.std.specs.Prelude.{ℕ, ℤ, List, Result}
 use Rattle.apl_array.specs.declared.array.Kind.TheVariants.{Number}
 use Rattle.apl_array.specs.Array.{ArrayValue, element_at}
 use Rattle.apl_pool.specs.declared.kernel.Fault.{Fault}
-use Rattle.apl_scalar.specs.declared.function.ScalarFunction.{ScalarFunction}
+use Rattle.apl_array.specs.declared.function.ScalarFunction.{ScalarFunction}
 use Rattle.apl_scalar.specs.declared.function.OpFault.{OpFault}
 use Rattle.apl_scalar.specs.Scalar.{monadic_of, as_element}
 use Rattle.apl_scalar.specs.Pointwise.{answer_of}

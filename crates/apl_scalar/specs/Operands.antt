@@ -3,7 +3,7 @@ use Rattle.std.specs.Prelude.{ℕ, ℤ, pos, Bool, List, Result, slice_index_or,
 use Rattle.apl_array.specs.declared.array.Elem.{Elem}
 use Rattle.apl_array.specs.declared.array.Elem.TheVariants.{Int}
 use Rattle.apl_pool.specs.declared.kernel.Fault.{Fault}
-use Rattle.apl_scalar.specs.declared.function.ScalarFunction.{ScalarFunction}
+use Rattle.apl_array.specs.declared.function.ScalarFunction.{ScalarFunction}
 use Rattle.apl_scalar.specs.Scalar.{dyadic_of}
 
 -- the element at its own place where the argument is whole, else the first

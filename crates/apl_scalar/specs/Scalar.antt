@@ -7,8 +7,8 @@ use Rattle.apl_array.specs.declared.array.Elem.TheVariants.{Int, Chr}
 use Rattle.apl_array.specs.Range.{in_range, least_number, greatest_number}
 use Rattle.apl_pool.specs.declared.kernel.Fault.{Fault}
 use Rattle.apl_pool.specs.declared.kernel.Fault.TheVariants.{Domain, Limit}
-use Rattle.apl_scalar.specs.declared.function.ScalarFunction.{ScalarFunction}
-use Rattle.apl_scalar.specs.declared.function.ScalarFunction.TheVariants.{Plus, Minus, Times, Divide, Stile, Star, Bang, Floor, Ceiling, And, Or, Nand, Nor, Less, LessOrEqual, Equal, GreaterOrEqual, Greater, NotEqual, Tilde}
+use Rattle.apl_array.specs.declared.function.ScalarFunction.{ScalarFunction}
+use Rattle.apl_array.specs.declared.function.ScalarFunction.TheVariants.{Plus, Minus, Times, Divide, Stile, Star, Bang, Floor, Ceiling, And, Or, Nand, Nor, Less, LessOrEqual, Equal, GreaterOrEqual, Greater, NotEqual, Tilde}
 use Rattle.apl_scalar.specs.Arithmetic.{factorial, binomial, residue}
 
 -- an exact whole number, which is Limit where it is outside the range
@@ -121,23 +121,6 @@ identity_of GreaterOrEqual = Some (pos 1)
 identity_of Greater = Some (pos 0)
 identity_of NotEqual = Some (pos 0)
 identity_of Tilde = None
-
--- the functions of the table of monadic functions, and of that of dyadic ones
-abbrev pub has_monadic : ScalarFunction → Bool
-has_monadic Plus = true
-has_monadic Minus = true
-has_monadic Times = true
-has_monadic Divide = true
-has_monadic Stile = true
-has_monadic Bang = true
-has_monadic Floor = true
-has_monadic Ceiling = true
-has_monadic Tilde = true
-has_monadic _ = false
-
-abbrev pub has_dyadic : ScalarFunction → Bool
-has_dyadic Tilde = false
-has_dyadic _ = true
 
 -- ---- elements
 

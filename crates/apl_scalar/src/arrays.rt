@@ -1,19 +1,19 @@
 //! The scalar functions of arrays.
 ghost use Rattle.std.specs.Prelude.{◌≡◌, ℕ, IfOk, IfErr, Ok, IsTrue};
 ghost use Rattle.apl_array.specs.Shape.{count_of, index_at};
+ghost use Rattle.apl_array.specs.Valences.{has_monadic, has_dyadic};
 ghost use Rattle.apl_pool.specs.Pool.{AreValues, IsStopOf};
-ghost use Rattle.apl_scalar.specs.Scalar.{has_monadic, has_dyadic};
 ghost use Rattle.apl_scalar.specs.Extension.{extended_shape};
 ghost use Rattle.apl_scalar.specs.Pointwise.{IsAnswerOf};
 ghost use Rattle.apl_scalar.specs.Monadic.{monadic_answer, monadic_element};
 ghost use Rattle.apl_scalar.specs.Dyadic.{dyadic_answer, dyadic_number};
 
 use crate::extend::extended;
-use crate::function::{OpFault, ScalarFunction};
+use crate::function::OpFault;
 use crate::operands::Pairs;
 use crate::passes::{fill_character_pairs, fill_number_pairs, fill_numbers, fill_uniform};
 use crate::tables::compare;
-use apl_array::{Array, Shape, places_match_index_lists};
+use apl_array::{Array, ScalarFunction, Shape, places_match_index_lists};
 use apl_pool::{Cut, Fault, Gate, Pool, Stop};
 use std::alloc::Global;
 use std::thread::Threads;

@@ -1,11 +1,11 @@
 //! Each scalar function as a type of its own, so that a pass over an array is compiled for each
 //! function and does not choose between functions at each element.
 
-use crate::function::ScalarFunction;
+use apl_array::ScalarFunction;
 
 /// A type that names a scalar function.
 pub(crate) trait Function {
-    ghost use Rattle.apl_scalar.specs.declared.function.ScalarFunction.{ScalarFunction};
+    ghost use Rattle.apl_array.specs.declared.function.ScalarFunction.{ScalarFunction};
 
     ghost FUNCTION: { ScalarFunction };
 
@@ -16,7 +16,7 @@ pub(crate) trait Function {
 pub(crate) struct Plus;
 
 impl Function for Plus {
-    ghost use Rattle.apl_scalar.specs.declared.function.ScalarFunction.TheVariants.{Plus as Named};
+    ghost use Rattle.apl_array.specs.declared.function.ScalarFunction.TheVariants.{Plus as Named};
 
     ghost FUNCTION = { Named };
 
@@ -27,7 +27,7 @@ impl Function for Plus {
 pub(crate) struct Minus;
 
 impl Function for Minus {
-    ghost use Rattle.apl_scalar.specs.declared.function.ScalarFunction.TheVariants.{Minus as Named};
+    ghost use Rattle.apl_array.specs.declared.function.ScalarFunction.TheVariants.{Minus as Named};
 
     ghost FUNCTION = { Named };
 
@@ -38,7 +38,7 @@ impl Function for Minus {
 pub(crate) struct Times;
 
 impl Function for Times {
-    ghost use Rattle.apl_scalar.specs.declared.function.ScalarFunction.TheVariants.{Times as Named};
+    ghost use Rattle.apl_array.specs.declared.function.ScalarFunction.TheVariants.{Times as Named};
 
     ghost FUNCTION = { Named };
 
@@ -49,7 +49,7 @@ impl Function for Times {
 pub(crate) struct Divide;
 
 impl Function for Divide {
-    ghost use Rattle.apl_scalar.specs.declared.function.ScalarFunction.TheVariants.{Divide as Named};
+    ghost use Rattle.apl_array.specs.declared.function.ScalarFunction.TheVariants.{Divide as Named};
 
     ghost FUNCTION = { Named };
 
@@ -60,7 +60,7 @@ impl Function for Divide {
 pub(crate) struct Stile;
 
 impl Function for Stile {
-    ghost use Rattle.apl_scalar.specs.declared.function.ScalarFunction.TheVariants.{Stile as Named};
+    ghost use Rattle.apl_array.specs.declared.function.ScalarFunction.TheVariants.{Stile as Named};
 
     ghost FUNCTION = { Named };
 
@@ -71,7 +71,7 @@ impl Function for Stile {
 pub(crate) struct Star;
 
 impl Function for Star {
-    ghost use Rattle.apl_scalar.specs.declared.function.ScalarFunction.TheVariants.{Star as Named};
+    ghost use Rattle.apl_array.specs.declared.function.ScalarFunction.TheVariants.{Star as Named};
 
     ghost FUNCTION = { Named };
 
@@ -82,7 +82,7 @@ impl Function for Star {
 pub(crate) struct Bang;
 
 impl Function for Bang {
-    ghost use Rattle.apl_scalar.specs.declared.function.ScalarFunction.TheVariants.{Bang as Named};
+    ghost use Rattle.apl_array.specs.declared.function.ScalarFunction.TheVariants.{Bang as Named};
 
     ghost FUNCTION = { Named };
 
@@ -93,7 +93,7 @@ impl Function for Bang {
 pub(crate) struct Floor;
 
 impl Function for Floor {
-    ghost use Rattle.apl_scalar.specs.declared.function.ScalarFunction.TheVariants.{Floor as Named};
+    ghost use Rattle.apl_array.specs.declared.function.ScalarFunction.TheVariants.{Floor as Named};
 
     ghost FUNCTION = { Named };
 
@@ -104,7 +104,7 @@ impl Function for Floor {
 pub(crate) struct Ceiling;
 
 impl Function for Ceiling {
-    ghost use Rattle.apl_scalar.specs.declared.function.ScalarFunction.TheVariants.{Ceiling as Named};
+    ghost use Rattle.apl_array.specs.declared.function.ScalarFunction.TheVariants.{Ceiling as Named};
 
     ghost FUNCTION = { Named };
 
@@ -115,7 +115,7 @@ impl Function for Ceiling {
 pub(crate) struct And;
 
 impl Function for And {
-    ghost use Rattle.apl_scalar.specs.declared.function.ScalarFunction.TheVariants.{And as Named};
+    ghost use Rattle.apl_array.specs.declared.function.ScalarFunction.TheVariants.{And as Named};
 
     ghost FUNCTION = { Named };
 
@@ -126,7 +126,7 @@ impl Function for And {
 pub(crate) struct Or;
 
 impl Function for Or {
-    ghost use Rattle.apl_scalar.specs.declared.function.ScalarFunction.TheVariants.{Or as Named};
+    ghost use Rattle.apl_array.specs.declared.function.ScalarFunction.TheVariants.{Or as Named};
 
     ghost FUNCTION = { Named };
 
@@ -137,7 +137,7 @@ impl Function for Or {
 pub(crate) struct Nand;
 
 impl Function for Nand {
-    ghost use Rattle.apl_scalar.specs.declared.function.ScalarFunction.TheVariants.{Nand as Named};
+    ghost use Rattle.apl_array.specs.declared.function.ScalarFunction.TheVariants.{Nand as Named};
 
     ghost FUNCTION = { Named };
 
@@ -148,7 +148,7 @@ impl Function for Nand {
 pub(crate) struct Nor;
 
 impl Function for Nor {
-    ghost use Rattle.apl_scalar.specs.declared.function.ScalarFunction.TheVariants.{Nor as Named};
+    ghost use Rattle.apl_array.specs.declared.function.ScalarFunction.TheVariants.{Nor as Named};
 
     ghost FUNCTION = { Named };
 
@@ -159,7 +159,7 @@ impl Function for Nor {
 pub(crate) struct Less;
 
 impl Function for Less {
-    ghost use Rattle.apl_scalar.specs.declared.function.ScalarFunction.TheVariants.{Less as Named};
+    ghost use Rattle.apl_array.specs.declared.function.ScalarFunction.TheVariants.{Less as Named};
 
     ghost FUNCTION = { Named };
 
@@ -170,7 +170,7 @@ impl Function for Less {
 pub(crate) struct LessOrEqual;
 
 impl Function for LessOrEqual {
-    ghost use Rattle.apl_scalar.specs.declared.function.ScalarFunction.TheVariants.{LessOrEqual as Named};
+    ghost use Rattle.apl_array.specs.declared.function.ScalarFunction.TheVariants.{LessOrEqual as Named};
 
     ghost FUNCTION = { Named };
 
@@ -181,7 +181,7 @@ impl Function for LessOrEqual {
 pub(crate) struct Equal;
 
 impl Function for Equal {
-    ghost use Rattle.apl_scalar.specs.declared.function.ScalarFunction.TheVariants.{Equal as Named};
+    ghost use Rattle.apl_array.specs.declared.function.ScalarFunction.TheVariants.{Equal as Named};
 
     ghost FUNCTION = { Named };
 
@@ -192,7 +192,7 @@ impl Function for Equal {
 pub(crate) struct GreaterOrEqual;
 
 impl Function for GreaterOrEqual {
-    ghost use Rattle.apl_scalar.specs.declared.function.ScalarFunction.TheVariants.{GreaterOrEqual as Named};
+    ghost use Rattle.apl_array.specs.declared.function.ScalarFunction.TheVariants.{GreaterOrEqual as Named};
 
     ghost FUNCTION = { Named };
 
@@ -203,7 +203,7 @@ impl Function for GreaterOrEqual {
 pub(crate) struct Greater;
 
 impl Function for Greater {
-    ghost use Rattle.apl_scalar.specs.declared.function.ScalarFunction.TheVariants.{Greater as Named};
+    ghost use Rattle.apl_array.specs.declared.function.ScalarFunction.TheVariants.{Greater as Named};
 
     ghost FUNCTION = { Named };
 
@@ -214,7 +214,7 @@ impl Function for Greater {
 pub(crate) struct NotEqual;
 
 impl Function for NotEqual {
-    ghost use Rattle.apl_scalar.specs.declared.function.ScalarFunction.TheVariants.{NotEqual as Named};
+    ghost use Rattle.apl_array.specs.declared.function.ScalarFunction.TheVariants.{NotEqual as Named};
 
     ghost FUNCTION = { Named };
 
@@ -225,7 +225,7 @@ impl Function for NotEqual {
 pub(crate) struct Tilde;
 
 impl Function for Tilde {
-    ghost use Rattle.apl_scalar.specs.declared.function.ScalarFunction.TheVariants.{Tilde as Named};
+    ghost use Rattle.apl_array.specs.declared.function.ScalarFunction.TheVariants.{Tilde as Named};
 
     ghost FUNCTION = { Named };
 

@@ -9,7 +9,7 @@ ghost use Rattle.apl_scalar.specs.Faults.{op_fault_of};
 ghost use Rattle.apl_scalar.specs.Pointwise.{answer_of, IsArrayOf, IsLeastFaultOf};
 ghost use Rattle.apl_scalar.specs.Monadic.{monadic_answer};
 ghost use Rattle.apl_scalar.specs.Dyadic.{dyadic_answer};
-ghost use Rattle.apl_scalar.specs.declared.function.ScalarFunction.{ScalarFunction};
+ghost use Rattle.apl_array.specs.declared.function.ScalarFunction.{ScalarFunction};
 
 use apl_array::{places_match_index_lists, range_is_decided};
 

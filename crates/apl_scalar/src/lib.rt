@@ -16,8 +16,9 @@ mod passes;
 mod tables;
 mod truth;
 
+pub use apl_array::ScalarFunction as Prim;
 pub use arrays::{dyadic, monadic};
-pub use function::{OpFault, ScalarFunction as Prim};
+pub use function::OpFault;
 pub use laws::{answer_is_each_outcome, answers_are_in_range};
 pub use tables::{apply1, apply2, identity};
 

@@ -1,17 +1,18 @@
 //! The passes over numbers and over characters, one compiled for each function.
 ghost use Rattle.std.specs.Prelude.{◌≡◌, ℕ, pos, ◌≤◌, ◌^◌, length, map, IfOk, IfErr, slice_index_or, IsTrue};
 ghost use Rattle.apl_array.specs.declared.array.Elem.TheVariants.{Int, Chr};
+ghost use Rattle.apl_array.specs.Valences.{has_monadic, has_dyadic};
 ghost use Rattle.apl_pool.specs.Pool.{AreValues, IsStopOf};
-ghost use Rattle.apl_scalar.specs.Scalar.{monadic_number, dyadic_of, has_monadic, has_dyadic};
+ghost use Rattle.apl_scalar.specs.Scalar.{monadic_number, dyadic_of};
 ghost use Rattle.apl_scalar.specs.Operands.{pair_at};
 
-use crate::function::ScalarFunction;
 use crate::function_types::{
     And, Bang, Ceiling, Divide, Equal, Floor, Function, Greater, GreaterOrEqual, Less, LessOrEqual,
     Minus, Nand, Nor, NotEqual, Or, Plus, Star, Stile, Tilde, Times,
 };
 use crate::kernels::{NumberKernel, PairsKernel, UniformKernel};
 use crate::operands::{Element, Operand, Pairs, Value, Whole};
+use apl_array::ScalarFunction;
 use apl_pool::{Cut, Fault, Gate, Pool, Stop};
 use std::alloc::Global;
 use std::marker::PhantomData;

@@ -1,11 +1,11 @@
 //! The scalar functions of numbers and of elements.
 ghost use Rattle.std.specs.Prelude.{◌≡◌, Bool, ◌&&◌, ◌||◌, not, IsTrue};
-ghost use Rattle.apl_scalar.specs.Scalar.{monadic_number, monadic_of, dyadic_numbers, dyadic_of, compare_elements, identity_of, has_monadic, has_dyadic, as_element, bit, is_bit, is_one, logical};
+ghost use Rattle.apl_array.specs.Valences.{has_monadic, has_dyadic};
+ghost use Rattle.apl_scalar.specs.Scalar.{monadic_number, monadic_of, dyadic_numbers, dyadic_of, compare_elements, identity_of, as_element, bit, is_bit, is_one, logical};
 
 use crate::arithmetic::{combinations, factorial, limited, power, quotient, reciprocal, residue};
-use crate::function::ScalarFunction;
 use crate::truth::{and, bit, nand, negation, nor, or};
-use apl_array::Elem;
+use apl_array::{Elem, ScalarFunction};
 use apl_pool::Fault;
 
 /// A monadic function of a number.

@@ -1,9 +1,14 @@
 -- The listed symbols, and the tokens of one symbol.
-use Rattle.std.specs.Prelude.{◌==◌, ◌||◌, ◌&&◌, nat_le, ℕ, Bool, List, [], ◌∷◌, Option, Some, None, if◌then◌else◌}
+use Rattle.std.specs.Prelude.{◌==◌, ◌||◌, ◌&&◌, nat_le, ℕ, Bool, List, [], ◌∷◌, ◌++◌, map, Option, Some, None, if◌then◌else◌}
 use Rattle.std.specs.List.{list_any}
+use Rattle.apl_array.specs.declared.function.ScalarFunction.{ScalarFunction}
+use Rattle.apl_array.specs.declared.function.ScalarFunction.TheVariants.{Plus, Minus, Times, Divide, Stile, Star, Bang, Floor, Ceiling, And, Or, Nand, Nor, Less, LessOrEqual, Equal, GreaterOrEqual, Greater, NotEqual, Tilde}
+use Rattle.apl_tokens.specs.declared.token.Class.{Class}
+use Rattle.apl_tokens.specs.declared.token.Class.TheVariants as class
+use Rattle.apl_tokens.specs.declared.token.Glyph.{Glyph}
+use Rattle.apl_tokens.specs.declared.token.Glyph.TheVariants.{Scalar, Rho, Comma, Iota, Epsilon, UpArrow, DownArrow, CircleStile, CircleBar, Transpose, GradeUp, GradeDown, Slash, SlashBar, Backslash, BackslashBar, UpTack, DownTack}
 use Rattle.apl_tokens.specs.declared.token.Lexeme.{Lexeme}
 use Rattle.apl_tokens.specs.declared.token.Lexeme.TheVariants.{Function, Dot, Jot, Arrow, OpenParen, CloseParen, OpenBracket, CloseBracket, Semicolon}
-use Rattle.apl_tokens.specs.declared.token.Glyph.TheVariants as glyph
 
 abbrev pub is_digit : ℕ → Bool
 is_digit c = nat_le 48 c && nat_le c 57
@@ -34,21 +39,69 @@ is_quote c = c == quote
 abbrev pub comment_mark : ℕ
 comment_mark = 0x235D
 
+-- the character of a scalar function
+abbrev pub scalar_character : ScalarFunction → ℕ
+scalar_character Plus = 43  -- +
+scalar_character Minus = 45  -- -
+scalar_character Times = 0xD7  -- ×
+scalar_character Divide = 0xF7  -- ÷
+scalar_character Stile = 124  -- |
+scalar_character Star = 42  -- *
+scalar_character Bang = 33  -- !
+scalar_character Floor = 0x230A  -- ⌊
+scalar_character Ceiling = 0x2308  -- ⌈
+scalar_character And = 0x2227  -- ∧
+scalar_character Or = 0x2228  -- ∨
+scalar_character Nand = 0x2372  -- ⍲
+scalar_character Nor = 0x2371  -- ⍱
+scalar_character Less = 60  -- <
+scalar_character LessOrEqual = 0x2264  -- ≤
+scalar_character Equal = 61  -- =
+scalar_character GreaterOrEqual = 0x2265  -- ≥
+scalar_character Greater = 62  -- >
+scalar_character NotEqual = 0x2260  -- ≠
+scalar_character Tilde = 126  -- ~
+
+-- a function's symbol: its character, and its class in the grammar
+abbrev pub symbol_of : Glyph → ℕ × Class
+symbol_of (Scalar f) = (scalar_character f, class.Scalar f)
+symbol_of Rho = (0x2374, class.BothValences)  -- ⍴
+symbol_of Comma = (44, class.Catenation)  -- ,
+symbol_of Iota = (0x2373, class.BothValences)  -- ⍳
+symbol_of Epsilon = (0x220A, class.DyadicOnly)  -- ∊
+symbol_of UpArrow = (0x2191, class.DyadicOnly)  -- ↑
+symbol_of DownArrow = (0x2193, class.DyadicOnly)  -- ↓
+symbol_of CircleStile = (0x233D, class.Rotation)  -- ⌽
+symbol_of CircleBar = (0x2296, class.Rotation)  -- ⊖
+symbol_of Transpose = (0x2349, class.BothValences)  -- ⍉
+symbol_of GradeUp = (0x234B, class.MonadicOnly)  -- ⍋
+symbol_of GradeDown = (0x2352, class.MonadicOnly)  -- ⍒
+symbol_of Slash = (47, class.Slash)  -- /
+symbol_of SlashBar = (0x233F, class.Slash)  -- ⌿
+symbol_of Backslash = (92, class.Backslash)  -- \
+symbol_of BackslashBar = (0x2340, class.Backslash)  -- ⍀
+symbol_of UpTack = (0x22A5, class.DyadicOnly)  -- ⊥
+symbol_of DownTack = (0x22A4, class.DyadicOnly)  -- ⊤
+
+abbrev pub class_of : Glyph → Class
+class_of glyph = (symbol_of glyph).1
+
+abbrev pub scalar_functions : List ScalarFunction
+scalar_functions =
+    Plus ∷ Minus ∷ Times ∷ Divide ∷ Stile ∷ Star ∷ Bang ∷ Floor ∷ Ceiling ∷ And
+    ∷ Or ∷ Nand ∷ Nor ∷ Less ∷ LessOrEqual ∷ Equal ∷ GreaterOrEqual ∷ Greater ∷ NotEqual ∷ Tilde ∷ []
+
+abbrev pub glyphs : List Glyph
+glyphs =
+    map Scalar scalar_functions
+    ++ (Rho ∷ Comma ∷ Iota ∷ Epsilon ∷ UpArrow ∷ DownArrow ∷ CircleStile ∷ CircleBar ∷ Transpose
+    ∷ GradeUp ∷ GradeDown ∷ Slash ∷ SlashBar ∷ Backslash ∷ BackslashBar ∷ UpTack ∷ DownTack ∷ [])
+
 -- the symbols that are tokens by themselves
 abbrev pub symbol_lexemes : List (ℕ × Lexeme)
 symbol_lexemes =
-    (43, Function glyph.Plus) ∷ (45, Function glyph.Minus) ∷ (0xD7, Function glyph.Times) ∷ (0xF7, Function glyph.Divide)
-    ∷ (124, Function glyph.Stile) ∷ (42, Function glyph.Star) ∷ (33, Function glyph.Bang) ∷ (0x230A, Function glyph.Floor)
-    ∷ (0x2308, Function glyph.Ceiling) ∷ (0x2227, Function glyph.And) ∷ (0x2228, Function glyph.Or) ∷ (0x2372, Function glyph.Nand)
-    ∷ (0x2371, Function glyph.Nor) ∷ (60, Function glyph.Less) ∷ (0x2264, Function glyph.LessOrEqual) ∷ (61, Function glyph.Equal)
-    ∷ (0x2265, Function glyph.GreaterOrEqual) ∷ (62, Function glyph.Greater) ∷ (0x2260, Function glyph.NotEqual) ∷ (126, Function glyph.Tilde)
-    ∷ (0x2374, Function glyph.Rho) ∷ (44, Function glyph.Comma) ∷ (0x2373, Function glyph.Iota) ∷ (0x220A, Function glyph.Epsilon)
-    ∷ (0x2191, Function glyph.UpArrow) ∷ (0x2193, Function glyph.DownArrow) ∷ (0x233D, Function glyph.CircleStile) ∷ (0x2296, Function glyph.CircleBar)
-    ∷ (0x2349, Function glyph.Transpose) ∷ (0x234B, Function glyph.GradeUp) ∷ (0x2352, Function glyph.GradeDown) ∷ (47, Function glyph.Slash)
-    ∷ (0x233F, Function glyph.SlashBar) ∷ (92, Function glyph.Backslash) ∷ (0x2340, Function glyph.BackslashBar) ∷ (0x22A5, Function glyph.DownTack)
-    ∷ (0x22A4, Function glyph.UpTack) ∷ (46, Dot) ∷ (0x2218, Jot) ∷ (0x2190, Arrow)
-    ∷ (40, OpenParen) ∷ (41, CloseParen) ∷ (91, OpenBracket) ∷ (93, CloseBracket)
-    ∷ (59, Semicolon) ∷ []
+    map (λ glyph. ((symbol_of glyph).0, Function glyph)) glyphs
+    ++ ((46, Dot) ∷ (0x2218, Jot) ∷ (0x2190, Arrow) ∷ (40, OpenParen) ∷ (41, CloseParen) ∷ (91, OpenBracket) ∷ (93, CloseBracket) ∷ (59, Semicolon) ∷ [])
 
 abbrev pub lexeme_in : List (ℕ × Lexeme) → ℕ → Option Lexeme
 lexeme_in [] c = None

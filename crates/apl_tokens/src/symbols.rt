@@ -3,6 +3,7 @@ ghost use Rattle.std.specs.Prelude.{◌≡◌, ◌==◌};
 ghost use Rattle.apl_tokens.specs.Symbols.{is_digit, is_letter, is_name_character, is_blank, is_quote, comment_mark, is_listed_ascii, is_listed, symbol_lexeme};
 
 use crate::token::{Glyph, Lexeme};
+use apl_array::ScalarFunction;
 
 /// Whether this is `0` to `9`.
 pub fn is_digit(c: char) -> bool
@@ -67,26 +68,26 @@ pub(crate) fn symbol_lexeme(c: char) -> Option<Lexeme>
     ensures { result ≡ symbol_lexeme c }
 {
     match c {
-        '+' => Some(Lexeme::Function(Glyph::Plus)),
-        '-' => Some(Lexeme::Function(Glyph::Minus)),
-        '×' => Some(Lexeme::Function(Glyph::Times)),
-        '÷' => Some(Lexeme::Function(Glyph::Divide)),
-        '|' => Some(Lexeme::Function(Glyph::Stile)),
-        '*' => Some(Lexeme::Function(Glyph::Star)),
-        '!' => Some(Lexeme::Function(Glyph::Bang)),
-        '⌊' => Some(Lexeme::Function(Glyph::Floor)),
-        '⌈' => Some(Lexeme::Function(Glyph::Ceiling)),
-        '∧' => Some(Lexeme::Function(Glyph::And)),
-        '∨' => Some(Lexeme::Function(Glyph::Or)),
-        '⍲' => Some(Lexeme::Function(Glyph::Nand)),
-        '⍱' => Some(Lexeme::Function(Glyph::Nor)),
-        '<' => Some(Lexeme::Function(Glyph::Less)),
-        '≤' => Some(Lexeme::Function(Glyph::LessOrEqual)),
-        '=' => Some(Lexeme::Function(Glyph::Equal)),
-        '≥' => Some(Lexeme::Function(Glyph::GreaterOrEqual)),
-        '>' => Some(Lexeme::Function(Glyph::Greater)),
-        '≠' => Some(Lexeme::Function(Glyph::NotEqual)),
-        '~' => Some(Lexeme::Function(Glyph::Tilde)),
+        '+' => Some(Lexeme::Function(Glyph::Scalar(ScalarFunction::Plus))),
+        '-' => Some(Lexeme::Function(Glyph::Scalar(ScalarFunction::Minus))),
+        '×' => Some(Lexeme::Function(Glyph::Scalar(ScalarFunction::Times))),
+        '÷' => Some(Lexeme::Function(Glyph::Scalar(ScalarFunction::Divide))),
+        '|' => Some(Lexeme::Function(Glyph::Scalar(ScalarFunction::Stile))),
+        '*' => Some(Lexeme::Function(Glyph::Scalar(ScalarFunction::Star))),
+        '!' => Some(Lexeme::Function(Glyph::Scalar(ScalarFunction::Bang))),
+        '⌊' => Some(Lexeme::Function(Glyph::Scalar(ScalarFunction::Floor))),
+        '⌈' => Some(Lexeme::Function(Glyph::Scalar(ScalarFunction::Ceiling))),
+        '∧' => Some(Lexeme::Function(Glyph::Scalar(ScalarFunction::And))),
+        '∨' => Some(Lexeme::Function(Glyph::Scalar(ScalarFunction::Or))),
+        '⍲' => Some(Lexeme::Function(Glyph::Scalar(ScalarFunction::Nand))),
+        '⍱' => Some(Lexeme::Function(Glyph::Scalar(ScalarFunction::Nor))),
+        '<' => Some(Lexeme::Function(Glyph::Scalar(ScalarFunction::Less))),
+        '≤' => Some(Lexeme::Function(Glyph::Scalar(ScalarFunction::LessOrEqual))),
+        '=' => Some(Lexeme::Function(Glyph::Scalar(ScalarFunction::Equal))),
+        '≥' => Some(Lexeme::Function(Glyph::Scalar(ScalarFunction::GreaterOrEqual))),
+        '>' => Some(Lexeme::Function(Glyph::Scalar(ScalarFunction::Greater))),
+        '≠' => Some(Lexeme::Function(Glyph::Scalar(ScalarFunction::NotEqual))),
+        '~' => Some(Lexeme::Function(Glyph::Scalar(ScalarFunction::Tilde))),
         '⍴' => Some(Lexeme::Function(Glyph::Rho)),
         ',' => Some(Lexeme::Function(Glyph::Comma)),
         '⍳' => Some(Lexeme::Function(Glyph::Iota)),
@@ -102,8 +103,8 @@ pub(crate) fn symbol_lexeme(c: char) -> Option<Lexeme>
         '⌿' => Some(Lexeme::Function(Glyph::SlashBar)),
         '\\' => Some(Lexeme::Function(Glyph::Backslash)),
         '⍀' => Some(Lexeme::Function(Glyph::BackslashBar)),
-        '⊥' => Some(Lexeme::Function(Glyph::DownTack)),
-        '⊤' => Some(Lexeme::Function(Glyph::UpTack)),
+        '⊥' => Some(Lexeme::Function(Glyph::UpTack)),
+        '⊤' => Some(Lexeme::Function(Glyph::DownTack)),
         '.' => Some(Lexeme::Dot),
         '∘' => Some(Lexeme::Jot),
         '←' => Some(Lexeme::Arrow),

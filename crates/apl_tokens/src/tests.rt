@@ -1,7 +1,7 @@
 //! Fronts and tokens of lines, as text: each token with its column, or the stop.
 use crate::{
-    Constant, FrontStop, Lexeme, LexicalStop, Token, blanks_before, constants_are_in_range, front,
-    front_is_total, front_is_unique, is_digit, lexing_is_total, lexing_is_unique, tokens,
+    Constant, FrontStop, Glyph, Lexeme, LexicalStop, Token, blanks_before, constants_are_in_range,
+    front, front_is_total, front_is_unique, is_digit, lexing_is_total, lexing_is_unique, tokens,
 };
 use std::alloc::{AllocError, Global};
 use std::test::Fail;
@@ -27,6 +27,7 @@ fn describe_token(text: &mut String, token: &Token) -> Result<(), AllocError> {
     match &token.lexeme {
         Lexeme::Constant(value) => describe_constant(text, value)?,
         Lexeme::Name(name) => text.push_str(name.as_str())?,
+        Lexeme::Function(Glyph::Scalar(function)) => write!(text, "{function:?}")?,
         Lexeme::Function(glyph) => write!(text, "{glyph:?}")?,
         Lexeme::Dot => text.push_str("Dot")?,
         Lexeme::Jot => text.push_str("Jot")?,
@@ -180,7 +181,7 @@ fn tokens_of_one_symbol(rt: HostRuntime) -> Result<(), Fail> {
         ),
         (
             "⌽⊖⍉⍋⍒/⌿\\⍀⊥⊤",
-            "0:CircleStile;1:CircleBar;2:Transpose;3:GradeUp;4:GradeDown;5:Slash;6:SlashBar;7:Backslash;8:BackslashBar;9:DownTack;10:UpTack;",
+            "0:CircleStile;1:CircleBar;2:Transpose;3:GradeUp;4:GradeDown;5:Slash;6:SlashBar;7:Backslash;8:BackslashBar;9:UpTack;10:DownTack;",
         ),
         (
             ".∘←()[];",

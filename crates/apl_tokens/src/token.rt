@@ -2,7 +2,7 @@
 ghost use Rattle.std.specs.Prelude.{◌≡◌, ◌∷◌, [], List, ℕ, IfOk, string_bytes};
 ghost use Rattle.apl_array.specs.Array.{number_array};
 
-use apl_array::{Array, Shape};
+use apl_array::{Array, ScalarFunction, Shape};
 use std::alloc::{AllocError, Global};
 use std::marker::Model;
 use std::rc::Rc;
@@ -109,26 +109,7 @@ impl Constant {
 /// A function's symbol, under the name of its glyph.
 #[derive(Clone, Copy, Debug, PartialEq, Eq, Drop)]
 pub enum Glyph {
-    Plus,
-    Minus,
-    Times,
-    Divide,
-    Stile,
-    Star,
-    Bang,
-    Floor,
-    Ceiling,
-    And,
-    Or,
-    Nand,
-    Nor,
-    Less,
-    LessOrEqual,
-    Equal,
-    GreaterOrEqual,
-    Greater,
-    NotEqual,
-    Tilde,
+    Scalar(ScalarFunction),
     Rho,
     Comma,
     Iota,
@@ -144,8 +125,51 @@ pub enum Glyph {
     SlashBar,
     Backslash,
     BackslashBar,
-    DownTack,
     UpTack,
+    DownTack,
+}
+
+/// What a function's symbol may do in a statement.
+#[derive(Clone, Copy, Debug, PartialEq, Eq, Drop)]
+pub enum Class {
+    /// A scalar function: monadic, dyadic, or both.
+    Scalar(ScalarFunction),
+    /// Monadic.
+    MonadicOnly,
+    /// Dyadic.
+    DyadicOnly,
+    /// Monadic and dyadic.
+    BothValences,
+    /// Reversal and rotation: monadic and dyadic, each also with an axis.
+    Rotation,
+    /// Ravel and catenation: monadic, and dyadic also with an axis.
+    Catenation,
+    /// Compression: dyadic, also with an axis. Behind a dyadic scalar function it makes a reduction.
+    Slash,
+    /// Expansion: dyadic, also with an axis. Scans are not in the grammar yet.
+    Backslash,
+}
+
+impl Glyph {
+    ghost use Rattle.std.specs.Prelude.{◌≡◌};
+    ghost use Rattle.apl_tokens.specs.Symbols.{class_of};
+
+    /// Its class in the grammar.
+    pub fn class(self) -> Class
+        ensures { result ≡ class_of self }
+    {
+        match self {
+            Glyph::Scalar(function) => Class::Scalar(function),
+            Glyph::GradeUp | Glyph::GradeDown => Class::MonadicOnly,
+            Glyph::Epsilon | Glyph::UpArrow | Glyph::DownArrow | Glyph::UpTack | Glyph::DownTack =>
+                Class::DyadicOnly,
+            Glyph::Rho | Glyph::Iota | Glyph::Transpose => Class::BothValences,
+            Glyph::CircleStile | Glyph::CircleBar => Class::Rotation,
+            Glyph::Comma => Class::Catenation,
+            Glyph::Slash | Glyph::SlashBar => Class::Slash,
+            Glyph::Backslash | Glyph::BackslashBar => Class::Backslash,
+        }
+    }
 }
 
 /// What a token is.

@@ -1,5 +1,5 @@
 use Rattle.std.proofs.Common.{◌≡◌, true, sym, ◌∙◌}
-use Rattle.apl_scalar.specs.Scalar.{has_dyadic}
+use Rattle.apl_array.specs.Valences.{has_dyadic}
 use Rattle.apl_scalar.specs.Dyadic.{dyadic_answer}
 use Rattle.apl_eval.proofs.functions.dyadic_scalar.Goals as goal
 

@@ -1,5 +1,5 @@
 use Rattle.std.proofs.Common.{◌≡◌, true, sym, ◌∙◌}
-use Rattle.apl_scalar.specs.Scalar.{has_monadic}
+use Rattle.apl_array.specs.Valences.{has_monadic}
 use Rattle.apl_scalar.specs.Monadic.{monadic_answer}
 use Rattle.apl_eval.proofs.functions.monadic_scalar.Goals as goal
 
