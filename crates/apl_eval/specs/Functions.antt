@@ -9,8 +9,8 @@ use Rattle.apl_print.specs.declared.reports.Report.{Report}
 use Rattle.apl_print.specs.declared.reports.Report.TheVariants as report
 use Rattle.apl_scalar.specs.declared.function.ScalarFunction.{ScalarFunction}
 use Rattle.apl_scalar.specs.declared.function.ScalarFunction.TheVariants as scalar
-use Rattle.apl_scalar.specs.declared.function.OpFault.{OpFault}
-use Rattle.apl_scalar.specs.declared.function.OpFault.TheVariants as fault
+use Rattle.apl_answer.specs.declared.fault.OpFault.{OpFault}
+use Rattle.apl_answer.specs.declared.fault.OpFault.TheVariants as fault
 use Rattle.apl_scalar.specs.Scalar.{has_monadic, has_dyadic}
 use Rattle.apl_scalar.specs.Monadic.{monadic_answer}
 use Rattle.apl_scalar.specs.Dyadic.{dyadic_answer}

@@ -1,7 +1,4 @@
-//! The scalar functions by their glyphs, and why a function has no value.
-
-use apl_pool::{Fault, Stop};
-use std::alloc::AllocError;
+//! The scalar functions by their glyphs.
 
 /// A scalar function, under the name of its glyph.
 #[derive(Clone, Copy, Debug, PartialEq, Eq)]
@@ -55,62 +52,5 @@ impl ScalarFunction {
         ensures { result ≡ has_dyadic self }
     {
         !matches!(self, ScalarFunction::Tilde)
-    }
-}
-
-/// Why a function of arrays has no value.
-#[derive(Clone, Copy, Debug, PartialEq, Eq)]
-pub enum OpFault {
-    /// The numbers of axes do not agree.
-    Rank,
-    /// The lengths do not agree.
-    Length,
-    /// An index isn't one of the axis.
-    Index,
-    /// A function isn't defined there.
-    Domain,
-    /// The exact value passes a limit.
-    Limit,
-    /// A growth was refused.
-    Memory,
-}
-
-impl From<Fault> for OpFault {
-    ghost use Rattle.std.specs.Prelude.{◌≡◌};
-    ghost use Rattle.apl_scalar.specs.Faults.{op_fault_of};
-
-    ghost from_gives = { λ fault r. r ≡ op_fault_of fault };
-
-    fn from(fault: Fault) -> Self {
-        match fault {
-            Fault::Domain => OpFault::Domain,
-            Fault::Limit => OpFault::Limit,
-            Fault::Index => OpFault::Index,
-        }
-    }
-}
-
-impl From<Stop> for OpFault {
-    ghost use Rattle.std.specs.Prelude.{◌≡◌};
-    ghost use Rattle.apl_scalar.specs.Faults.{op_fault_of_stop};
-
-    ghost from_gives = { λ stop r. r ≡ op_fault_of_stop stop };
-
-    fn from(stop: Stop) -> Self {
-        match stop {
-            Stop::Fault { place: _, fault } => OpFault::from(fault),
-            Stop::Memory => OpFault::Memory,
-        }
-    }
-}
-
-impl From<AllocError> for OpFault {
-    ghost use Rattle.std.specs.Prelude.{◌≡◌};
-    ghost use Rattle.apl_scalar.specs.declared.function.OpFault.TheVariants.{Memory};
-
-    ghost from_gives = { λ e r. r ≡ Memory };
-
-    fn from(_: AllocError) -> Self {
-        OpFault::Memory
     }
 }

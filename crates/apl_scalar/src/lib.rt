@@ -16,9 +16,10 @@ mod passes;
 mod tables;
 mod truth;
 
+pub use apl_answer::{OpFault, answer_is_each_outcome};
 pub use arrays::{dyadic, monadic};
-pub use function::{OpFault, ScalarFunction as Prim};
-pub use laws::{answer_is_each_outcome, answers_are_in_range};
+pub use function::ScalarFunction as Prim;
+pub use laws::answers_are_in_range;
 pub use tables::{apply1, apply2, identity};
 
 #[cfg(test)]
