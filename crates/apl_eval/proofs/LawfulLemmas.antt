@@ -17,7 +17,7 @@ use Rattle.apl_grammar.specs.Tree.{Expr, value, dyadic, monadic, assign, assign_
 use Rattle.apl_print.specs.declared.reports.Report.{Report}
 use Rattle.apl_print.specs.declared.reports.Report.TheVariants.{Syntax}
 use Rattle.apl_array.specs.declared.function.ScalarFunction.{ScalarFunction}
-use Rattle.apl_scalar.specs.declared.function.OpFault.{OpFault}
+use Rattle.apl_answer.specs.declared.fault.OpFault.{OpFault}
 use Rattle.apl_array.specs.Valences.{has_monadic, has_dyadic}
 use Rattle.apl_scalar.specs.Monadic.{monadic_answer}
 use Rattle.apl_scalar.specs.Dyadic.{dyadic_answer}

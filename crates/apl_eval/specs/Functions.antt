@@ -9,8 +9,8 @@ use Rattle.apl_grammar.specs.declared.program.Form.{Form}
 use Rattle.apl_grammar.specs.declared.program.Form.TheVariants.{Plain, Reduce, Inner, Outer}
 use Rattle.apl_print.specs.declared.reports.Report.{Report}
 use Rattle.apl_print.specs.declared.reports.Report.TheVariants as report
-use Rattle.apl_scalar.specs.declared.function.OpFault.{OpFault}
-use Rattle.apl_scalar.specs.declared.function.OpFault.TheVariants as fault
+use Rattle.apl_answer.specs.declared.fault.OpFault.{OpFault}
+use Rattle.apl_answer.specs.declared.fault.OpFault.TheVariants as fault
 use Rattle.apl_scalar.specs.Monadic.{monadic_answer}
 use Rattle.apl_scalar.specs.Dyadic.{dyadic_answer}
 

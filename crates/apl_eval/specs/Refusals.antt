@@ -2,8 +2,8 @@
 use Rattle.std.specs.Prelude.{◌≡◌, Result, Ok, Err}
 use Rattle.apl_array.specs.Array.{ArrayValue}
 use Rattle.apl_print.specs.declared.reports.Report.{Report}
-use Rattle.apl_scalar.specs.declared.function.OpFault.{OpFault}
-use Rattle.apl_scalar.specs.declared.function.OpFault.TheVariants as fault
+use Rattle.apl_answer.specs.declared.fault.OpFault.{OpFault}
+use Rattle.apl_answer.specs.declared.fault.OpFault.TheVariants as fault
 use Rattle.apl_eval.specs.Functions.{report_of}
 use Rattle.apl_eval.specs.declared.functions.Refusal.{Refusal}
 use Rattle.apl_eval.specs.declared.functions.Refusal.TheVariants.{Fault, Memory}

@@ -1,16 +1,17 @@
 //! Functions in all their forms.
 ghost use Rattle.std.specs.Prelude.{◌≡◌, None, Result};
 ghost use Rattle.apl_array.specs.Array.{ArrayValue};
-ghost use Rattle.apl_scalar.specs.declared.function.OpFault.{OpFault};
-ghost use Rattle.apl_scalar.specs.Pointwise.{IsAnswerOf};
+ghost use Rattle.apl_answer.specs.declared.fault.OpFault.{OpFault};
+ghost use Rattle.apl_answer.specs.Pointwise.{IsAnswerOf};
 ghost use Rattle.apl_eval.specs.Functions.{caret_column, scalar_function, reported, monadic_scalar, dyadic_scalar, monadic_result, dyadic_result};
 ghost use Rattle.apl_eval.specs.Refusals.{Answers};
 
+use apl_answer::OpFault;
 use apl_array::Array;
 use apl_grammar::Form;
 use apl_pool::{Cut, Gate, Pool};
 use apl_print::Report;
-use apl_scalar::{OpFault, Prim};
+use apl_scalar::Prim;
 use apl_tokens::Glyph;
 use std::alloc::Global;
 use std::thread::Threads;

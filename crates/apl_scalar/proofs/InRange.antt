@@ -20,10 +20,10 @@ use Rattle.apl_pool.specs.declared.kernel.Fault.{Fault}
 use Rattle.apl_pool.specs.declared.kernel.Fault.TheVariants.{Limit}
 use Rattle.apl_array.specs.declared.function.ScalarFunction.{ScalarFunction}
 use Rattle.apl_array.specs.declared.function.ScalarFunction.TheVariants.{Plus, Minus, Times, Divide, Stile, Star, Bang, Floor, Ceiling, And, Or, Nand, Nor, Less, LessOrEqual, Equal, GreaterOrEqual, Greater, NotEqual, Tilde}
-use Rattle.apl_scalar.specs.declared.function.OpFault.{OpFault}
+use Rattle.apl_answer.specs.declared.fault.OpFault.{OpFault}
 use Rattle.apl_scalar.specs.Arithmetic.{factorial, binomial, residue}
 use Rattle.apl_scalar.specs.Scalar.{exact, bit, is_bit, is_one, logical, quotient, power, monadic_number, dyadic_numbers, monadic_of, compare_elements, dyadic_of, as_element}
-use Rattle.apl_scalar.specs.Pointwise.{index_lists, and_first, all_or_first, shaped, answer_of}
+use Rattle.apl_answer.specs.Pointwise.{index_lists, and_first, all_or_first, shaped, answer_of}
 use Rattle.apl_scalar.specs.Extension.{extended_shape, source_index}
 use Rattle.apl_scalar.specs.Monadic.{monadic_element, monadic_answer}
 use Rattle.apl_scalar.specs.Dyadic.{dyadic_number, answer_over, dyadic_answer}

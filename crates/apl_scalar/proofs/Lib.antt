@@ -3,7 +3,5 @@ pub mod Counting
 pub mod Powers
 pub mod Residues
 pub mod Sources
-pub mod Gathering
 pub mod Places
-pub mod Answers
 pub mod InRange

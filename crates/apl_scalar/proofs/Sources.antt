@@ -10,8 +10,8 @@ use Rattle.apl_array.specs.declared.array.Kind.TheVariants.{Character}
 use Rattle.apl_array.specs.Shape.{count_of, place_of, index_at}
 use Rattle.apl_array.specs.Array.{ArrayValue, IsArray, element_in, element_at, kind_of}
 use Rattle.apl_pool.specs.declared.kernel.Fault.TheVariants.{Domain}
-use Rattle.apl_scalar.specs.declared.function.OpFault.{OpFault}
-use Rattle.apl_scalar.specs.declared.function.OpFault.TheVariants.{Rank, Length}
+use Rattle.apl_answer.specs.declared.fault.OpFault.{OpFault}
+use Rattle.apl_answer.specs.declared.fault.OpFault.TheVariants.{Rank, Length}
 use Rattle.apl_array.specs.declared.function.ScalarFunction.{ScalarFunction}
 use Rattle.apl_array.specs.declared.function.ScalarFunction.TheVariants.{Equal, NotEqual}
 use Rattle.apl_scalar.specs.Extension.{is_same_shape, has_one_element, extended_shape, source_index}

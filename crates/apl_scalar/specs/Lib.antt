@@ -3,7 +3,5 @@ pub mod Scalar
 pub mod Limits
 pub mod Operands
 pub mod Extension
-pub mod Faults
-pub mod Pointwise
 pub mod Monadic
 pub mod Dyadic

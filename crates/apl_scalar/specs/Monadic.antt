@@ -4,9 +4,9 @@ use Rattle.apl_array.specs.declared.array.Kind.TheVariants.{Number}
 use Rattle.apl_array.specs.Array.{ArrayValue, element_at}
 use Rattle.apl_pool.specs.declared.kernel.Fault.{Fault}
 use Rattle.apl_array.specs.declared.function.ScalarFunction.{ScalarFunction}
-use Rattle.apl_scalar.specs.declared.function.OpFault.{OpFault}
+use Rattle.apl_answer.specs.declared.fault.OpFault.{OpFault}
 use Rattle.apl_scalar.specs.Scalar.{monadic_of, as_element}
-use Rattle.apl_scalar.specs.Pointwise.{answer_of}
+use Rattle.apl_answer.specs.Pointwise.{answer_of}
 
 -- what there is at an index list: a number or a fault
 abbrev pub monadic_element : ScalarFunction → ArrayValue → List ℕ → Result ℤ Fault

@@ -4,15 +4,15 @@ ghost use Rattle.apl_array.specs.Shape.{count_of, index_at};
 ghost use Rattle.apl_array.specs.Valences.{has_monadic, has_dyadic};
 ghost use Rattle.apl_pool.specs.Pool.{AreValues, IsStopOf};
 ghost use Rattle.apl_scalar.specs.Extension.{extended_shape};
-ghost use Rattle.apl_scalar.specs.Pointwise.{IsAnswerOf};
+ghost use Rattle.apl_answer.specs.Pointwise.{IsAnswerOf};
 ghost use Rattle.apl_scalar.specs.Monadic.{monadic_answer, monadic_element};
 ghost use Rattle.apl_scalar.specs.Dyadic.{dyadic_answer, dyadic_number};
 
 use crate::extend::extended;
-use crate::function::OpFault;
 use crate::operands::Pairs;
 use crate::passes::{fill_character_pairs, fill_number_pairs, fill_numbers, fill_uniform};
 use crate::tables::compare;
+use apl_answer::{OpFault, array_from_fill};
 use apl_array::{Array, ScalarFunction, Shape, places_match_index_lists};
 use apl_pool::{Cut, Fault, Gate, Pool, Stop};
 use std::alloc::Global;
@@ -31,10 +31,7 @@ pub fn monadic<R: Threads + Sync, C: Cut + Sync, G: Gate + Sync>(
     ensures { IsAnswerOf (monadic_answer f right.now) result }
 {
     let shape = right.shape().copy(alloc)?;
-    match fill_monadic(rt, alloc, pool, f, right) {
-        Ok(numbers) => Ok(Array::ints(shape, numbers)),
-        Err(stop) => Err(OpFault::from(stop)),
-    }
+    array_from_fill(shape, fill_monadic(rt, alloc, pool, f, right))
 }
 
 fn fill_monadic<R: Threads + Sync, C: Cut + Sync, G: Gate + Sync>(
@@ -72,10 +69,8 @@ pub fn dyadic<R: Threads + Sync, C: Cut + Sync, G: Gate + Sync>(
     ensures { IsAnswerOf (dyadic_answer f left.now right.now) result }
 {
     let shape = extended(left.shape(), right.shape())?.copy(alloc)?;
-    match fill_dyadic(rt, alloc, pool, f, left, right, &shape) {
-        Ok(numbers) => Ok(Array::ints(shape, numbers)),
-        Err(stop) => Err(OpFault::from(stop)),
-    }
+    let filled = fill_dyadic(rt, alloc, pool, f, left, right, &shape);
+    array_from_fill(shape, filled)
 }
 
 fn fill_dyadic<R: Threads + Sync, C: Cut + Sync, G: Gate + Sync>(

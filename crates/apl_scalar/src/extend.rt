@@ -2,7 +2,7 @@
 ghost use Rattle.std.specs.Prelude.{◌≡◌, Ok, Err, MatchResult};
 ghost use Rattle.apl_scalar.specs.Extension.{extended_shape};
 
-use crate::function::OpFault;
+use apl_answer::OpFault;
 use apl_array::Shape;
 
 /// The shape of the result, or why the arguments do not agree.

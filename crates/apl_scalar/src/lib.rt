@@ -7,7 +7,6 @@
 mod arithmetic;
 mod arrays;
 mod extend;
-mod function;
 mod function_types;
 mod kernels;
 mod laws;
@@ -16,10 +15,10 @@ mod passes;
 mod tables;
 mod truth;
 
+pub use apl_answer::{OpFault, answer_is_each_outcome};
 pub use apl_array::ScalarFunction as Prim;
 pub use arrays::{dyadic, monadic};
-pub use function::OpFault;
-pub use laws::{answer_is_each_outcome, answers_are_in_range};
+pub use laws::answers_are_in_range;
 pub use tables::{apply1, apply2, identity};
 
 #[cfg(test)]

@@ -5,40 +5,8 @@ ghost use Rattle.apl_array.specs.Shape.{count_of, index_at};
 ghost use Rattle.apl_scalar.specs.Extension.{extended_shape, source_index};
 ghost use Rattle.apl_scalar.specs.Operands.{operand_at};
 
+use apl_answer::Element;
 use apl_array::{Array, Elem, Shape, places_match_index_lists};
-
-/// What an array of one kind contains: a number or a character.
-pub(crate) trait Element: Copy {
-    ghost use Rattle.apl_array.specs.declared.array.Elem.{Elem};
-
-    // The same as an element of any kind.
-    ghost elem_of: { Self → Elem };
-
-    fn elem(self) -> Elem
-        ensures { result ≡ elem_of self };
-}
-
-impl Element for i64 {
-    ghost use Rattle.apl_array.specs.declared.array.Elem.TheVariants.{Int};
-
-    ghost elem_of = { Int };
-
-    #[inline(always)]
-    fn elem(self) -> Elem {
-        Elem::Int(self)
-    }
-}
-
-impl Element for char {
-    ghost use Rattle.apl_array.specs.declared.array.Elem.TheVariants.{Chr};
-
-    ghost elem_of = { Chr };
-
-    #[inline(always)]
-    fn elem(self) -> Elem {
-        Elem::Chr(self)
-    }
-}
 
 /// An argument at each place.
 pub(crate) trait Operand: Copy {

@@ -11,7 +11,8 @@ use crate::function_types::{
     Minus, Nand, Nor, NotEqual, Or, Plus, Star, Stile, Tilde, Times,
 };
 use crate::kernels::{NumberKernel, PairsKernel, UniformKernel};
-use crate::operands::{Element, Operand, Pairs, Value, Whole};
+use crate::operands::{Operand, Pairs, Value, Whole};
+use apl_answer::Element;
 use apl_array::ScalarFunction;
 use apl_pool::{Cut, Fault, Gate, Pool, Stop};
 use std::alloc::Global;

@@ -1,16 +1,15 @@
 use Rattle.std.proofs.Common.{◌≡◌, rules}
+use Rattle.apl_array.specs.Shape.{index_at}
+use Rattle.apl_scalar.specs.Scalar.{as_element}
 use Rattle.apl_scalar.specs.Monadic.{monadic_element}
-use Rattle.apl_scalar.proofs.Places.{answer_from_values, answer_from_stop}
+use Rattle.apl_scalar.proofs.Places.{as_element-is}
 use Rattle.apl_scalar.proofs.arrays.monadic.Goals as goal
 
-pub returns-in-Ok : goal.returns-in-Ok
-returns-in-Ok g c =
-    let shape = c.in_ok-shape.shape in
-    let number = monadic_element c.args.f c.args.right.now in
-    let same : shape ≡ c.args.right.now.shape = search rules in
-    rw (c.ints.ensures, same) (answer_from_values c.args.right.now.shape number c.in-Ok.numbers.items c.in-Ok.ensures.values)
-
-pub returns-in-Err : goal.returns-in-Err
-returns-in-Err g c =
-    let number = monadic_element c.args.f c.args.right.now in
-    rw c.from.ensures (answer_from_stop c.args.right.now.shape number c.in-Err.stop c.in-Err.ensures.stop)
+pub returns : goal.returns
+returns g c =
+    let b = c.args.right.now in
+    let number = monadic_element c.args.f b in
+    let same : c.in_ok-shape.shape ≡ b.shape = search rules in
+    let filled = rw same at c.array_from_fill.ensures in
+    filled (λ place. number (index_at b.shape place)) (λ index. as_element (number index)) (λ place inside. as_element-is (number (index_at b.shape place)))
+    c.fill_monadic.ensures.values c.fill_monadic.ensures.stop

@@ -1,5 +1,5 @@
-use Rattle.apl_scalar.proofs.Answers.{PlacesLaw, array_iff, fault_iff}
-use Rattle.apl_scalar.proofs.laws.answer_is_each_outcome.Goals as goal
+use Rattle.apl_answer.proofs.Answers.{PlacesLaw, array_iff, fault_iff}
+use Rattle.apl_answer.proofs.laws.answer_is_each_outcome.Goals as goal
 
 pub returns-clause-array : goal.returns-clause-array
 returns-clause-array c =

@@ -1,4 +1,4 @@
-//! Why a function has no value.
+//! Why a function of arrays has no value.
 
 use apl_pool::{Fault, Stop};
 use std::alloc::AllocError;
@@ -22,7 +22,7 @@ pub enum OpFault {
 
 impl From<Fault> for OpFault {
     ghost use Rattle.std.specs.Prelude.{◌≡◌};
-    ghost use Rattle.apl_scalar.specs.Faults.{op_fault_of};
+    ghost use Rattle.apl_answer.specs.Faults.{op_fault_of};
 
     ghost from_gives = { λ fault r. r ≡ op_fault_of fault };
 
@@ -37,7 +37,7 @@ impl From<Fault> for OpFault {
 
 impl From<Stop> for OpFault {
     ghost use Rattle.std.specs.Prelude.{◌≡◌};
-    ghost use Rattle.apl_scalar.specs.Faults.{op_fault_of_stop};
+    ghost use Rattle.apl_answer.specs.Faults.{op_fault_of_stop};
 
     ghost from_gives = { λ stop r. r ≡ op_fault_of_stop stop };
 
@@ -51,7 +51,7 @@ impl From<Stop> for OpFault {
 
 impl From<AllocError> for OpFault {
     ghost use Rattle.std.specs.Prelude.{◌≡◌};
-    ghost use Rattle.apl_scalar.specs.declared.function.OpFault.TheVariants.{Memory};
+    ghost use Rattle.apl_answer.specs.declared.fault.OpFault.TheVariants.{Memory};
 
     ghost from_gives = { λ e r. r ≡ Memory };
 

@@ -4,7 +4,7 @@ use Rattle.std.specs.Prelude.{IsOk}
 use Rattle.std.proofs.lemmas.Bool.{false≢true}
 use Rattle.apl_array.specs.declared.array.Elem.{Elem}
 use Rattle.apl_pool.specs.declared.kernel.Fault.{Fault}
-use Rattle.apl_scalar.specs.Pointwise.{and_first, all_or_first}
+use Rattle.apl_answer.specs.Pointwise.{and_first, all_or_first}
 
 head_elements : (x : Elem) (r : Result (List Elem) Fault) (xs : List Elem) → and_first x r ≡ Ok xs → (ys : List Elem) × (r ≡ Ok ys) × (xs ≡ x ∷ ys)
 head_elements x (Ok ys) xs is = let same : xs ≡ x ∷ ys = cc in (ys, refl, same)

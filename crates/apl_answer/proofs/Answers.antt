@@ -8,10 +8,10 @@ use Rattle.apl_array.specs.Shape.{IsIndexOf, count_of, place_of, index_at}
 use Rattle.apl_array.specs.Array.{ArrayValue, IsArray, element_in}
 use Rattle.apl_pool.specs.declared.kernel.Fault.{Fault}
 use Rattle.apl_pool.specs.declared.kernel.Fault.TheVariants.{Domain, Limit, Index}
-use Rattle.apl_scalar.specs.Faults.{op_fault_of}
-use Rattle.apl_scalar.specs.Pointwise.{IsArrayOf, IsLeastFaultOf, index_lists, all_or_first, shaped, answer_of}
-use Rattle.apl_scalar.proofs.Gathering.{AreElements, all_from_each, each_from_all, first_from_least, least_from_first}
-use Rattle.apl_scalar.proofs.Places.{length-outcomes, get_or-outcomes}
+use Rattle.apl_answer.specs.Faults.{op_fault_of}
+use Rattle.apl_answer.specs.Pointwise.{IsArrayOf, IsLeastFaultOf, index_lists, all_or_first, shaped, answer_of}
+use Rattle.apl_answer.proofs.Gathering.{AreElements, all_from_each, each_from_all, first_from_least, least_from_first}
+use Rattle.apl_answer.proofs.Places.{length-outcomes, get_or-outcomes}
 
 made : List ℕ → Kind → List Elem → ArrayValue
 made shape kind elements = record { shape = shape; kind = kind; ravel = elements }

@@ -1,0 +1,21 @@
+-- Values of one type as the elements of an array, place by place.
+use Rattle.std.specs.Prelude.{◌≡◌, ℕ, ◌<◌, List, map, Result, Ok, Err}
+use Rattle.apl_array.specs.declared.array.Elem.{Elem}
+use Rattle.apl_array.specs.declared.array.Kind.{Kind}
+use Rattle.apl_array.specs.Shape.{count_of, index_at}
+use Rattle.apl_array.specs.Array.{ArrayValue}
+use Rattle.apl_pool.specs.declared.kernel.Fault.{Fault}
+
+module _ {T : Type 0} (elem_of : T → Elem) where
+  -- the array of this kind and shape whose elements in row order are these values
+  abbrev pub array_with : Kind → List ℕ → List T → ArrayValue
+  array_with kind shape values = record { shape = shape; kind = kind; ravel = map elem_of values }
+
+  -- a value as an element, or the fault
+  abbrev pub element_outcome : Result T Fault → Result Elem Fault
+  element_outcome (Ok value) = Ok (elem_of value)
+  element_outcome (Err fault) = Err fault
+
+  -- at each place of a shape there is what there is at its index list
+  abbrev pub HaveOutcomes : (ℕ → Result T Fault) → List ℕ → (List ℕ → Result Elem Fault) → Type 0
+  HaveOutcomes at_place shape outcome = (place : ℕ) → place < count_of shape → element_outcome (at_place place) ≡ outcome (index_at shape place)

@@ -1,0 +1,4 @@
+pub mod Faults
+pub mod Pointwise
+pub mod Arguments
+pub mod Elements

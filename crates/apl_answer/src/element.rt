@@ -1,0 +1,87 @@
+//! Numbers and characters.
+use apl_array::{Array, Elem, Shape};
+
+/// What an array of one kind contains: a number or a character.
+pub trait Element: Copy {
+    ghost use Rattle.std.specs.Prelude.{◌≡◌, vec_len};
+    ghost use Rattle.apl_array.specs.declared.array.Elem.{Elem};
+    ghost use Rattle.apl_array.specs.declared.array.Kind.{Kind};
+    ghost use Rattle.apl_array.specs.Shape.{count_of};
+    ghost use Rattle.apl_answer.specs.Elements.{array_with};
+    ghost use Rattle.apl_answer.specs.Arguments.{fill_of};
+
+    // The same as an element of any kind.
+    ghost elem_of: { Self → Elem };
+
+    // Of this kind.
+    ghost kind: { Kind };
+
+    /// The same as an element of any kind.
+    fn elem(self) -> Elem
+        ensures { result ≡ elem_of self };
+
+    /// What fills up an array: 0 or the blank.
+    fn fill() -> Self
+        ensures { elem_of result ≡ fill_of kind };
+
+    /// The array of this shape whose elements in row order are these values.
+    fn array(shape: Shape, values: Vec<Self>) -> Array
+        requires { vec_len values ≡ count_of shape }
+        ensures { result ≡ array_with elem_of kind shape values.items };
+}
+
+impl Element for i64 {
+    ghost use Rattle.std.specs.Prelude.{◌≡◌, vec_len};
+    ghost use Rattle.apl_array.specs.Shape.{count_of};
+    ghost use Rattle.apl_array.specs.Array.{number_array};
+    ghost use Rattle.apl_array.specs.declared.array.Elem.TheVariants.{Int};
+    ghost use Rattle.apl_array.specs.declared.array.Kind.TheVariants.{Number};
+
+    ghost elem_of = { Int };
+
+    ghost kind = { Number };
+
+    #[inline(always)]
+    fn elem(self) -> Elem {
+        Elem::Int(self)
+    }
+
+    fn fill() -> i64 {
+        0
+    }
+
+    fn array(shape: Shape, values: Vec<i64>) -> Array
+        requires { vec_len values ≡ count_of shape }
+        ensures { result ≡ number_array shape values.items }
+    {
+        Array::ints(shape, values)
+    }
+}
+
+impl Element for char {
+    ghost use Rattle.std.specs.Prelude.{◌≡◌, vec_len};
+    ghost use Rattle.apl_array.specs.Shape.{count_of};
+    ghost use Rattle.apl_array.specs.Array.{character_array};
+    ghost use Rattle.apl_array.specs.declared.array.Elem.TheVariants.{Chr};
+    ghost use Rattle.apl_array.specs.declared.array.Kind.TheVariants.{Character};
+
+    ghost elem_of = { Chr };
+
+    ghost kind = { Character };
+
+    #[inline(always)]
+    fn elem(self) -> Elem {
+        Elem::Chr(self)
+    }
+
+    fn fill() -> char {
+        ' '
+    }
+
+    fn array(shape: Shape, values: Vec<char>) -> Array
+        requires { vec_len values ≡ count_of shape }
+        ensures { result ≡ character_array shape values.items }
+    {
+        Array::chars(shape, values)
+    }
+}

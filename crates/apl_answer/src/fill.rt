@@ -1,0 +1,49 @@
+//! The array that a pool fills.
+ghost use Rattle.std.specs.Prelude.{◌≡◌, ℕ, List, Result, IfOk, IfErr, vec_len};
+ghost use Rattle.apl_array.specs.declared.array.Elem.{Elem};
+ghost use Rattle.apl_array.specs.Shape.{count_of};
+ghost use Rattle.apl_pool.specs.declared.kernel.Fault.{Fault};
+ghost use Rattle.apl_pool.specs.Pool.{AreValues, IsStopOf};
+ghost use Rattle.apl_answer.specs.Elements.{HaveOutcomes};
+ghost use Rattle.apl_answer.specs.Pointwise.{answer_of, IsAnswerOf};
+
+use crate::element::Element;
+use crate::fault::OpFault;
+use apl_array::{Array, Shape};
+use apl_pool::{Cut, Gate, Kernel, Pool, Stop};
+use std::alloc::Global;
+use std::thread::Threads;
+
+/// The array of this shape whose elements a kernel gives at its places, or the fault at the least
+/// place that has one.
+pub fn fill_array<K: Kernel + Sync, R: Threads + Sync, C: Cut + Sync, G: Gate + Sync>(
+    rt: &R,
+    alloc: Global,
+    pool: &Pool<C, G>,
+    shape: Shape,
+    kernel: &K,
+) -> Result<Array, OpFault>
+where
+    K::Out: Element + Send,
+    requires { K.place_count kernel.now ≡ count_of shape }
+    ensures { (outcome : List ℕ → Result Elem Fault) → HaveOutcomes K.Out.elem_of (K.outcome kernel.now) shape outcome
+        → IsAnswerOf (answer_of shape outcome K.Out.kind) result }
+{
+    array_from_fill(shape, pool.fill(rt, alloc, kernel))
+}
+
+/// The array of this shape that a pool's values make, or why there are none.
+pub fn array_from_fill<T: Element>(
+    shape: Shape,
+    filled: Result<Vec<T>, Stop>,
+) -> Result<Array, OpFault>
+    requires { IfOk filled (λ values. vec_len values ≡ count_of shape) }
+    ensures { (at_place : ℕ → Result T Fault) (outcome : List ℕ → Result Elem Fault) → HaveOutcomes T.elem_of at_place shape outcome
+        → IfOk filled (λ v. AreValues at_place (count_of shape) v.items) → IfErr filled (IsStopOf at_place (count_of shape))
+        → IsAnswerOf (answer_of shape outcome T.kind) result }
+{
+    match filled {
+        Ok(values) => Ok(T::array(shape, values)),
+        Err(stop) => Err(OpFault::from(stop)),
+    }
+}

@@ -1,0 +1,21 @@
+//! What is true of all answers, a law the clauses of a function that does nothing.
+ghost use Rattle.std.specs.Prelude.{◌≡◌, ◌↔◌, ℕ, List, Result, Ok, Err};
+ghost use Rattle.apl_array.specs.declared.array.Elem.{Elem};
+ghost use Rattle.apl_array.specs.declared.array.Kind.{Kind};
+ghost use Rattle.apl_array.specs.Array.{ArrayValue, IsArray};
+ghost use Rattle.apl_pool.specs.declared.kernel.Fault.{Fault};
+ghost use Rattle.apl_answer.specs.Faults.{op_fault_of};
+ghost use Rattle.apl_answer.specs.Pointwise.{answer_of, IsArrayOf, IsLeastFaultOf};
+
+use apl_array::places_match_index_lists;
+
+/// The answer is an array exactly where that array has the outcome at each index list, and a fault
+/// exactly where that is the fault of the least place that has one.
+pub fn answer_is_each_outcome()
+    ensures array { (shape : List ℕ) (outcome : List ℕ → Result Elem Fault) (kind : Kind) (a : ArrayValue)
+        → IsArray a → (answer_of shape outcome kind ≡ Ok a) ↔ IsArrayOf shape outcome kind a }
+    ensures fault { (shape : List ℕ) (outcome : List ℕ → Result Elem Fault) (kind : Kind) (fault : Fault)
+        → (answer_of shape outcome kind ≡ Err (op_fault_of fault)) ↔ IsLeastFaultOf shape outcome fault }
+{
+    places_match_index_lists();
+}

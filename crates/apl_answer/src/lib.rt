@@ -1,0 +1,15 @@
+//! What a function of arrays answers: the array of what there is at each index list, or the fault
+//! at the least place that has one.
+//!
+//! The words for it, the elements of either kind, and the answer of a kernel that a pool fills.
+#![tactic(auto)]
+
+mod element;
+mod fault;
+mod fill;
+mod laws;
+
+pub use element::Element;
+pub use fault::OpFault;
+pub use fill::{array_from_fill, fill_array};
+pub use laws::answer_is_each_outcome;
