@@ -3,7 +3,7 @@
 /// A cutting of places. Any answers give one: each is brought into `1..=rest`.
 pub trait Cut {
     /// How many places the piece that begins at `start` has, where `rest` places are left from
-    /// there on. It may be asked more than once for a piece.
+    /// there on. In a pass it is asked once for each piece.
     fn first(&self, start: usize, rest: usize) -> usize;
 }
 

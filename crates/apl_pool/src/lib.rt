@@ -5,12 +5,14 @@
 //! nor the cutting is seen in it.
 #![tactic(auto)]
 
+mod crew;
 mod cut;
 mod gate;
 mod kernel;
-mod parts;
+mod pieces;
 mod pool;
 mod shares;
+mod work;
 
 pub use cut::{Cut, Every};
 pub use gate::{Gate, Open};

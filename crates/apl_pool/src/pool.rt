@@ -1,17 +1,23 @@
 //! The pool: how many workers there are, how the places are cut, and what a worker passes before each piece.
 ghost use Rattle.std.specs.Prelude.{◌≡◌, ℕ, ◌+◌, ◌<◌, ◌≤◌, ◌^◌, IfOk, OnOk, IfErr, length};
 ghost use Rattle.apl_pool.specs.Pool.{AreValues, IsStopOf};
+ghost use Rattle.apl_pool.specs.Shares.{share_start};
 
+use super::crew::{collect_shares, write_shares};
 use super::cut::Cut;
 use super::gate::Gate;
 use super::kernel::{Kernel, Stop};
-use super::parts::{compute_share, write_shares};
-use super::shares::{Share, Shares, count_pieces};
+use super::pieces::piece_end;
+use super::shares::Shares;
+use super::work::append_all;
 use std::alloc::Global;
 use std::thread::Threads;
 
 /// The most workers.
 pub const MOST_WORKERS: u8 = 64;
+
+/// The most places for which room is taken with no value computed before.
+const MOST_UNTRIED: usize = 1 << 16;
 
 /// Workers, a cutting and a gate.
 #[derive(Drop)]
@@ -37,8 +43,8 @@ impl<C: Cut + Sync, G: Gate + Sync> Pool<C, G> {
     ///
     /// Of p pieces and m workers worker w, counted from 0, has those from w × p / m up to before
     /// (w + 1) × p / m, rounded down. Only those who have some get a thread, and one piece or one
-    /// worker needs none. A kernel that has a fault at place 0 is refused before the places are
-    /// cut and room is taken.
+    /// worker needs none. Where there are more than 65,536 places, a kernel that has a fault at
+    /// place 0 is refused before the places are cut and room is taken.
     pub fn fill<R: Threads + Sync, K: Kernel + Sync>(
         &self,
         rt: &R,
@@ -54,44 +60,54 @@ impl<C: Cut + Sync, G: Gate + Sync> Pool<C, G> {
         if count == 0 {
             return Ok(Vec::new(alloc));
         }
-        let value = match kernel.at(0) {
-            Ok(value) => value,
-            Err(fault) => return Err(Stop::Fault { place: 0, fault }),
-        };
-        if self.workers > 1 {
-            let pieces = count_pieces(&self.cut, count);
-            if pieces > 1 {
-                let shares = Shares::new(alloc, &self.cut, count, pieces, self.workers)?;
-                let mut values = vec![in alloc; value; count]?;
-                self.fill_shares(rt, kernel, &shares, values.as_mut_slice())?;
-                return Ok(values);
-            }
+        let first = first_value(kernel)?;
+        let end = piece_end(&self.cut, 0, count);
+        if self.workers == 1 || end == count {
+            let last = self.workers - 1;
+            return append_all(alloc, kernel, &self.cut, &self.gate, last, end);
         }
-        let whole = Share {
-            worker: self.workers - 1,
-            piece: 0,
-            from: 0,
-            to: count,
-        };
-        compute_share(alloc, kernel, &self.cut, &self.gate, whole, count)
+        let shares = Shares::new(alloc, &self.cut, count, end, self.workers)?;
+        self.fill_shares(rt, alloc, kernel, &shares, first)
     }
 
-    /// Puts the value at each place into `values`, by several workers.
+    /// The value at each place, by several workers. Each has a list of its own, or writes into one
+    /// that is made full of the first value, where that is known.
     fn fill_shares<R: Threads + Sync, K: Kernel + Sync>(
         &self,
         rt: &R,
+        alloc: Global,
         kernel: &K,
         shares: &Shares,
-        values: &mut [K::Out],
-    ) -> Result<(), Stop>
+        first: Option<K::Out>,
+    ) -> Result<Vec<K::Out>, Stop>
     where
         K::Out: Copy + Send,
-        requires count { shares.now.count ≡ K.place_count kernel.now }
-        requires room { length values.old ≡ K.place_count kernel.now }
-        ensures ok { OnOk result (AreValues (K.outcome kernel.now) (K.place_count kernel.now) values.new) }
+        requires places { shares.now.pieces.places ≡ K.place_count kernel.now }
+        requires all { share_start shares.now shares.now.tasks ≡ K.place_count kernel.now }
+        ensures values { IfOk result (λ v. AreValues (K.outcome kernel.now) (K.place_count kernel.now) v.items) }
         ensures stop { IfErr result (IsStopOf (K.outcome kernel.now) (K.place_count kernel.now)) }
     {
-        let (cut, gate) = (&self.cut, &self.gate);
-        write_shares(rt, kernel, cut, gate, shares, shares.tasks(), values)
+        let Some(value) = first else {
+            return collect_shares(rt, alloc, kernel, &self.gate, shares, shares.tasks());
+        };
+        let mut values = vec![in alloc; value; kernel.count()]?;
+        let room = values.as_mut_slice();
+        write_shares(rt, kernel, &self.gate, shares, shares.tasks(), room)?;
+        Ok(values)
+    }
+}
+
+/// The value at the first place where the room for all is large, so that a kernel that has a fault
+/// there takes none. It is computed again with its piece.
+fn first_value<K: Kernel>(kernel: &K) -> Result<Option<K::Out>, Stop>
+    requires { 0 < K.place_count kernel.now }
+    ensures { IfErr result (IsStopOf (K.outcome kernel.now) (K.place_count kernel.now)) }
+{
+    if kernel.count() <= MOST_UNTRIED {
+        return Ok(None);
+    }
+    match kernel.at(0) {
+        Ok(value) => Ok(Some(value)),
+        Err(fault) => Err(Stop::Fault { place: 0, fault }),
     }
 }

@@ -1,5 +1,5 @@
 use Prim.Native.Nat.{◌+◌, ◌*◌}
-use Rattle.apl_pool.proofs.parts.+crew.Given as goal
+use Rattle.apl_pool.proofs.crew.+crew.Given as goal
 
 abbrev pub decreases-write_shares : goal.decreases-write_shares
 decreases-write_shares g l = 4 * l.tasks

@@ -1,0 +1,184 @@
+//! What a worker does with a piece and with its share: its values are put behind others, or into the room for them.
+ghost use Rattle.std.specs.Prelude.{◌≡◌, ℕ, ◌+◌, ◌-◌, ◌<◌, ◌≤◌, ◌^◌, OnOk, IfErr, length, slice_index, vec_len, vec_capacity};
+ghost use Rattle.apl_pool.specs.Parts.{AppendsValues, AreValuesFrom, IsStopFrom, IsPart};
+
+use super::cut::Cut;
+use super::gate::Gate;
+use super::kernel::{Fault, Kernel, MOST_PLACES, Stop};
+use super::pieces::{Piece, Pieces, piece_end};
+use super::shares::Share;
+use std::alloc::Global;
+
+/// The stop at a place that has a fault.
+fn stop_at(place: usize, fault: Fault) -> Stop
+    requires { place ≤ MOST_PLACES }
+    ensures { result ≡ Stop.Fault place fault }
+{
+    Stop::Fault {
+        place: place as u32,
+        fault,
+    }
+}
+
+/// Puts the values of a piece at the end of `values`, by a worker who passes the gate first.
+fn append_piece<K: Kernel, G: Gate>(
+    kernel: &K,
+    gate: &G,
+    worker: u8,
+    piece: Piece,
+    values: &mut Vec<K::Out>,
+) -> Result<(), Stop>
+    requires order { piece.from ≤ piece.to }
+    requires places { piece.to ≤ K.place_count kernel.now }
+    requires most { piece.to ≤ MOST_PLACES }
+    requires room { vec_len values.old + (piece.to - piece.from) ≤ vec_capacity values.old }
+    ensures ok { OnOk result (AppendsValues (K.outcome kernel.now) piece.from piece.to values.old.items values.new.items) }
+    ensures capacity { OnOk result (vec_capacity values.new ≡ vec_capacity values.old) }
+    ensures stop { IfErr result (IsStopFrom (K.outcome kernel.now) piece.from piece.to) }
+{
+    gate.pass(worker, piece.number);
+    for place in piece.from..piece.to {
+        match kernel.at(place) {
+            Ok(value) => values.push_reserved(value),
+            Err(fault) => return Err(stop_at(place, fault)),
+        }
+    }
+    Ok(())
+}
+
+/// Puts the values of a piece into the room for them, by a worker who passes the gate first.
+fn write_piece<K: Kernel, G: Gate>(
+    kernel: &K,
+    gate: &G,
+    worker: u8,
+    piece: Piece,
+    room: &mut [K::Out],
+) -> Result<(), Stop>
+where
+    K::Out: Copy,
+    requires places { piece.to ≤ K.place_count kernel.now }
+    requires most { piece.to ≤ MOST_PLACES }
+    requires room { piece.from + length room.old ≡ piece.to }
+    ensures ok { OnOk result (AreValuesFrom (K.outcome kernel.now) piece.from piece.to room.new) }
+    ensures stop { IfErr result (IsStopFrom (K.outcome kernel.now) piece.from piece.to) }
+    ensures len { length room.new ≡ length room.old }
+{
+    gate.pass(worker, piece.number);
+    for place in piece.from..piece.to {
+        match kernel.at(place) {
+            Ok(value) => room[place - piece.from] = value,
+            Err(fault) => return Err(stop_at(place, fault)),
+        }
+    }
+    Ok(())
+}
+
+/// The values at all places, by one worker who has all pieces. The first one ends at `end`.
+pub(crate) fn append_all<K: Kernel, C: Cut, G: Gate>(
+    alloc: Global,
+    kernel: &K,
+    cut: &C,
+    gate: &G,
+    worker: u8,
+    end: usize,
+) -> Result<Vec<K::Out>, Stop>
+where
+    K::Out: Drop,
+    requires some { 0 < end }
+    requires within { end ≤ K.place_count kernel.now }
+    ensures { IsPart (K.outcome kernel.now) 0 (K.place_count kernel.now) result }
+{
+    let count = kernel.count();
+    let mut values = Vec::with_capacity(alloc, count)?;
+    let mut piece = Piece {
+        number: 0,
+        from: 0,
+        to: end,
+    };
+    while piece.from < count {
+        append_piece(kernel, gate, worker, piece, &mut values)?;
+        piece = next_piece(cut, piece, count);
+    }
+    Ok(values)
+}
+
+/// The piece behind this one, or none of the places where it is the last.
+fn next_piece<C: Cut>(cut: &C, piece: Piece, count: usize) -> Piece
+    requires number { piece.number < piece.to }
+    requires within { piece.to ≤ count }
+    requires most { count ≤ MOST_PLACES }
+    ensures number { result.number ≡ piece.number + 1 }
+    ensures from { result.from ≡ piece.to }
+    ensures order { result.from ≤ result.to }
+    ensures some { result.from < count → result.from < result.to }
+    ensures within { result.to ≤ count }
+{
+    let from = piece.to;
+    let to = if from < count {
+        piece_end(cut, from, count)
+    } else {
+        count
+    };
+    Piece {
+        number: piece.number + 1,
+        from,
+        to,
+    }
+}
+
+/// The values of a worker's share, in a list that has room for `room` of them.
+pub(crate) fn append_share<K: Kernel, G: Gate>(
+    alloc: Global,
+    kernel: &K,
+    gate: &G,
+    pieces: &Pieces,
+    share: Share,
+    room: usize,
+) -> Result<Vec<K::Out>, Stop>
+where
+    K::Out: Drop,
+    requires order { share.from ≤ share.to }
+    requires within { share.to ≤ pieces.now.count }
+    requires places { pieces.now.places ≡ K.place_count kernel.now }
+    requires room { slice_index pieces.now.starts.items share.to ≤ room + slice_index pieces.now.starts.items share.from }
+    ensures { IsPart (K.outcome kernel.now) (slice_index pieces.now.starts.items share.from) (slice_index pieces.now.starts.items share.to) result }
+{
+    let mut values = Vec::with_capacity(alloc, room)?;
+    for number in share.from..share.to {
+        append_piece(
+            kernel,
+            gate,
+            share.worker,
+            pieces.piece(number),
+            &mut values,
+        )?;
+    }
+    Ok(values)
+}
+
+/// Puts the values of a worker's share into the room for them.
+pub(crate) fn write_share<K: Kernel, G: Gate>(
+    kernel: &K,
+    gate: &G,
+    pieces: &Pieces,
+    share: Share,
+    values: &mut [K::Out],
+) -> Result<(), Stop>
+where
+    K::Out: Copy,
+    requires order { share.from ≤ share.to }
+    requires within { share.to ≤ pieces.now.count }
+    requires places { pieces.now.places ≡ K.place_count kernel.now }
+    requires room { slice_index pieces.now.starts.items share.from + length values.old ≡ slice_index pieces.now.starts.items share.to }
+    ensures ok { OnOk result (AreValuesFrom (K.outcome kernel.now) (slice_index pieces.now.starts.items share.from) (slice_index pieces.now.starts.items share.to) values.new) }
+    ensures stop { IfErr result (IsStopFrom (K.outcome kernel.now) (slice_index pieces.now.starts.items share.from) (slice_index pieces.now.starts.items share.to)) }
+    ensures len { length values.new ≡ length values.old }
+{
+    let first = pieces.start(share.from);
+    for number in share.from..share.to {
+        let piece = pieces.piece(number);
+        let room = &mut values[piece.from - first..piece.to - first];
+        write_piece(kernel, gate, share.worker, piece, room)?;
+    }
+    Ok(())
+}
