@@ -1,6 +1,7 @@
 //! The scalar functions of numbers and of elements.
 ghost use Rattle.std.specs.Prelude.{◌≡◌, Bool, ◌&&◌, ◌||◌, not, IsTrue};
-ghost use Rattle.apl_scalar.specs.Scalar.{monadic_number, monadic_of, dyadic_numbers, dyadic_of, compare_elements, identity_of, has_monadic, has_dyadic, as_element, bit, is_bit, is_one, logical};
+ghost use Rattle.apl_answer.specs.Arguments.{is_bit};
+ghost use Rattle.apl_scalar.specs.Scalar.{monadic_number, monadic_of, dyadic_numbers, dyadic_of, compare_elements, identity_of, has_monadic, has_dyadic, as_element, bit, is_one, logical};
 
 use crate::arithmetic::{combinations, factorial, limited, power, quotient, reciprocal, residue};
 use crate::function::ScalarFunction;
