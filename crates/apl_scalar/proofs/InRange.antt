@@ -1,13 +1,11 @@
 -- The answers of numbers in the range are in the range.
-use Rattle.std.proofs.Common.{◌≡◌, ◌∙◌, ℕ, zero, suc, ◌-◌, ◌-ℤ◌, ◌*ℤ◌, ◌%◌, ◌<◌, ◌==◌, ℤ, pos, negsuc, neg_ℤ, Bool, true, false, if◌then◌else◌, List, [], ◌∷◌, length, map, Result, Ok, Err, refl, sym, ⊎_elim, arith}
-use Rattle.std.specs.Prelude.{◌||◌, ◌&&◌, ◌+ℤ◌, ◌<ℤ◌, All, IfOk, int_lt, int_le, int_rem, int_div, not, unsigned_abs}
+use Rattle.std.proofs.Common.{◌≡◌, ◌∙◌, ℕ, zero, suc, ◌-◌, ◌-ℤ◌, ◌*ℤ◌, ◌%◌, ◌<◌, ◌==◌, ℤ, pos, negsuc, neg_ℤ, Bool, true, false, if◌then◌else◌, List, length, Result, Ok, Err, refl, sym, ⊎_elim, arith}
+use Rattle.std.specs.Prelude.{◌||◌, ◌&&◌, ◌+ℤ◌, ◌<ℤ◌, IfOk, int_lt, int_le, int_rem, int_div, not, unsigned_abs}
 use Rattle.std.specs.Int.{int_pow, int_signum, int_rem_euclid, is_negative}
 use Rattle.std.specs.Ordering.{int_eq}
 use Rattle.std.proofs.lemmas.Bool.{cases_lt}
 use Rattle.std.proofs.lemmas.Int.{ints}
-use Rattle.std.proofs.lemmas.Result.{IfOk-at_ok}
 use Rattle.std.proofs.lemmas.List.{get_or_past}
-use Rattle.std.proofs.lemmas.List.Elements.{All-nil, All-cons}
 use Rattle.std.proofs.Math.Nat.{mod-lt}
 use Rattle.apl_array.specs.declared.array.Elem.{Elem}
 use Rattle.apl_array.specs.declared.array.Elem.TheVariants.{Int, Chr}
