@@ -1,11 +1,13 @@
 -- The answer by each index list and by the least place.
 use Rattle.std.proofs.Common.{◌≡◌, ◌↔◌, ℕ, pos, ◌<◌, List, length, map, Result, Ok, Err, get_or, refl, sym, ap, ◌∙◌, subst, arith}
-use Rattle.std.specs.Prelude.{IsOk}
+use Rattle.std.specs.Prelude.{IsOk, IfOk}
+use Rattle.std.proofs.lemmas.List.Elements.{All-from_get_or}
 use Rattle.apl_array.specs.declared.array.Elem.{Elem}
 use Rattle.apl_array.specs.declared.array.Elem.TheVariants.{Int}
 use Rattle.apl_array.specs.declared.array.Kind.{Kind}
 use Rattle.apl_array.specs.Shape.{IsIndexOf, count_of, place_of, index_at}
 use Rattle.apl_array.specs.Array.{ArrayValue, IsArray, element_in}
+use Rattle.apl_array.specs.Range.{IsElementInRange, HasNumbersInRange}
 use Rattle.apl_pool.specs.declared.kernel.Fault.{Fault}
 use Rattle.apl_pool.specs.declared.kernel.Fault.TheVariants.{Domain, Limit, Index}
 use Rattle.apl_answer.specs.Faults.{op_fault_of}
@@ -133,3 +135,19 @@ module _ (places : PlacesLaw) (shape : List ℕ) (outcome : List ℕ → Result 
 
   pub fault_iff : (kind : Kind) (fault : Fault) → (answer_of shape outcome kind ≡ Err (op_fault_of fault)) ↔ IsLeastFaultOf shape outcome fault
   fault_iff kind fault = (fault_from_answer kind fault, answer_from_fault kind fault)
+
+  -- outcomes in the range make an array in the range
+  pub in_range_from_answer : (kind : Kind) (a : ArrayValue) → ((index : List ℕ) → IsIndexOf shape index → IfOk (outcome index) IsElementInRange)
+      → answer_of shape outcome kind ≡ Ok a → HasNumbersInRange a
+  unfolding outcomes made d
+  in_range_from_answer kind a each is =
+      let parts = shaped_elements shape kind (all_or_first outcomes) a is in
+      let xs = parts.0 in
+      let all = each_from_all d e outcomes xs parts.1 in
+      let P : ArrayValue → Type 0 = λ b. HasNumbersInRange b in
+      let Q : Result Elem Fault → Type 0 = λ r. IfOk r IsElementInRange in
+      subst P (sym parts.2)
+      (All-from_get_or IsElementInRange xs d
+      (λ k inside.
+      let below : k < count_of shape = omega (arith, all.len, len) in
+      subst Q (sym (get_or-outcomes shape outcome k e below) ∙ all.each k (omega (arith, below, len))) (each (index_at shape k) (places.lawful shape k below))))

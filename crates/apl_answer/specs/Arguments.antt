@@ -1,5 +1,7 @@
 -- What the checks ask of an argument.
-use Rattle.std.specs.Prelude.{ℕ, ℤ, pos, negsuc, List, map, length, Bool, true, false, not, ◌||◌, ◌==◌, nat_le}
+use Rattle.std.specs.Prelude.{ℕ, ℤ, pos, negsuc, List, map, length, Bool, true, false, not, ◌||◌, ◌==◌, nat_eq, nat_le}
+use Rattle.std.specs.Cmp.Lexicographic.{pointwise}
+use Rattle.std.specs.Ordering.{int_eq}
 use Rattle.apl_array.specs.declared.array.Elem.{Elem}
 use Rattle.apl_array.specs.declared.array.Elem.TheVariants.{Int, Chr}
 use Rattle.apl_array.specs.declared.array.Kind.{Kind}
@@ -17,6 +19,13 @@ size_of a = count_of a.shape
 
 abbrev pub has_elements : ArrayValue → Bool
 has_elements a = not (size_of a == 0)
+
+abbrev pub has_one_element : List ℕ → Bool
+has_one_element shape = count_of shape == 1
+
+-- two shapes are the same, as a test
+abbrev pub is_same_shape : List ℕ → List ℕ → Bool
+is_same_shape = pointwise nat_eq
 
 abbrev pub is_scalar : ArrayValue → Bool
 is_scalar a = rank_of a == 0
@@ -52,8 +61,7 @@ is_natural (negsuc n) = false
 
 -- 0 or 1
 abbrev pub is_bit : ℤ → Bool
-is_bit (pos n) = nat_le n 1
-is_bit (negsuc n) = false
+is_bit z = int_eq z (pos 0) || int_eq z (pos 1)
 
 -- the element that fills up an array of this kind: 0, or the blank
 abbrev pub fill_of : Kind → Elem

@@ -1,4 +1,5 @@
 pub mod Faults
 pub mod Pointwise
-pub mod Arguments
 pub mod Elements
+pub mod Arguments
+pub mod Rows

@@ -1,8 +1,10 @@
-//! What is true of all answers, a law the clauses of a function that does nothing.
-ghost use Rattle.std.specs.Prelude.{◌≡◌, ◌↔◌, ℕ, List, Result, Ok, Err};
+//! What is true of all answers, each law the contract of a function that does nothing.
+ghost use Rattle.std.specs.Prelude.{◌≡◌, ◌↔◌, ℕ, List, Result, Ok, Err, IfOk};
 ghost use Rattle.apl_array.specs.declared.array.Elem.{Elem};
 ghost use Rattle.apl_array.specs.declared.array.Kind.{Kind};
 ghost use Rattle.apl_array.specs.Array.{ArrayValue, IsArray};
+ghost use Rattle.apl_array.specs.Range.{IsElementInRange, HasNumbersInRange};
+ghost use Rattle.apl_array.specs.Shape.{IsIndexOf};
 ghost use Rattle.apl_pool.specs.declared.kernel.Fault.{Fault};
 ghost use Rattle.apl_answer.specs.Faults.{op_fault_of};
 ghost use Rattle.apl_answer.specs.Pointwise.{answer_of, IsArrayOf, IsLeastFaultOf};
@@ -16,6 +18,15 @@ pub fn answer_is_each_outcome()
         → IsArray a → (answer_of shape outcome kind ≡ Ok a) ↔ IsArrayOf shape outcome kind a }
     ensures fault { (shape : List ℕ) (outcome : List ℕ → Result Elem Fault) (kind : Kind) (fault : Fault)
         → (answer_of shape outcome kind ≡ Err (op_fault_of fault)) ↔ IsLeastFaultOf shape outcome fault }
+{
+    places_match_index_lists();
+}
+
+/// An answer whose outcomes are in the range has its numbers in the range.
+pub fn answer_is_in_range()
+    ensures { (shape : List ℕ) (outcome : List ℕ → Result Elem Fault) (kind : Kind) (a : ArrayValue)
+        → ((index : List ℕ) → IsIndexOf shape index → IfOk (outcome index) IsElementInRange)
+        → answer_of shape outcome kind ≡ Ok a → HasNumbersInRange a }
 {
     places_match_index_lists();
 }

@@ -1,6 +1,6 @@
 //! What is true of all arrays, their places and their numbers, each law the contract of a function
 //! that does nothing.
-ghost use Rattle.std.specs.Prelude.{◌≡◌, ◌↔◌, ◌<◌, ◌+◌, ◌*◌, ◌/◌, ◌%◌, ℕ, ℤ, List, true, length, take, drop, slice_index, slice_set, insert, remove, FitsSigned};
+ghost use Rattle.std.specs.Prelude.{◌≡◌, ◌↔◌, ◌<◌, ◌+◌, ◌*◌, ◌/◌, ◌%◌, ℕ, ℤ, List, ◌++◌, true, length, take, drop, slice_index, slice_set, insert, remove, FitsSigned};
 ghost use Rattle.std.specs.Int.{w64};
 ghost use Rattle.apl_array.specs.Range.{IsInRange, in_range};
 ghost use Rattle.apl_array.specs.Shape.{IsIndexOf, count_of, place_of, index_at};
@@ -42,6 +42,44 @@ pub fn replaced_index_has_place()
     ensures place { (shape : List ℕ) (k place i : ℕ) → k < length shape → place < count_of shape
         → place_of shape (slice_set (index_at shape place) k i)
         ≡ (place / (slice_index shape k * count_of (drop (k + 1) shape)) * slice_index shape k + i) * count_of (drop (k + 1) shape) + place % count_of (drop (k + 1) shape) }
+{}
+
+/// Index lists of two shapes that are joined to one of the joined shape, as the axes of an outer
+/// product are.
+pub fn joined_index_has_place()
+    ensures count { (a b : List ℕ) → count_of (a ++ b) ≡ count_of a * count_of b }
+    ensures lawful { (a b i j : List ℕ) → IsIndexOf a i → IsIndexOf b j → IsIndexOf (a ++ b) (i ++ j) }
+    ensures front { (a b index : List ℕ) → IsIndexOf (a ++ b) index → IsIndexOf a (take (length a) index) }
+    ensures back { (a b index : List ℕ) → IsIndexOf (a ++ b) index → IsIndexOf b (drop (length a) index) }
+    ensures place { (a b i j : List ℕ) → length i ≡ length a → place_of (a ++ b) (i ++ j) ≡ place_of a i * count_of b + place_of b j }
+    ensures index { (a b : List ℕ) (place : ℕ) → place < count_of a * count_of b
+        → index_at (a ++ b) place ≡ index_at a (place / count_of b) ++ index_at b (place % count_of b) }
+{}
+
+/// The parts of an index list on both sides of an axis.
+pub fn split_index_has_place()
+    ensures place { (shape index : List ℕ) (k : ℕ) → k < length shape → length index ≡ length shape
+        → place_of shape index ≡ (place_of (take k shape) (take k index) * slice_index shape k + slice_index index k) * count_of (drop (k + 1) shape)
+        + place_of (drop (k + 1) shape) (drop (k + 1) index) }
+    ensures outer { (shape : List ℕ) (k place : ℕ) → k < length shape
+        → take k (index_at shape place) ≡ index_at (take k shape) (place / (slice_index shape k * count_of (drop (k + 1) shape))) }
+    ensures index { (shape : List ℕ) (k place : ℕ) → k < length shape
+        → slice_index (index_at shape place) k ≡ place / count_of (drop (k + 1) shape) % slice_index shape k }
+    ensures inner { (shape : List ℕ) (k place : ℕ) → place < count_of shape
+        → drop (k + 1) (index_at shape place) ≡ index_at (drop (k + 1) shape) (place % count_of (drop (k + 1) shape)) }
+{}
+
+/// Index lists of a shape in which an axis has another length.
+pub fn changed_axis_has_place()
+    ensures count { (shape : List ℕ) (k m : ℕ) → k < length shape
+        → count_of (slice_set shape k m) ≡ count_of (take k shape) * m * count_of (drop (k + 1) shape) }
+    ensures index { (shape : List ℕ) (k m place : ℕ) → k < length shape
+        → slice_index (index_at (slice_set shape k m) place) k ≡ place / count_of (drop (k + 1) shape) % m }
+    ensures lawful { (shape index : List ℕ) (k m i : ℕ) → k < length shape → IsIndexOf (slice_set shape k m) index → i < slice_index shape k
+        → IsIndexOf shape (slice_set index k i) }
+    ensures place { (shape : List ℕ) (k m place i : ℕ) → k < length shape → place < count_of (slice_set shape k m)
+        → place_of shape (slice_set (index_at (slice_set shape k m) place) k i)
+        ≡ (place / (m * count_of (drop (k + 1) shape)) * slice_index shape k + i) * count_of (drop (k + 1) shape) + place % count_of (drop (k + 1) shape) }
 {}
 
 /// The test decides what is in the range, and the range is what 64 bits hold.

@@ -1,19 +1,17 @@
 -- The answers of numbers in the range are in the range.
-use Rattle.std.proofs.Common.{◌≡◌, ◌∙◌, ℕ, zero, suc, ◌-◌, ◌-ℤ◌, ◌*ℤ◌, ◌%◌, ◌<◌, ◌==◌, ℤ, pos, negsuc, neg_ℤ, Bool, true, false, if◌then◌else◌, List, [], ◌∷◌, length, map, Result, Ok, Err, refl, sym, ⊎_elim, arith}
-use Rattle.std.specs.Prelude.{◌||◌, ◌&&◌, ◌+ℤ◌, ◌<ℤ◌, All, IfOk, int_lt, int_le, int_rem, int_div, not, unsigned_abs}
+use Rattle.std.proofs.Common.{◌≡◌, ◌∙◌, ℕ, zero, suc, ◌-◌, ◌-ℤ◌, ◌*ℤ◌, ◌%◌, ◌<◌, ◌==◌, ℤ, pos, negsuc, neg_ℤ, Bool, true, false, if◌then◌else◌, List, length, Result, Ok, Err, refl, sym, ⊎_elim, arith}
+use Rattle.std.specs.Prelude.{◌||◌, ◌&&◌, ◌+ℤ◌, ◌<ℤ◌, IfOk, int_lt, int_le, int_rem, int_div, not, unsigned_abs}
 use Rattle.std.specs.Int.{int_pow, int_signum, int_rem_euclid, is_negative}
 use Rattle.std.specs.Ordering.{int_eq}
 use Rattle.std.proofs.lemmas.Bool.{cases_lt}
 use Rattle.std.proofs.lemmas.Int.{ints}
-use Rattle.std.proofs.lemmas.Result.{IfOk-at_ok}
 use Rattle.std.proofs.lemmas.List.{get_or_past}
-use Rattle.std.proofs.lemmas.List.Elements.{All-nil, All-cons}
 use Rattle.std.proofs.Math.Nat.{mod-lt}
 use Rattle.apl_array.specs.declared.array.Elem.{Elem}
 use Rattle.apl_array.specs.declared.array.Elem.TheVariants.{Int, Chr}
 use Rattle.apl_array.specs.declared.array.Kind.{Kind}
 use Rattle.apl_array.specs.declared.array.Kind.TheVariants.{Number}
-use Rattle.apl_array.specs.Shape.{place_of}
+use Rattle.apl_array.specs.Shape.{IsIndexOf, place_of}
 use Rattle.apl_array.specs.Array.{ArrayValue, element_at}
 use Rattle.apl_array.specs.Range.{IsInRange, in_range, IsElementInRange, HasNumbersInRange}
 use Rattle.apl_pool.specs.declared.kernel.Fault.{Fault}
@@ -22,8 +20,9 @@ use Rattle.apl_array.specs.declared.function.ScalarFunction.{ScalarFunction}
 use Rattle.apl_array.specs.declared.function.ScalarFunction.TheVariants.{Plus, Minus, Times, Divide, Stile, Star, Bang, Floor, Ceiling, And, Or, Nand, Nor, Less, LessOrEqual, Equal, GreaterOrEqual, Greater, NotEqual, Tilde}
 use Rattle.apl_answer.specs.declared.fault.OpFault.{OpFault}
 use Rattle.apl_scalar.specs.Arithmetic.{factorial, binomial, residue}
-use Rattle.apl_scalar.specs.Scalar.{exact, bit, is_bit, is_one, logical, quotient, power, monadic_number, dyadic_numbers, monadic_of, compare_elements, dyadic_of, as_element}
-use Rattle.apl_answer.specs.Pointwise.{index_lists, and_first, all_or_first, shaped, answer_of}
+use Rattle.apl_answer.specs.Arguments.{is_bit}
+use Rattle.apl_scalar.specs.Scalar.{exact, bit, is_one, logical, quotient, power, monadic_number, dyadic_numbers, monadic_of, compare_elements, dyadic_of, as_element}
+use Rattle.apl_answer.specs.Pointwise.{answer_of}
 use Rattle.apl_scalar.specs.Extension.{extended_shape, source_index}
 use Rattle.apl_scalar.specs.Monadic.{monadic_element, monadic_answer}
 use Rattle.apl_scalar.specs.Dyadic.{dyadic_number, answer_over, dyadic_answer}
@@ -118,28 +117,11 @@ as_element_in : (r : Result ℤ Fault) → IfOk r IsInRange → IfOk (as_element
 as_element_in (Ok z) h = h
 as_element_in (Err fault) h = tt
 
--- all the elements, where there is no fault
-and_first_in : (x : Elem) (r : Result (List Elem) Fault) → IsElementInRange x → IfOk r (All IsElementInRange) → IfOk (and_first x r) (All IsElementInRange)
-and_first_in x (Ok xs) h k = All-cons IsElementInRange x xs h k
-and_first_in x (Err fault) h k = tt
-
-all_or_first_in : (r : Result Elem Fault) (rs : List (Result Elem Fault)) → IfOk r IsElementInRange → IfOk (all_or_first rs) (All IsElementInRange)
-    → IfOk (all_or_first (r ∷ rs)) (All IsElementInRange)
-all_or_first_in (Ok x) rs h k = and_first_in x (all_or_first rs) h k
-all_or_first_in (Err fault) rs h k = tt
-
-module _ (outcome : List ℕ → Result Elem Fault) (each : (index : List ℕ) → IfOk (outcome index) IsElementInRange) where
-  outcomes_in : (indexes : List (List ℕ)) → IfOk (all_or_first (map outcome indexes)) (All IsElementInRange)
-  outcomes_in [] = All-nil IsElementInRange
-  outcomes_in (index ∷ indexes) = all_or_first_in (outcome index) (map outcome indexes) (each index) (outcomes_in indexes)
-
-shaped_in : (shape : List ℕ) (kind : Kind) (r : Result (List Elem) Fault) → IfOk r (All IsElementInRange) → IfOk (shaped shape kind r) HasNumbersInRange
-shaped_in shape kind (Ok elements) h = h
-shaped_in shape kind (Err fault) h = tt
-
-answer_in : (shape : List ℕ) (outcome : List ℕ → Result Elem Fault) → ((index : List ℕ) → IfOk (outcome index) IsElementInRange)
-    → IfOk (answer_of shape outcome Number) HasNumbersInRange
-answer_in shape outcome each = shaped_in shape Number (all_or_first (map outcome (index_lists shape))) (outcomes_in outcome each (index_lists shape))
+-- outcomes in the range make an answer in the range
+abbrev pub AnswerLaw : Type 0
+AnswerLaw = (shape : List ℕ) (outcome : List ℕ → Result Elem Fault) (kind : Kind) (a : ArrayValue)
+    → ((index : List ℕ) → IsIndexOf shape index → IfOk (outcome index) IsElementInRange)
+    → answer_of shape outcome kind ≡ Ok a → HasNumbersInRange a
 
 module _ (range : RangeLaw) where
   exact_in : (z : ℤ) → IfOk (exact z) IsInRange
@@ -206,29 +188,29 @@ module _ (range : RangeLaw) where
   dyadic_in NotEqual x y h k = bit_in (not (int_eq x y))
   dyadic_in Tilde x y h k = tt
 
-  monadic_of_in : (f : ScalarFunction) (x : Elem) → IsElementInRange x → IfOk (monadic_of f x) IsInRange
+  pub monadic_of_in : (f : ScalarFunction) (x : Elem) → IsElementInRange x → IfOk (monadic_of f x) IsInRange
   monadic_of_in f (Int x) h = monadic_in f x h
   monadic_of_in f (Chr c) h = tt
 
-  dyadic_of_in : (f : ScalarFunction) (x y : Elem) → IsElementInRange x → IsElementInRange y → IfOk (dyadic_of f x y) IsInRange
+  pub dyadic_of_in : (f : ScalarFunction) (x y : Elem) → IsElementInRange x → IsElementInRange y → IfOk (dyadic_of f x y) IsInRange
   dyadic_of_in f (Int x) (Int y) h k = dyadic_in f x y h k
   dyadic_of_in f (Chr c) (Chr d) h k = compare_in f (c == d)
   dyadic_of_in f (Int x) (Chr d) h k = compare_in f false
   dyadic_of_in f (Chr c) (Int y) h k = compare_in f false
 
-  pub monadic_answer_in : (f : ScalarFunction) (b a : ArrayValue) → HasNumbersInRange b → monadic_answer f b ≡ Ok a → HasNumbersInRange a
-  monadic_answer_in f b a h is =
-      IfOk-at_ok HasNumbersInRange is
-      (answer_in b.shape (λ index. as_element (monadic_element f b index))
-      (λ index. as_element_in (monadic_element f b index) (monadic_of_in f (element_at b index) (element_at_in b index h))))
+  pub monadic_answer_in : AnswerLaw → (f : ScalarFunction) (b a : ArrayValue) → HasNumbersInRange b → monadic_answer f b ≡ Ok a → HasNumbersInRange a
+  monadic_answer_in law f b a h is =
+      law b.shape (λ index. as_element (monadic_element f b index)) Number a
+      (λ index lawful. as_element_in (monadic_element f b index) (monadic_of_in f (element_at b index) (element_at_in b index h))) is
 
-  answer_over_in : (f : ScalarFunction) (a b : ArrayValue) (shape : Result (List ℕ) OpFault) → HasNumbersInRange a → HasNumbersInRange b → IfOk (answer_over f a b shape) HasNumbersInRange
-  answer_over_in f a b (Err fault) h k = tt
-  answer_over_in f a b (Ok shape) h k =
-      answer_in shape (λ index. as_element (dyadic_number f a b shape index))
-      (λ index. as_element_in (dyadic_number f a b shape index)
+  answer_over_in : AnswerLaw → (f : ScalarFunction) (a b c : ArrayValue) (shape : Result (List ℕ) OpFault) → HasNumbersInRange a → HasNumbersInRange b
+      → answer_over f a b shape ≡ Ok c → HasNumbersInRange c
+  answer_over_in law f a b c (Err fault) h k is = absurd cc
+  answer_over_in law f a b c (Ok shape) h k is =
+      law shape (λ index. as_element (dyadic_number f a b shape index)) Number c
+      (λ index lawful. as_element_in (dyadic_number f a b shape index)
       (dyadic_of_in f (element_at a (source_index a.shape shape index)) (element_at b (source_index b.shape shape index))
-      (element_at_in a (source_index a.shape shape index) h) (element_at_in b (source_index b.shape shape index) k)))
+      (element_at_in a (source_index a.shape shape index) h) (element_at_in b (source_index b.shape shape index) k))) is
 
-  pub dyadic_answer_in : (f : ScalarFunction) (a b c : ArrayValue) → HasNumbersInRange a → HasNumbersInRange b → dyadic_answer f a b ≡ Ok c → HasNumbersInRange c
-  dyadic_answer_in f a b c h k is = IfOk-at_ok HasNumbersInRange is (answer_over_in f a b (extended_shape a.shape b.shape) h k)
+  pub dyadic_answer_in : AnswerLaw → (f : ScalarFunction) (a b c : ArrayValue) → HasNumbersInRange a → HasNumbersInRange b → dyadic_answer f a b ≡ Ok c → HasNumbersInRange c
+  dyadic_answer_in law f a b c h k is = answer_over_in law f a b c (extended_shape a.shape b.shape) h k is

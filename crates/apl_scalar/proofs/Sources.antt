@@ -14,7 +14,8 @@ use Rattle.apl_answer.specs.declared.fault.OpFault.{OpFault}
 use Rattle.apl_answer.specs.declared.fault.OpFault.TheVariants.{Rank, Length}
 use Rattle.apl_array.specs.declared.function.ScalarFunction.{ScalarFunction}
 use Rattle.apl_array.specs.declared.function.ScalarFunction.TheVariants.{Equal, NotEqual}
-use Rattle.apl_scalar.specs.Extension.{is_same_shape, has_one_element, extended_shape, source_index}
+use Rattle.apl_answer.specs.Arguments.{is_same_shape, has_one_element}
+use Rattle.apl_scalar.specs.Extension.{extended_shape, source_index}
 use Rattle.apl_scalar.specs.Operands.{operand_at, pair_at}
 use Rattle.apl_scalar.specs.Scalar.{monadic_number, monadic_of, dyadic_of, compare_elements}
 use Rattle.apl_scalar.specs.Monadic.{monadic_element}

@@ -7,6 +7,7 @@ use Rattle.apl_array.specs.declared.array.Elem.TheVariants.{Int, Chr}
 use Rattle.apl_array.specs.Range.{in_range, least_number, greatest_number}
 use Rattle.apl_pool.specs.declared.kernel.Fault.{Fault}
 use Rattle.apl_pool.specs.declared.kernel.Fault.TheVariants.{Domain, Limit}
+use Rattle.apl_answer.specs.Arguments.{is_bit}
 use Rattle.apl_array.specs.declared.function.ScalarFunction.{ScalarFunction}
 use Rattle.apl_array.specs.declared.function.ScalarFunction.TheVariants.{Plus, Minus, Times, Divide, Stile, Star, Bang, Floor, Ceiling, And, Or, Nand, Nor, Less, LessOrEqual, Equal, GreaterOrEqual, Greater, NotEqual, Tilde}
 use Rattle.apl_scalar.specs.Arithmetic.{factorial, binomial, residue}
@@ -19,9 +20,6 @@ exact z = if in_range z then Ok z else Err Limit
 
 abbrev pub bit : Bool → ℤ
 bit b = if b then pos 1 else pos 0
-
-abbrev pub is_bit : ℤ → Bool
-is_bit z = int_eq z (pos 0) || int_eq z (pos 1)
 
 abbrev pub is_one : ℤ → Bool
 is_one z = int_eq z (pos 1)

@@ -1,19 +1,31 @@
 //! Each scalar function as a type of its own, so that a pass over an array is compiled for each
 //! function and does not choose between functions at each element.
 
+use crate::tables::dyadic_numbers;
 use apl_array::ScalarFunction;
+use apl_pool::Fault;
 
 /// A type that names a scalar function.
-pub(crate) trait Function {
+pub trait Function {
+    ghost use Rattle.std.specs.Prelude.{◌≡◌};
     ghost use Rattle.apl_array.specs.declared.function.ScalarFunction.{ScalarFunction};
+    ghost use Rattle.apl_scalar.specs.Scalar.{dyadic_numbers};
 
     ghost FUNCTION: { ScalarFunction };
 
     const FUNCTION: ScalarFunction;
+
+    /// The result of the dyadic function of two numbers. It takes no memory.
+    #[inline(always)]
+    fn apply(left: i64, right: i64) -> Result<i64, Fault>
+        ensures { result ≡ dyadic_numbers FUNCTION left right }
+    {
+        dyadic_numbers(Self::FUNCTION, left, right)
+    }
 }
 
 #[derive(Clone, Copy)]
-pub(crate) struct Plus;
+pub struct Plus;
 
 impl Function for Plus {
     ghost use Rattle.apl_array.specs.declared.function.ScalarFunction.TheVariants.{Plus as Named};
@@ -24,7 +36,7 @@ impl Function for Plus {
 }
 
 #[derive(Clone, Copy)]
-pub(crate) struct Minus;
+pub struct Minus;
 
 impl Function for Minus {
     ghost use Rattle.apl_array.specs.declared.function.ScalarFunction.TheVariants.{Minus as Named};
@@ -35,7 +47,7 @@ impl Function for Minus {
 }
 
 #[derive(Clone, Copy)]
-pub(crate) struct Times;
+pub struct Times;
 
 impl Function for Times {
     ghost use Rattle.apl_array.specs.declared.function.ScalarFunction.TheVariants.{Times as Named};
@@ -46,7 +58,7 @@ impl Function for Times {
 }
 
 #[derive(Clone, Copy)]
-pub(crate) struct Divide;
+pub struct Divide;
 
 impl Function for Divide {
     ghost use Rattle.apl_array.specs.declared.function.ScalarFunction.TheVariants.{Divide as Named};
@@ -57,7 +69,7 @@ impl Function for Divide {
 }
 
 #[derive(Clone, Copy)]
-pub(crate) struct Stile;
+pub struct Stile;
 
 impl Function for Stile {
     ghost use Rattle.apl_array.specs.declared.function.ScalarFunction.TheVariants.{Stile as Named};
@@ -68,7 +80,7 @@ impl Function for Stile {
 }
 
 #[derive(Clone, Copy)]
-pub(crate) struct Star;
+pub struct Star;
 
 impl Function for Star {
     ghost use Rattle.apl_array.specs.declared.function.ScalarFunction.TheVariants.{Star as Named};
@@ -79,7 +91,7 @@ impl Function for Star {
 }
 
 #[derive(Clone, Copy)]
-pub(crate) struct Bang;
+pub struct Bang;
 
 impl Function for Bang {
     ghost use Rattle.apl_array.specs.declared.function.ScalarFunction.TheVariants.{Bang as Named};
@@ -90,7 +102,7 @@ impl Function for Bang {
 }
 
 #[derive(Clone, Copy)]
-pub(crate) struct Floor;
+pub struct Floor;
 
 impl Function for Floor {
     ghost use Rattle.apl_array.specs.declared.function.ScalarFunction.TheVariants.{Floor as Named};
@@ -101,7 +113,7 @@ impl Function for Floor {
 }
 
 #[derive(Clone, Copy)]
-pub(crate) struct Ceiling;
+pub struct Ceiling;
 
 impl Function for Ceiling {
     ghost use Rattle.apl_array.specs.declared.function.ScalarFunction.TheVariants.{Ceiling as Named};
@@ -112,7 +124,7 @@ impl Function for Ceiling {
 }
 
 #[derive(Clone, Copy)]
-pub(crate) struct And;
+pub struct And;
 
 impl Function for And {
     ghost use Rattle.apl_array.specs.declared.function.ScalarFunction.TheVariants.{And as Named};
@@ -123,7 +135,7 @@ impl Function for And {
 }
 
 #[derive(Clone, Copy)]
-pub(crate) struct Or;
+pub struct Or;
 
 impl Function for Or {
     ghost use Rattle.apl_array.specs.declared.function.ScalarFunction.TheVariants.{Or as Named};
@@ -134,7 +146,7 @@ impl Function for Or {
 }
 
 #[derive(Clone, Copy)]
-pub(crate) struct Nand;
+pub struct Nand;
 
 impl Function for Nand {
     ghost use Rattle.apl_array.specs.declared.function.ScalarFunction.TheVariants.{Nand as Named};
@@ -145,7 +157,7 @@ impl Function for Nand {
 }
 
 #[derive(Clone, Copy)]
-pub(crate) struct Nor;
+pub struct Nor;
 
 impl Function for Nor {
     ghost use Rattle.apl_array.specs.declared.function.ScalarFunction.TheVariants.{Nor as Named};
@@ -156,7 +168,7 @@ impl Function for Nor {
 }
 
 #[derive(Clone, Copy)]
-pub(crate) struct Less;
+pub struct Less;
 
 impl Function for Less {
     ghost use Rattle.apl_array.specs.declared.function.ScalarFunction.TheVariants.{Less as Named};
@@ -167,7 +179,7 @@ impl Function for Less {
 }
 
 #[derive(Clone, Copy)]
-pub(crate) struct LessOrEqual;
+pub struct LessOrEqual;
 
 impl Function for LessOrEqual {
     ghost use Rattle.apl_array.specs.declared.function.ScalarFunction.TheVariants.{LessOrEqual as Named};
@@ -178,7 +190,7 @@ impl Function for LessOrEqual {
 }
 
 #[derive(Clone, Copy)]
-pub(crate) struct Equal;
+pub struct Equal;
 
 impl Function for Equal {
     ghost use Rattle.apl_array.specs.declared.function.ScalarFunction.TheVariants.{Equal as Named};
@@ -189,7 +201,7 @@ impl Function for Equal {
 }
 
 #[derive(Clone, Copy)]
-pub(crate) struct GreaterOrEqual;
+pub struct GreaterOrEqual;
 
 impl Function for GreaterOrEqual {
     ghost use Rattle.apl_array.specs.declared.function.ScalarFunction.TheVariants.{GreaterOrEqual as Named};
@@ -200,7 +212,7 @@ impl Function for GreaterOrEqual {
 }
 
 #[derive(Clone, Copy)]
-pub(crate) struct Greater;
+pub struct Greater;
 
 impl Function for Greater {
     ghost use Rattle.apl_array.specs.declared.function.ScalarFunction.TheVariants.{Greater as Named};
@@ -211,7 +223,7 @@ impl Function for Greater {
 }
 
 #[derive(Clone, Copy)]
-pub(crate) struct NotEqual;
+pub struct NotEqual;
 
 impl Function for NotEqual {
     ghost use Rattle.apl_array.specs.declared.function.ScalarFunction.TheVariants.{NotEqual as Named};
@@ -222,7 +234,7 @@ impl Function for NotEqual {
 }
 
 #[derive(Clone, Copy)]
-pub(crate) struct Tilde;
+pub struct Tilde;
 
 impl Function for Tilde {
     ghost use Rattle.apl_array.specs.declared.function.ScalarFunction.TheVariants.{Tilde as Named};

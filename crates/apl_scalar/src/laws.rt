@@ -1,11 +1,14 @@
 //! What is true of all answers, a law the clauses of a function that does nothing.
-ghost use Rattle.std.specs.Prelude.{◌≡◌, Ok};
+ghost use Rattle.std.specs.Prelude.{◌≡◌, Ok, IfOk};
+ghost use Rattle.apl_array.specs.declared.array.Elem.{Elem};
 ghost use Rattle.apl_array.specs.Array.{ArrayValue};
-ghost use Rattle.apl_array.specs.Range.{HasNumbersInRange};
+ghost use Rattle.apl_array.specs.Range.{IsInRange, IsElementInRange, HasNumbersInRange};
+ghost use Rattle.apl_scalar.specs.Scalar.{monadic_of, dyadic_of};
 ghost use Rattle.apl_scalar.specs.Monadic.{monadic_answer};
 ghost use Rattle.apl_scalar.specs.Dyadic.{dyadic_answer};
 ghost use Rattle.apl_array.specs.declared.function.ScalarFunction.{ScalarFunction};
 
+use apl_answer::answer_is_in_range;
 use apl_array::range_is_decided;
 
 /// The answers to arguments whose numbers are in the range have their numbers in the range.
@@ -14,6 +17,9 @@ pub fn answers_are_in_range()
         → monadic_answer f b ≡ Ok answer → HasNumbersInRange answer }
     ensures dyadic { (f : ScalarFunction) (a b answer : ArrayValue) → HasNumbersInRange a → HasNumbersInRange b
         → dyadic_answer f a b ≡ Ok answer → HasNumbersInRange answer }
+    ensures element { (f : ScalarFunction) (x : Elem) → IsElementInRange x → IfOk (monadic_of f x) IsInRange }
+    ensures elements { (f : ScalarFunction) (x y : Elem) → IsElementInRange x → IsElementInRange y → IfOk (dyadic_of f x y) IsInRange }
 {
     range_is_decided();
+    answer_is_in_range();
 }

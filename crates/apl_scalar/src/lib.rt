@@ -7,7 +7,7 @@
 mod arithmetic;
 mod arrays;
 mod extend;
-mod function_types;
+pub mod function_types;
 mod kernels;
 mod laws;
 mod operands;

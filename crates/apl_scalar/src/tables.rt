@@ -1,7 +1,8 @@
 //! The scalar functions of numbers and of elements.
 ghost use Rattle.std.specs.Prelude.{◌≡◌, Bool, ◌&&◌, ◌||◌, not, IsTrue};
 ghost use Rattle.apl_array.specs.Valences.{has_monadic, has_dyadic};
-ghost use Rattle.apl_scalar.specs.Scalar.{monadic_number, monadic_of, dyadic_numbers, dyadic_of, compare_elements, identity_of, as_element, bit, is_bit, is_one, logical};
+ghost use Rattle.apl_answer.specs.Arguments.{is_bit};
+ghost use Rattle.apl_scalar.specs.Scalar.{monadic_number, monadic_of, dyadic_numbers, dyadic_of, compare_elements, identity_of, as_element, bit, is_one, logical};
 
 use crate::arithmetic::{combinations, factorial, limited, power, quotient, reciprocal, residue};
 use crate::truth::{and, bit, nand, negation, nor, or};

@@ -1,7 +1,8 @@
 //! The functions of truth values, of which 1 is true and 0 is false.
 ghost use Rattle.std.specs.Prelude.{◌≡◌, Ok, Err, ◌&&◌, ◌||◌, not, if◌then◌else◌};
 ghost use Rattle.apl_pool.specs.declared.kernel.Fault.TheVariants.{Domain};
-ghost use Rattle.apl_scalar.specs.Scalar.{bit, is_bit, is_one, logical, negation};
+ghost use Rattle.apl_answer.specs.Arguments.{is_bit};
+ghost use Rattle.apl_scalar.specs.Scalar.{bit, is_one, logical, negation};
 
 use apl_pool::Fault;
 

@@ -1,6 +1,6 @@
 use Rattle.std.proofs.Common.{◌≡◌, map, sym, ap, ◌∙◌, arith}
 use Rattle.apl_array.specs.Shape.{count_of}
-use Rattle.apl_scalar.specs.Extension.{is_same_shape}
+use Rattle.apl_answer.specs.Arguments.{is_same_shape}
 use Rattle.apl_scalar.proofs.Sources.{same_from_test, left_extended, right_extended, count_of_items, operand_from_source}
 use Rattle.apl_scalar.proofs.operands.Pairs.new.Goals as goal
 

@@ -1,0 +1,35 @@
+-- What a function of arrays answers, as a row of a table: checks in order, and the shape, the kind and the elements of the result.
+use Rattle.std.specs.Prelude.{ℕ, List, [], ◌∷◌, Bool, Result, Ok, Err, if◌then◌else◌}
+use Rattle.apl_array.specs.declared.array.Elem.{Elem}
+use Rattle.apl_array.specs.declared.array.Kind.{Kind}
+use Rattle.apl_array.specs.Array.{ArrayValue}
+use Rattle.apl_pool.specs.declared.kernel.Fault.{Fault}
+use Rattle.apl_answer.specs.declared.fault.OpFault.{OpFault}
+use Rattle.apl_answer.specs.Pointwise.{answer_of, IsAnswerOf}
+
+-- a test, and the refusal where it fails
+abbrev pub Check : Type 0
+Check = Bool × OpFault
+
+-- the checks in order, and the shape, the kind and what there is at each index list where none fails
+pub record Row : Type 0 where
+  pub checks : List Check
+  pub shape : List ℕ
+  pub kind : Kind
+  pub outcome : List ℕ → Result Elem Fault
+
+-- a row in which no place has a fault
+abbrev pub array_row : List Check → List ℕ → Kind → (List ℕ → Elem) → Row
+array_row checks shape kind element = record { checks = checks; shape = shape; kind = kind; outcome = λ index. Ok (element index) }
+
+-- the refusal of the first check that fails, else the answer
+abbrev pub first_failure_or : List Check → Result ArrayValue OpFault → Result ArrayValue OpFault
+first_failure_or [] answer = answer
+first_failure_or (check ∷ checks) answer = if check.0 then first_failure_or checks answer else Err check.1
+
+abbrev pub result_of : Row → Result ArrayValue OpFault
+result_of row = first_failure_or row.checks (answer_of row.shape row.outcome row.kind)
+
+-- the row's result, or want of memory in its place
+abbrev pub Answers : Row → Result ArrayValue OpFault → Type 0
+Answers row result = IsAnswerOf (result_of row) result
