@@ -5,7 +5,9 @@ use Rattle.std.specs.Bool.{passes}
 use Rattle.std.proofs.lemmas.Bool.Decides.{nat_tests}
 use Rattle.apl_tokens.specs.declared.token.Lexeme.{Lexeme}
 use Rattle.apl_tokens.specs.declared.token.Lexeme.TheVariants.{Constant, Name}
-use Rattle.apl_tokens.specs.Symbols.{is_digit, is_letter, is_blank, is_quote, quote, symbol_lexeme, symbol_lexemes, lexeme_in}
+use Rattle.apl_tokens.specs.Symbols.{is_digit, is_letter, is_blank, is_quote, quote, character_of}
+use Rattle.apl_tokens.specs.SymbolLexemes.{symbol_lexeme, symbol_lexemes, lexeme_in, found}
+use Rattle.apl_tokens.proofs.Found.{lexeme_found}
 use Rattle.apl_tokens.specs.Lexis.{BeginsWithNo, IsNumeral, plain, negative, Numeral, AreNumerals, IsSymbol, IsToken, IsEnd, BeginsWithNoToken, IsBeyondLimit}
 
 pub data Lead : Type 0 where
@@ -46,27 +48,35 @@ is_symbol (Constant v) = false
 is_symbol (Name n) = false
 is_symbol k = true
 
--- each row has a sign and a symbol's lexeme
-abbrev are_signs : List (ℕ × Lexeme) → Bool
+abbrev has_sign : Option ℕ → Bool
+has_sign (Some c) = is_sign (lead c)
+has_sign None = true
+
+-- each is a symbol, whose character is a sign
+abbrev are_signs : List Lexeme → Bool
 are_signs [] = true
-are_signs (row ∷ rows) = is_sign (lead row.0) && (is_symbol row.1 && are_signs rows)
+are_signs (lexeme ∷ lexemes) = has_sign (character_of lexeme) && (is_symbol lexeme && are_signs lexemes)
 
 pub both : (a b : Bool) → (a && b) ≡ true → (a ≡ true) × (b ≡ true)
 both true b e = (refl, e)
 both false b e = absurd cc
 
-signs_lead : (rows : List (ℕ × Lexeme)) (c : ℕ) (k : Lexeme) → are_signs rows ≡ true → lexeme_in rows c ≡ Some k → (lead c ≡ sign) × (is_symbol k ≡ true)
+signs_lead : (lexemes : List Lexeme) (c : ℕ) (k : Lexeme) → are_signs lexemes ≡ true → lexeme_in lexemes c ≡ Some k → (lead c ≡ sign) × (is_symbol k ≡ true)
 signs_lead [] c k h e = absurd cc
-signs_lead (row ∷ rows) c k h e =
-    let (first, rest) = both (is_sign (lead row.0)) (is_symbol row.1 && are_signs rows) h in
-    let (second, others) = both (is_symbol row.1) (are_signs rows) rest in
-    by_test (c == row.0) refl first second (signs_lead rows c k others) e
+signs_lead (lexeme ∷ lexemes) c k h e =
+    let (first, rest) = both (has_sign (character_of lexeme)) (is_symbol lexeme && are_signs lexemes) h in
+    let (second, others) = both (is_symbol lexeme) (are_signs lexemes) rest in
+    by_character (character_of lexeme) first second (signs_lead lexemes c k others) e
   where
-    by_test : (b : Bool) → (c == row.0) ≡ b → is_sign (lead row.0) ≡ true → is_symbol row.1 ≡ true → (lexeme_in rows c ≡ Some k → (lead c ≡ sign) × (is_symbol k ≡ true)) → (if b then Some row.1 else lexeme_in rows c) ≡ Some k → (lead c ≡ sign) × (is_symbol k ≡ true)
-    by_test true t first second below e =
-        let same : row.1 ≡ k = cc in
-        (ap lead (eqb→eq c row.0 (passes (c == row.0) t)) ∙ sign_from (lead row.0) first, ap is_symbol (sym same) ∙ second)
-    by_test false t first second below e = below e
+    by_test : (d : ℕ) (b : Bool) → (c == d) ≡ b → is_sign (lead d) ≡ true → is_symbol lexeme ≡ true → (lexeme_in lexemes c ≡ Some k → (lead c ≡ sign) × (is_symbol k ≡ true)) → (if b then Some lexeme else lexeme_in lexemes c) ≡ Some k → (lead c ≡ sign) × (is_symbol k ≡ true)
+    by_test d true t first second below e =
+        let same : lexeme ≡ k = cc in
+        (ap lead (eqb→eq c d (passes (c == d) t)) ∙ sign_from (lead d) first, ap is_symbol (sym same) ∙ second)
+    by_test d false t first second below e = below e
+
+    by_character : (o : Option ℕ) → has_sign o ≡ true → is_symbol lexeme ≡ true → (lexeme_in lexemes c ≡ Some k → (lead c ≡ sign) × (is_symbol k ≡ true)) → found o lexeme (lexeme_in lexemes c) c ≡ Some k → (lead c ≡ sign) × (is_symbol k ≡ true)
+    by_character (Some d) first second below e = by_test d (c == d) refl first second below e
+    by_character None first second below e = below e
 
 pub sign_of : (c : ℕ) (k : Lexeme) → symbol_lexeme c ≡ Some k → (lead c ≡ sign) × (is_symbol k ≡ true)
 sign_of c k e = signs_lead symbol_lexemes c k refl e
@@ -106,7 +116,7 @@ pub quote_begins : (t tail : List ℕ) → t ≡ quote ∷ tail → Begins t quo
 quote_begins t tail e = record { head = quote; tail = tail; split = e; is = refl }
 
 symbol_begins : (text : List ℕ) (k : Lexeme) → IsSymbol text k → Begins text sign
-symbol_begins text k s = record { head = s.character; tail = []; split = s.split; is = (sign_of s.character k s.is).0 }
+symbol_begins text k s = record { head = s.character; tail = []; split = s.split; is = (sign_of s.character k (lexeme_found k s.character s.is)).0 }
 
 pub token_begins : (text after : List ℕ) (k : Lexeme) → (h : IsToken text after k) → Begins text (lead_of text after k h)
 token_begins text after (Constant v) (inl h) = numerals_begin 0 text h.numerals h.spelled

@@ -13,7 +13,9 @@ use Rattle.apl_tokens.proofs.Quotes.{no_quotation, doubled-append}
 use Rattle.apl_array.specs.Array.{number_array, character_array}
 use Rattle.apl_tokens.specs.declared.token.Lexeme.{Lexeme}
 use Rattle.apl_tokens.specs.declared.token.Lexeme.TheVariants.{Constant, Name}
-use Rattle.apl_tokens.specs.Symbols.{is_letter, is_name_character, quote, is_quote, symbol_lexeme}
+use Rattle.apl_tokens.specs.Symbols.{is_letter, is_name_character, quote, is_quote}
+use Rattle.apl_tokens.specs.SymbolLexemes.{symbol_lexeme}
+use Rattle.apl_tokens.proofs.Found.{character_found, lexeme_found}
 use Rattle.apl_tokens.specs.Fronts.{AllPass}
 use Rattle.apl_tokens.specs.Lexis.{BeginsWithNo, IsNumeral, Numeral, AreNumerals, HasNoNextNumeral, EndsNumerals, most_elements, constant_shape, doubled, IsSymbol, BeginsWithNoToken, IsBeyondLimit}
 use Rattle.apl_tokens.specs.Scans.{HasNoNumeral, IsNumeralAt, held_more, IsRow, IsSpelling, BeginsWithClosingQuote, IsQuotation, HasNoQuotation, BeginsWithQuote, IsTokenAt}
@@ -120,7 +122,7 @@ symbol_token [] c k some at is = absurd (omega arith)
 symbol_token (d ∷ cs) c k some at is = record {
   within = omega arith;
   some = omega arith;
-  is = symbol_is_token (d ∷ []) cs k (sign_of c k is).1 (record { character = d; split = refl; is = ap symbol_lexeme (sym at) ∙ is });
+  is = symbol_is_token (d ∷ []) cs k (sign_of c k is).1 (record { character = d; split = refl; is = character_found d k (ap symbol_lexeme (sym at) ∙ is) });
 }
 
 -- text constants
@@ -164,7 +166,7 @@ no_token (d ∷ cs) c some at lettered quoted numeral symbol x a k e h =
     no_symbol d cs x a k symbol e h =
         let whole : d ∷ cs ≡ h.character ∷ a = e ∙ ap (λ y. y ++ a) h.split in
         let head : d ≡ h.character = cc in
-        let found : symbol_lexeme d ≡ Some k = ap symbol_lexeme head ∙ h.is in
+        let found : symbol_lexeme d ≡ Some k = ap symbol_lexeme head ∙ lexeme_found k h.character h.is in
         absurd cc
 
 pub no_limit : (text : List ℕ) (c : ℕ) → c ≡ get_or text 0 c → is_quote c ≡ false → HasNoNumeral text → (place : ℕ) → IsBeyondLimit text place → ⊥

@@ -9,7 +9,9 @@ use Rattle.apl_array.specs.Range.{IsInRange, least_number, greatest_number}
 use Rattle.apl_tokens.specs.declared.token.Token.{Token}
 use Rattle.apl_tokens.specs.declared.token.Lexeme.{Lexeme}
 use Rattle.apl_tokens.specs.declared.token.Lexeme.TheVariants.{Constant, Name}
-use Rattle.apl_tokens.specs.Symbols.{is_digit, is_letter, is_name_character, is_blank, quote, is_quote, comment_mark, symbol_lexeme}
+use Rattle.apl_tokens.specs.Symbols.{is_digit, is_letter, is_name_character, is_blank, quote, is_quote, comment_mark}
+use Rattle.apl_tokens.specs.SymbolLexemes.{symbol_lexeme}
+use Rattle.apl_tokens.proofs.Found.{character_found}
 use Rattle.apl_tokens.specs.Fronts.{AllPass}
 use Rattle.apl_tokens.specs.Lexis.{BeginsWithNo, number_of_digits, IsNumeral, plain, negative, negated, Numeral, AreNumerals, EndsNumerals, HasNoNextNumeral, AreInRange, most_elements, constant_shape, doubled, quoted, IsToken, LexesUpTo, IsEnd, Lexes, BeginsWithNoToken, FirstOutOfRange, here, later, IsBeyondLimit, HasLexicalFault, HasLimitFault}
 use Rattle.apl_tokens.specs.Scans.{HasNoNumeral}
@@ -204,7 +206,7 @@ token_here [] = none (no_token_at_end [] tt) (λ place. no_limit_at_end [] place
 token_here (c ∷ cs) = by_letter (is_letter c) refl
   where
     by_symbol : is_letter c ≡ false → is_quote c ≡ false → HasNoNumeral (c ∷ cs) → (k : Option Lexeme) → symbol_lexeme c ≡ k → Here (c ∷ cs)
-    by_symbol letter quoted numeral (Some k) e = fits (c ∷ []) cs k refl (symbol_is_token (c ∷ []) cs k (sign_of c k e).1 (record { character = c; split = refl; is = e }))
+    by_symbol letter quoted numeral (Some k) e = fits (c ∷ []) cs k refl (symbol_is_token (c ∷ []) cs k (sign_of c k e).1 (record { character = c; split = refl; is = character_found c k e }))
     by_symbol letter quoted numeral None e = none (no_token (c ∷ cs) c (omega arith) refl letter quoted numeral e) (no_limit (c ∷ cs) c refl quoted numeral)
 
     by_numeral : is_letter c ≡ false → is_quote c ≡ false → NumeralHere (c ∷ cs) ⊎ HasNoNumeral (c ∷ cs) → Here (c ∷ cs)

@@ -6,7 +6,9 @@ use Rattle.apl_array.specs.Array.{ArrayValue, number_array, character_array}
 use Rattle.apl_tokens.specs.declared.token.Token.{Token}
 use Rattle.apl_tokens.specs.declared.token.Lexeme.{Lexeme}
 use Rattle.apl_tokens.specs.declared.token.Lexeme.TheVariants.{Constant, Name}
-use Rattle.apl_tokens.specs.Symbols.{is_digit, is_letter, is_name_character, is_blank, quote, is_quote, symbol_lexeme}
+use Rattle.apl_tokens.specs.Symbols.{is_digit, is_letter, is_name_character, is_blank, quote, is_quote}
+use Rattle.apl_tokens.specs.SymbolLexemes.{symbol_lexeme}
+use Rattle.apl_tokens.proofs.Found.{lexeme_found}
 use Rattle.apl_tokens.specs.Fronts.{AllPass}
 use Rattle.apl_tokens.specs.Lexis.{BeginsWithNo, number_of_digits, AreDigits, IsNumeral, plain, negative, negated, AreBlanks, Numeral, AreNumerals, EndsNumerals, HasNoNextNumeral, AreInRange, most_elements, constant_shape, IsNumberConstant, doubled, quoted, IsTextConstant, IsName, IsSymbol, IsToken, LexesUpTo, IsEnd, Lexes, BeginsWithNoToken, FirstOutOfRange, here, later, IsNumberBeyondLimit, IsTextBeyondLimit, IsBeyondLimit, HasLexicalFault, HasLimitFault}
 use Rattle.apl_tokens.proofs.Runs.{numeral_begins, all_blanks}
@@ -114,7 +116,7 @@ one_symbol x y a b j k h i e =
     let whole : h.character ∷ a ≡ i.character ∷ b = ap (λ t. t ++ a) (sym h.split) ∙ e ∙ ap (λ t. t ++ b) i.split in
     let heads : h.character ≡ i.character = cc in
     let texts : x ≡ y = h.split ∙ ap (λ c. c ∷ []) heads ∙ sym i.split in
-    let kinds : ◌≡◌ {A = Option Lexeme} (Some j) (Some k) = sym h.is ∙ ap symbol_lexeme heads ∙ i.is in
+    let kinds : ◌≡◌ {A = Option Lexeme} (Some j) (Some k) = sym (lexeme_found j h.character h.is) ∙ ap symbol_lexeme heads ∙ lexeme_found k i.character i.is in
     (texts, cc, cc)
 
 letters_pass : (c : ℕ) → IsTrue (is_letter c) → IsTrue (is_name_character c)

@@ -5,7 +5,7 @@ use Rattle.apl_array.specs.Array.{ArrayValue, number_array, character_array}
 use Rattle.apl_tokens.specs.declared.token.Token.{Token}
 use Rattle.apl_tokens.specs.declared.token.Lexeme.{Lexeme}
 use Rattle.apl_tokens.specs.declared.token.Lexeme.TheVariants.{Constant, Name}
-use Rattle.apl_tokens.specs.Symbols.{is_digit, is_letter, is_name_character, is_blank, high_minus, quote, is_quote, comment_mark, symbol_lexeme}
+use Rattle.apl_tokens.specs.Symbols.{is_digit, is_letter, is_name_character, is_blank, high_minus, quote, is_quote, comment_mark, character_of}
 use Rattle.apl_tokens.specs.Fronts.{AllPass}
 
 -- the characters don't begin with one that passes
@@ -117,7 +117,7 @@ pub record IsName (text after name : List ℕ) : Type 0 where
 pub record IsSymbol (text : List ℕ) (lexeme : Lexeme) : Type 0 where
   pub character : ℕ
   pub split : text ≡ character ∷ []
-  pub is : symbol_lexeme character ≡ Some lexeme
+  pub is : character_of lexeme ≡ Some character
 
 -- the text is a token, as long as can be before what comes after it
 abbrev pub IsToken : List ℕ → List ℕ → Lexeme → Type 0

@@ -1,4 +1,5 @@
 pub mod Symbols
+pub mod SymbolLexemes
 pub mod Fronts
 pub mod Lexis
 pub mod Stops

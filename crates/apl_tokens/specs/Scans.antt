@@ -2,8 +2,8 @@
 use Rattle.std.specs.Prelude.{◌≡◌, ◌⊎◌, ◌+◌, ◌<◌, ◌≤◌, ℕ, ℤ, Bool, IsTrue, List, [], ◌∷◌, ◌++◌, Option, Some, None, IfSome, length, take, drop, map, slice_index, encode_utf8, encode_utf8_all}
 use Rattle.apl_array.specs.Range.{IsInRange}
 use Rattle.apl_tokens.specs.declared.token.Lexeme.{Lexeme}
-use Rattle.apl_tokens.specs.declared.lexer.Class.{Class}
-use Rattle.apl_tokens.specs.declared.lexer.Class.TheVariants as class
+use Rattle.apl_tokens.specs.declared.lexer.CharacterClass.{CharacterClass}
+use Rattle.apl_tokens.specs.declared.lexer.CharacterClass.TheVariants as class
 use Rattle.apl_tokens.specs.declared.lexer.NextNumeral.{NextNumeral}
 use Rattle.apl_tokens.specs.declared.lexer.LexicalStop.{LexicalStop}
 use Rattle.apl_tokens.specs.declared.lexer.LexicalStop.TheVariants as stop
@@ -12,7 +12,7 @@ use Rattle.apl_tokens.specs.Fronts.{AllPass}
 use Rattle.apl_tokens.specs.Lexis.{BeginsWithNo, IsNumeral, AreBlanks, HasNoNextNumeral, Numeral, AreNumerals, AreInRange, FirstOutOfRange, doubled, IsToken, BeginsWithNoToken, IsBeyondLimit}
 
 -- a class of characters
-abbrev pub passes : Class → ℕ → Bool
+abbrev pub passes : CharacterClass → ℕ → Bool
 passes class.Blank c = is_blank c
 passes class.Digit c = is_digit c
 passes class.NamePart c = is_name_character c

@@ -1,5 +1,5 @@
 -- The listed symbols, and the tokens of one symbol.
-use Rattle.std.specs.Prelude.{◌==◌, ◌||◌, ◌&&◌, nat_le, ℕ, Bool, List, [], ◌∷◌, ◌++◌, map, Option, Some, None, if◌then◌else◌}
+use Rattle.std.specs.Prelude.{◌==◌, ◌||◌, ◌&&◌, nat_le, ℕ, Bool, List, [], ◌∷◌, Option, Some, None}
 use Rattle.std.specs.List.{list_any}
 use Rattle.apl_array.specs.declared.function.ScalarFunction.{ScalarFunction}
 use Rattle.apl_array.specs.declared.function.ScalarFunction.TheVariants.{Plus, Minus, Times, Divide, Stile, Star, Bang, Floor, Ceiling, And, Or, Nand, Nor, Less, LessOrEqual, Equal, GreaterOrEqual, Greater, NotEqual, Tilde}
@@ -86,29 +86,18 @@ symbol_of DownTack = (0x22A4, class.DyadicOnly)  -- ⊤
 abbrev pub class_of : Glyph → Class
 class_of glyph = (symbol_of glyph).1
 
-abbrev pub scalar_functions : List ScalarFunction
-scalar_functions =
-    Plus ∷ Minus ∷ Times ∷ Divide ∷ Stile ∷ Star ∷ Bang ∷ Floor ∷ Ceiling ∷ And
-    ∷ Or ∷ Nand ∷ Nor ∷ Less ∷ LessOrEqual ∷ Equal ∷ GreaterOrEqual ∷ Greater ∷ NotEqual ∷ Tilde ∷ []
-
-abbrev pub glyphs : List Glyph
-glyphs =
-    map Scalar scalar_functions
-    ++ (Rho ∷ Comma ∷ Iota ∷ Epsilon ∷ UpArrow ∷ DownArrow ∷ CircleStile ∷ CircleBar ∷ Transpose
-    ∷ GradeUp ∷ GradeDown ∷ Slash ∷ SlashBar ∷ Backslash ∷ BackslashBar ∷ UpTack ∷ DownTack ∷ [])
-
--- the symbols that are tokens by themselves
-abbrev pub symbol_lexemes : List (ℕ × Lexeme)
-symbol_lexemes =
-    map (λ glyph. ((symbol_of glyph).0, Function glyph)) glyphs
-    ++ ((46, Dot) ∷ (0x2218, Jot) ∷ (0x2190, Arrow) ∷ (40, OpenParen) ∷ (41, CloseParen) ∷ (91, OpenBracket) ∷ (93, CloseBracket) ∷ (59, Semicolon) ∷ [])
-
-abbrev pub lexeme_in : List (ℕ × Lexeme) → ℕ → Option Lexeme
-lexeme_in [] c = None
-lexeme_in (row ∷ rows) c = if c == row.0 then Some row.1 else lexeme_in rows c
-
-abbrev pub symbol_lexeme : ℕ → Option Lexeme
-symbol_lexeme c = lexeme_in symbol_lexemes c
+-- the character of a token that is one symbol
+abbrev pub character_of : Lexeme → Option ℕ
+character_of (Function glyph) = Some (symbol_of glyph).0
+character_of Dot = Some 46
+character_of Jot = Some 0x2218
+character_of Arrow = Some 0x2190
+character_of OpenParen = Some 40
+character_of CloseParen = Some 41
+character_of OpenBracket = Some 91
+character_of CloseBracket = Some 93
+character_of Semicolon = Some 59
+character_of _ = None
 
 -- the listed symbols that are not ASCII: ¯ × ÷ ← ↑ ↓ ∆ ∊ ∘ ∧ ∨ ≠ ≤ ≥ ⊖ ⊤ ⊥ ⌈ ⌊ ⌽ ⌿ ⍀ ⍉ ⍋ ⍒ ⍙ ⍝ ⍱ ⍲ ⍳ ⍴
 abbrev pub non_ascii_symbols : List ℕ

@@ -47,24 +47,24 @@ impl<T: Drop> From<AllocFailed<T>> for LexicalStop {
 
 /// A class of characters.
 #[derive(Clone, Copy, Drop)]
-pub(crate) enum Class {
+pub(crate) enum CharacterClass {
     Blank,
     Digit,
     NamePart,
 }
 
-fn is_in(class: Class, c: char) -> bool
+fn is_in(class: CharacterClass, c: char) -> bool
     ensures { result ≡ passes class c }
 {
     match class {
-        Class::Blank => is_blank(c),
-        Class::Digit => is_digit(c),
-        Class::NamePart => is_name_character(c),
+        CharacterClass::Blank => is_blank(c),
+        CharacterClass::Digit => is_digit(c),
+        CharacterClass::NamePart => is_name_character(c),
     }
 }
 
 /// The length of the longest front of the class.
-fn run_length(text: &[char], class: Class) -> usize
+fn run_length(text: &[char], class: CharacterClass) -> usize
     ensures within { result ≤ length text.now }
     ensures front { AllPass (passes class) (take result text.now) }
     ensures longest { BeginsWithNo (passes class) (drop result text.now) }
@@ -83,7 +83,7 @@ pub fn blanks_before(text: &[char]) -> usize
     ensures blank { AllPass is_blank (take result text.now) }
     ensures longest { BeginsWithNo is_blank (drop result text.now) }
 {
-    run_length(text, Class::Blank)
+    run_length(text, CharacterClass::Blank)
 }
 
 /// The number that digits spell, if it is at most 2 to the 63rd.
@@ -137,7 +137,7 @@ fn numeral_at(text: &[char]) -> Option<Numeral>
 {
     if !text.is_empty() && text[0] == '¯' {
         let rest = &text[1..];
-        let digits = run_length(rest, Class::Digit);
+        let digits = run_length(rest, CharacterClass::Digit);
         if digits == 0 {
             return None;
         }
@@ -147,7 +147,7 @@ fn numeral_at(text: &[char]) -> Option<Numeral>
             number,
         });
     }
-    let digits = run_length(text, Class::Digit);
+    let digits = run_length(text, CharacterClass::Digit);
     if digits == 0 {
         return None;
     }
@@ -170,7 +170,7 @@ fn next_numeral(text: &[char]) -> Option<NextNumeral>
     ensures found { IfSome result (λ next. IsNextNumeralAt text.now next.gap next.numeral.length next.numeral.number) }
     ensures none { IfNone result (HasNoNextNumeral text.now) }
 {
-    let gap = run_length(text, Class::Blank);
+    let gap = run_length(text, CharacterClass::Blank);
     if gap == 0 {
         return None;
     }
@@ -391,7 +391,7 @@ fn token_at(alloc: Global, text: &[char], column: usize) -> Result<Scanned, Lexi
 {
     let first = text[0];
     if is_letter(first) {
-        let length = run_length(text, Class::NamePart);
+        let length = run_length(text, CharacterClass::NamePart);
         let name = name_of(alloc, &text[..length])?;
         return Ok(Scanned {
             lexeme: Lexeme::Name(name),
@@ -425,13 +425,13 @@ pub fn tokens(alloc: Global, characters: &[char]) -> Result<Vec<Token>, LexicalS
     ensures stop { IfErr result (IsLexicalStopOf characters.now) }
 {
     let mut tokens = Vec::with_capacity(alloc, characters.len().min(ROOM))?;
-    let mut column = run_length(characters, Class::Blank);
+    let mut column = run_length(characters, CharacterClass::Blank);
     while column < characters.len() && !is_comment_mark(characters[column]) {
         let token = token_at(alloc, &characters[column..], column)?;
         let lexeme = token.lexeme;
         tokens.push(Token { lexeme, column })?;
         column += token.length;
-        column += run_length(&characters[column..], Class::Blank);
+        column += run_length(&characters[column..], CharacterClass::Blank);
     }
     Ok(tokens)
 }
