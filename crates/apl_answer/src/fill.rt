@@ -14,8 +14,8 @@ use apl_pool::{Cut, Gate, Kernel, Pool, Stop};
 use std::alloc::Global;
 use std::thread::Threads;
 
-/// The array of this shape whose elements a kernel gives at its places, or the fault at the least
-/// place that has one.
+/// The array of this shape whose elements in row order a kernel gives at its places, or the fault
+/// at the least place that has one. Want of memory may come in place of any answer.
 pub fn fill_array<K: Kernel + Sync, R: Threads + Sync, C: Cut + Sync, G: Gate + Sync>(
     rt: &R,
     alloc: Global,
@@ -32,7 +32,8 @@ where
     array_from_fill(shape, pool.fill(rt, alloc, kernel))
 }
 
-/// The array of this shape that a pool's values make, or why there are none.
+/// The array of this shape that a pool's values make in row order, or why there are none: the fault,
+/// or `Memory`.
 pub fn array_from_fill<T: Element>(
     shape: Shape,
     filled: Result<Vec<T>, Stop>,

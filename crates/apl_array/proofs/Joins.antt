@@ -1,6 +1,7 @@
--- The places of joined index lists, of the parts of an index list on both sides of an axis, and of one whose axis has another length.
-use Rattle.std.proofs.Common.{◌≡◌, ℕ, zero, suc, ◌+◌, ◌*◌, ◌/◌, ◌%◌, ◌<◌, List, [], ◌∷◌, ◌++◌, length, take, drop, slice_index, refl, sym, ap, ◌∙◌, arith}
+-- The places of joined index lists, index lists in reverse order, the places of the parts of an index list on both sides of an axis, and of one whose axis has another length.
+use Rattle.std.proofs.Common.{◌≡◌, ℕ, zero, suc, ◌+◌, ◌-◌, ◌*◌, ◌/◌, ◌%◌, ◌<◌, List, [], ◌∷◌, ◌++◌, length, reverse, take, drop, slice_index, refl, sym, ap, ◌∙◌, arith}
 use Rattle.std.specs.Prelude.{slice_set}
+use Rattle.std.proofs.lemmas.List.{get_or-reverse, length-reverse, reverse-append}
 use Rattle.std.proofs.Math.Nat.{mod-lt, mod-eq_of_lt, div-eq_of_lt, add-mul-div_right, div-div-eq-div-mul}
 use Rattle.std.proofs.lemmas.Nat.{div-add-mod'}
 use Rattle.std.proofs.Math.Arith.{mod-mul}
@@ -60,6 +61,30 @@ pub index_at-append : (a b : List ℕ) (place : ℕ) → place < count_of a * co
 index_at-append a b place below =
     let some : 0 < count_of b = pos_right (count_of a) (count_of b) (omega arith) in
     index_at-append-whole a b place ∙ ap (λ is. index_at a (place / count_of b) ++ is) (index_at-mod b place some)
+
+-- ---- index lists in reverse order
+
+pub count_of-reverse : (shape : List ℕ) → count_of (reverse shape) ≡ count_of shape
+count_of-reverse [] = refl
+count_of-reverse (n ∷ ns) =
+    let last : count_of (reverse (n ∷ ns)) ≡ count_of (reverse ns ++ (n ∷ [])) = ap count_of (reverse-append (n ∷ []) ns) in
+    omega (arith, last, count_of-append (reverse ns) (n ∷ []), ap (λ c. c * n) (count_of-reverse ns))
+
+pub IsIndexOf-reverse : (shape index : List ℕ) → IsIndexOf (reverse shape) index → IsIndexOf shape (reverse index)
+IsIndexOf-reverse shape index lawful =
+    let len : length index ≡ length shape = lawful.len ∙ length-reverse shape in
+    record {
+      len = length-reverse index ∙ len;
+      below = λ k inside.
+          let j = length shape - 1 - k in
+          let here : k < length index = omega (arith, len) in
+          let j_inside : j < length shape = omega arith in
+          let there : j < length (reverse shape) = omega (arith, length-reverse shape) in
+          let back : length shape - 1 - j ≡ k = omega arith in
+          let left : slice_index (reverse index) k ≡ slice_index index j = get_or-reverse index k 0 here ∙ ap (λ n. slice_index index (n - 1 - k)) len in
+          let right : slice_index (reverse shape) j ≡ slice_index shape k = get_or-reverse shape j 0 j_inside ∙ ap (slice_index shape) back in
+          omega (arith, left, right, lawful.below j there);
+    }
 
 -- ---- the parts of an index list on both sides of an axis
 

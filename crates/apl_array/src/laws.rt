@@ -1,6 +1,6 @@
 //! What is true of all arrays, their places and their numbers, each law the contract of a function
 //! that does nothing.
-ghost use Rattle.std.specs.Prelude.{◌≡◌, ◌↔◌, ◌<◌, ◌+◌, ◌*◌, ◌/◌, ◌%◌, ℕ, ℤ, List, ◌++◌, true, length, take, drop, slice_index, slice_set, insert, remove, FitsSigned};
+ghost use Rattle.std.specs.Prelude.{◌≡◌, ◌↔◌, ◌<◌, ◌+◌, ◌*◌, ◌/◌, ◌%◌, ℕ, ℤ, List, ◌++◌, true, length, reverse, take, drop, slice_index, slice_set, insert, remove, FitsSigned};
 ghost use Rattle.std.specs.Int.{w64};
 ghost use Rattle.apl_array.specs.Range.{IsInRange, in_range};
 ghost use Rattle.apl_array.specs.Shape.{IsIndexOf, count_of, place_of, index_at};
@@ -54,6 +54,12 @@ pub fn joined_index_has_place()
     ensures place { (a b i j : List ℕ) → length i ≡ length a → place_of (a ++ b) (i ++ j) ≡ place_of a i * count_of b + place_of b j }
     ensures index { (a b : List ℕ) (place : ℕ) → place < count_of a * count_of b
         → index_at (a ++ b) place ≡ index_at a (place / count_of b) ++ index_at b (place % count_of b) }
+{}
+
+/// Index lists of the axes in reverse order.
+pub fn reversed_index_is_lawful()
+    ensures count { (shape : List ℕ) → count_of (reverse shape) ≡ count_of shape }
+    ensures lawful { (shape index : List ℕ) → IsIndexOf (reverse shape) index → IsIndexOf shape (reverse index) }
 {}
 
 /// The parts of an index list on both sides of an axis.
