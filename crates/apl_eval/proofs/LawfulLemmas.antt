@@ -1,5 +1,5 @@
 -- Statements keep a workspace lawful.
-use Rattle.std.proofs.Common.{◌≡◌, ◌≤◌, ℕ, List, [], ◌∷◌, ◌++◌, Option, Some, None, Result, Ok, Err, refl, sym, subst, arith}
+use Rattle.std.proofs.Common.{◌≤◌, ℕ, List, [], ◌∷◌, ◌++◌, Option, Some, None, Result, Ok, Err, sym, subst, arith}
 use Rattle.std.specs.Prelude.{Bool, true, false, cond, IfOk, IfSome}
 use Rattle.std.specs.Ordering.{nat_cmp}
 use Rattle.std.specs.Cmp.Lexicographic.{slice_cmp}
@@ -12,21 +12,14 @@ use Rattle.apl_tokens.specs.declared.token.Token.{Token}
 use Rattle.apl_tokens.specs.declared.token.Lexeme.TheVariants as lexeme
 use Rattle.apl_tokens.specs.Constants.{IsLexemeInRange, HasConstantsInRange}
 use Rattle.apl_grammar.specs.declared.program.Form.{Form}
-use Rattle.apl_grammar.specs.declared.program.Form.TheVariants.{Plain, Reduce, Inner, Outer}
 use Rattle.apl_grammar.specs.Tree.{Expr, value, dyadic, monadic, assign, assign_at, Operand, constant, name, group, index, Slots, last, more, Slot, nothing, given, Axis, none, along, token_at, spells, spells_form, spells_operand, spells_list, spells_slot, spells_axis}
 use Rattle.apl_print.specs.declared.reports.Report.{Report}
-use Rattle.apl_print.specs.declared.reports.Report.TheVariants.{Syntax}
-use Rattle.apl_array.specs.declared.function.ScalarFunction.{ScalarFunction}
-use Rattle.apl_answer.specs.declared.fault.OpFault.{OpFault}
-use Rattle.apl_array.specs.Valences.{has_monadic, has_dyadic}
-use Rattle.apl_scalar.specs.Monadic.{monadic_answer}
-use Rattle.apl_scalar.specs.Dyadic.{dyadic_answer}
 use Rattle.apl_eval.specs.declared.statement.Shown.{Shown}
 use Rattle.apl_eval.specs.declared.statement.EvalStop.{EvalStop}
 use Rattle.apl_eval.specs.declared.statement.EvalStop.TheVariants.{Error, Memory}
 use Rattle.apl_eval.specs.Workspace.{WorkspaceValue, value_of, with_origin, with_width, assigned, opening_workspace}
-use Rattle.apl_eval.specs.Functions.{caret_column, scalar_function, reported, monadic_scalar, dyadic_scalar, monadic_result, dyadic_result}
-use Rattle.apl_eval.specs.Meaning.{Outcome, done, failed, then, found, judged, mean, mean_operand, mean_slots, mean_slot, mean_axis}
+use Rattle.apl_eval.specs.Functions.{caret_column, monadic_result, dyadic_result, index_result, assign_at_result}
+use Rattle.apl_eval.specs.Meaning.{Outcome, done, failed, then, outcome_at, name_result, assign_at_outcome_of, meaning_of, meaning_of_operand, meaning_of_slots, meaning_of_slot, meaning_of_axis}
 use Rattle.apl_eval.specs.Evaluates.{Evaluates}
 use Rattle.apl_eval.specs.Lawful.{IsLawful, LeavesLawful, IsLawfulOutcome}
 use Rattle.apl_eval.proofs.NameLemmas.{is_name, get-insert_name}
@@ -66,13 +59,18 @@ then_kept : {V U : Type 0} (P : V → Type 0) (Q : U → Type 0) (m : Outcome V)
 then_kept P Q (done v w) next (h, k) goes_on = goes_on v w h k
 then_kept P Q (failed report column w) next h goes_on = h
 
-found_kept : (o : Option ArrayValue) (column : ℕ) (w : WorkspaceValue) → IfSome o HasNumbersInRange → IsLawful w → IsLawfulOutcome (found o column w)
-found_kept (Some v) column w h k = (h, k)
-found_kept None column w h k = k
+outcome_kept : (column : ℕ) (r : Result ArrayValue Report) (w : WorkspaceValue) → IfOk r HasNumbersInRange → IsLawful w → IsLawfulOutcome (outcome_at column r w)
+outcome_kept column (Ok v) w h k = (h, k)
+outcome_kept column (Err report) w h k = k
 
-judged_kept : (r : Result ArrayValue Report) (column : ℕ) (w : WorkspaceValue) → IfOk r HasNumbersInRange → IsLawful w → IsLawfulOutcome (judged r column w)
-judged_kept (Ok v) column w h k = (h, k)
-judged_kept (Err report) column w h k = k
+name_kept : (o : Option ArrayValue) → IfSome o HasNumbersInRange → IfOk (name_result o) HasNumbersInRange
+name_kept (Some v) h = h
+name_kept None h = tt
+
+assign_at_kept : (r : Result ArrayValue Report) (column : ℕ) (text : List ℕ) (arrow : ℕ) (right : ArrayValue) (w : WorkspaceValue) → IfOk r HasNumbersInRange
+    → HasNumbersInRange right → IsLawful w → IsLawfulOutcome (assign_at_outcome_of r column text arrow right w)
+assign_at_kept (Ok changed) column text arrow right w h b k = (b, assigned_lawful text changed w h k)
+assign_at_kept (Err report) column text arrow right w h b k = k
 
 -- of values of which nothing is wanted
 abbrev Any : {V : Type 0} → V → Type 0
@@ -100,113 +98,87 @@ between l r ts h = front ts (r ∷ []) (next l (ts ++ r ∷ []) h)
 
 -- ---- functions
 
--- the answers of scalar functions keep to the range
-pub record AnswersLaw : Type 0 where
-  pub monadic : (f : ScalarFunction) (b answer : ArrayValue) → HasNumbersInRange b → monadic_answer f b ≡ Ok answer → HasNumbersInRange answer
-  pub dyadic : (f : ScalarFunction) (a b answer : ArrayValue) → HasNumbersInRange a → HasNumbersInRange b → dyadic_answer f a b ≡ Ok answer → HasNumbersInRange answer
+-- the results of functions of arrays whose numbers are in the range have their numbers in the range
+pub record ResultsInRange : Type 0 where
+  pub monadic : (origin : Origin) (f : Form) (axis : Option ArrayValue) (right : ArrayValue) → HasNumbersInRange right → IfOk (monadic_result origin f axis right) HasNumbersInRange
+  pub dyadic : (origin : Origin) (f : Form) (axis : Option ArrayValue) (left right : ArrayValue) → HasNumbersInRange left → HasNumbersInRange right
+      → IfOk (dyadic_result origin f axis left right) HasNumbersInRange
+  pub index : (origin : Origin) (array : ArrayValue) (slots : List (Option ArrayValue)) → HasNumbersInRange array → IfOk (index_result origin array slots) HasNumbersInRange
+  pub assign_at : (origin : Origin) (array : Option ArrayValue) (slots : List (Option ArrayValue)) (value : ArrayValue) → IfSome array HasNumbersInRange
+      → HasNumbersInRange value → IfOk (assign_at_result origin array slots value) HasNumbersInRange
 
-either_result : (b : Bool) (r s : Result ArrayValue Report) → IfOk r HasNumbersInRange → IfOk s HasNumbersInRange → IfOk (cond b r s) HasNumbersInRange
-either_result true r s h k = h
-either_result false r s h k = k
-
-reported_in : (r : Result ArrayValue OpFault) → ((answer : ArrayValue) → r ≡ Ok answer → HasNumbersInRange answer) → IfOk (reported r) HasNumbersInRange
-reported_in (Ok answer) h = h answer refl
-reported_in (Err fault) h = tt
-
-module _ (answers : AnswersLaw) where
-  monadic_scalar_in : (f : Option ScalarFunction) (b : ArrayValue) → HasNumbersInRange b → IfOk (monadic_scalar f b) HasNumbersInRange
-  monadic_scalar_in (Some f) b h =
-      either_result (has_monadic f) (reported (monadic_answer f b)) (Err Syntax) (reported_in (monadic_answer f b) (λ answer. answers.monadic f b answer h)) tt
-  monadic_scalar_in None b h = tt
-
-  dyadic_scalar_in : (f : Option ScalarFunction) (a b : ArrayValue) → HasNumbersInRange a → HasNumbersInRange b → IfOk (dyadic_scalar f a b) HasNumbersInRange
-  dyadic_scalar_in (Some f) a b h k =
-      either_result (has_dyadic f) (reported (dyadic_answer f a b)) (Err Syntax) (reported_in (dyadic_answer f a b) (λ answer. answers.dyadic f a b answer h k)) tt
-  dyadic_scalar_in None a b h k = tt
-
-  monadic_result_in : (f : Form) (axis : Option ArrayValue) (b : ArrayValue) → HasNumbersInRange b → IfOk (monadic_result f axis b) HasNumbersInRange
-  monadic_result_in (Plain column glyph) None b h = monadic_scalar_in (scalar_function glyph) b h
-  monadic_result_in (Plain column glyph) (Some axis) b h = tt
-  monadic_result_in (Reduce column function slash_column slash_glyph) axis b h = tt
-  monadic_result_in (Inner left_column left dot right_column right) axis b h = tt
-  monadic_result_in (Outer jot dot column function) axis b h = tt
-
-  dyadic_result_in : (f : Form) (axis : Option ArrayValue) (a b : ArrayValue) → HasNumbersInRange a → HasNumbersInRange b → IfOk (dyadic_result f axis a b) HasNumbersInRange
-  dyadic_result_in (Plain column glyph) None a b h k = dyadic_scalar_in (scalar_function glyph) a b h k
-  dyadic_result_in (Plain column glyph) (Some axis) a b h k = tt
-  dyadic_result_in (Reduce column function slash_column slash_glyph) axis a b h k = tt
-  dyadic_result_in (Inner left_column left dot right_column right) axis a b h k = tt
-  dyadic_result_in (Outer jot dot column function) axis a b h k = tt
-
+module _ (results : ResultsInRange) where
   -- ---- trees
 
   mutual
-    mean_kept : (e : Expr) (w : WorkspaceValue) → HasConstantsInRange (spells e) → IsLawful w → IsLawfulOutcome (mean e w)
-    mean_kept (value o) w h k = operand_kept o w h k
-    mean_kept (dyadic o f a e) w h k =
+    expression_kept : (e : Expr) (w : WorkspaceValue) → HasConstantsInRange (spells e) → IsLawful w → IsLawfulOutcome (meaning_of e w)
+    expression_kept (value o) w h k = operand_kept o w h k
+    expression_kept (dyadic o f a e) w h k =
         let behind_operand = behind (spells_operand o) (spells_form f ++ (spells_axis a ++ spells e)) h in
         let behind_form = behind (spells_form f) (spells_axis a ++ spells e) behind_operand in
-        then_kept HasNumbersInRange HasNumbersInRange (mean e w) _ (mean_kept e w (behind (spells_axis a) (spells e) behind_form) k)
-        (λ right u b lawful. then_kept Any HasNumbersInRange (mean_axis a u) _ (axis_kept a u (front (spells_axis a) (spells e) behind_form) lawful)
-        (λ axis v any lawful. then_kept HasNumbersInRange HasNumbersInRange (mean_operand o v) _
+        then_kept HasNumbersInRange HasNumbersInRange (meaning_of e w) _ (expression_kept e w (behind (spells_axis a) (spells e) behind_form) k)
+        (λ right u b lawful. then_kept Any HasNumbersInRange (meaning_of_axis a u) _ (axis_kept a u (front (spells_axis a) (spells e) behind_form) lawful)
+        (λ axis v any lawful. then_kept HasNumbersInRange HasNumbersInRange (meaning_of_operand o v) _
         (operand_kept o v (front (spells_operand o) (spells_form f ++ (spells_axis a ++ spells e)) h) lawful)
-        (λ left x a lawful. judged_kept (dyadic_result f axis left right) (caret_column f) x (dyadic_result_in f axis left right a b) lawful)))
-    mean_kept (monadic f a e) w h k =
+        (λ left x a lawful. outcome_kept (caret_column f) (dyadic_result x.origin f axis left right) x (results.dyadic x.origin f axis left right a b) lawful)))
+    expression_kept (monadic f a e) w h k =
         let behind_form = behind (spells_form f) (spells_axis a ++ spells e) h in
-        then_kept HasNumbersInRange HasNumbersInRange (mean e w) _ (mean_kept e w (behind (spells_axis a) (spells e) behind_form) k)
-        (λ right u b lawful. then_kept Any HasNumbersInRange (mean_axis a u) _ (axis_kept a u (front (spells_axis a) (spells e) behind_form) lawful)
-        (λ axis v any lawful. judged_kept (monadic_result f axis right) (caret_column f) v (monadic_result_in f axis right b) lawful))
-    mean_kept (assign c n r e) w h k =
+        then_kept HasNumbersInRange HasNumbersInRange (meaning_of e w) _ (expression_kept e w (behind (spells_axis a) (spells e) behind_form) k)
+        (λ right u b lawful. then_kept Any HasNumbersInRange (meaning_of_axis a u) _ (axis_kept a u (front (spells_axis a) (spells e) behind_form) lawful)
+        (λ axis v any lawful. outcome_kept (caret_column f) (monadic_result v.origin f axis right) v (results.monadic v.origin f axis right b) lawful))
+    expression_kept (assign c n r e) w h k =
         let arrow = token_at r lexeme.Arrow in
         let behind_arrow = next arrow (spells e) (next (token_at c (lexeme.Name n)) (arrow ∷ spells e) h) in
-        then_kept HasNumbersInRange HasNumbersInRange (mean e w) _ (mean_kept e w behind_arrow k)
+        then_kept HasNumbersInRange HasNumbersInRange (meaning_of e w) _ (expression_kept e w behind_arrow k)
         (λ right u b lawful. (b, assigned_lawful n right u b lawful))
-    mean_kept (assign_at c n l s r a e) w h k =
+    expression_kept (assign_at c n l s r a e) w h k =
         let arrow = token_at a lexeme.Arrow in
         let right_bracket = token_at r lexeme.CloseBracket in
         let left_bracket = token_at l lexeme.OpenBracket in
         let behind_list : List Token = right_bracket ∷ arrow ∷ spells e in
         let inside = next left_bracket (spells_list s ++ behind_list) (next (token_at c (lexeme.Name n)) (left_bracket ∷ spells_list s ++ behind_list) h) in
         let behind_arrow = next arrow (spells e) (next right_bracket (arrow ∷ spells e) (behind (spells_list s) behind_list inside)) in
-        then_kept HasNumbersInRange HasNumbersInRange (mean e w) _ (mean_kept e w behind_arrow k)
-        (λ right u b lawful. then_kept Any HasNumbersInRange (mean_slots s u) _ (slots_kept s u (front (spells_list s) behind_list inside) lawful)
-        (λ slots v any lawful. lawful))
+        then_kept HasNumbersInRange HasNumbersInRange (meaning_of e w) _ (expression_kept e w behind_arrow k)
+        (λ right u b lawful. then_kept Any HasNumbersInRange (meaning_of_slots s u) _ (slots_kept s u (front (spells_list s) behind_list inside) lawful)
+        (λ slots v any lawful.
+        let array = value_of n v in
+        assign_at_kept (assign_at_result v.origin array slots right) c n a right v (results.assign_at v.origin array slots right (lawful.values n) b) b lawful))
 
-    operand_kept : (o : Operand) (w : WorkspaceValue) → HasConstantsInRange (spells_operand o) → IsLawful w → IsLawfulOutcome (mean_operand o w)
+    operand_kept : (o : Operand) (w : WorkspaceValue) → HasConstantsInRange (spells_operand o) → IsLawful w → IsLawfulOutcome (meaning_of_operand o w)
     operand_kept (constant column v) w h k = (All-head InRange (token_at column (lexeme.Constant v)) [] h, k)
-    operand_kept (name column text) w h k = found_kept (value_of text w) column w (k.values text) k
-    operand_kept (group l e r) w h k = mean_kept e w (between (token_at l lexeme.OpenParen) (token_at r lexeme.CloseParen) (spells e) h) k
+    operand_kept (name column text) w h k = outcome_kept column (name_result (value_of text w)) w (name_kept (value_of text w) (k.values text)) k
+    operand_kept (group l e r) w h k = expression_kept e w (between (token_at l lexeme.OpenParen) (token_at r lexeme.CloseParen) (spells e) h) k
     operand_kept (index o l s r) w h k =
         let left_bracket = token_at l lexeme.OpenBracket in
         let right_bracket = token_at r lexeme.CloseBracket in
         let list : List Token = left_bracket ∷ (spells_list s ++ right_bracket ∷ []) in
-        then_kept Any HasNumbersInRange (mean_slots s w) _
+        then_kept Any HasNumbersInRange (meaning_of_slots s w) _
         (slots_kept s w (between left_bracket right_bracket (spells_list s) (behind (spells_operand o) list h)) k)
-        (λ slots u any lawful. then_kept HasNumbersInRange HasNumbersInRange (mean_operand o u) _ (operand_kept o u (front (spells_operand o) list h) lawful)
-        (λ array v a lawful. lawful))
+        (λ slots u any lawful. then_kept HasNumbersInRange HasNumbersInRange (meaning_of_operand o u) _ (operand_kept o u (front (spells_operand o) list h) lawful)
+        (λ array v a lawful. outcome_kept l (index_result v.origin array slots) v (results.index v.origin array slots a) lawful))
 
-    slots_kept : (s : Slots) (w : WorkspaceValue) → HasConstantsInRange (spells_list s) → IsLawful w → LeavesLawful Any (mean_slots s w)
-    slots_kept (last s) w h k = then_kept Any Any (mean_slot s w) _ (slot_kept s w h k) (λ slot u any lawful. (tt, lawful))
+    slots_kept : (s : Slots) (w : WorkspaceValue) → HasConstantsInRange (spells_list s) → IsLawful w → LeavesLawful Any (meaning_of_slots s w)
+    slots_kept (last s) w h k = then_kept Any Any (meaning_of_slot s w) _ (slot_kept s w h k) (λ slot u any lawful. (tt, lawful))
     slots_kept (more s c ss) w h k =
         let semicolon = token_at c lexeme.Semicolon in
         let others = next semicolon (spells_list ss) (behind (spells_slot s) (semicolon ∷ spells_list ss) h) in
-        then_kept Any Any (mean_slots ss w) _ (slots_kept ss w others k)
-        (λ slots u any lawful. then_kept Any Any (mean_slot s u) _ (slot_kept s u (front (spells_slot s) (semicolon ∷ spells_list ss) h) lawful)
+        then_kept Any Any (meaning_of_slots ss w) _ (slots_kept ss w others k)
+        (λ slots u any lawful. then_kept Any Any (meaning_of_slot s u) _ (slot_kept s u (front (spells_slot s) (semicolon ∷ spells_list ss) h) lawful)
         (λ slot v any lawful. (tt, lawful)))
 
-    slot_kept : (s : Slot) (w : WorkspaceValue) → HasConstantsInRange (spells_slot s) → IsLawful w → LeavesLawful Any (mean_slot s w)
+    slot_kept : (s : Slot) (w : WorkspaceValue) → HasConstantsInRange (spells_slot s) → IsLawful w → LeavesLawful Any (meaning_of_slot s w)
     slot_kept nothing w h k = (tt, k)
-    slot_kept (given e) w h k = then_kept HasNumbersInRange Any (mean e w) _ (mean_kept e w h k) (λ v u b lawful. (tt, lawful))
+    slot_kept (given e) w h k = then_kept HasNumbersInRange Any (meaning_of e w) _ (expression_kept e w h k) (λ v u b lawful. (tt, lawful))
 
-    axis_kept : (a : Axis) (w : WorkspaceValue) → HasConstantsInRange (spells_axis a) → IsLawful w → LeavesLawful Any (mean_axis a w)
+    axis_kept : (a : Axis) (w : WorkspaceValue) → HasConstantsInRange (spells_axis a) → IsLawful w → LeavesLawful Any (meaning_of_axis a w)
     axis_kept none w h k = (tt, k)
     axis_kept (along l e r) w h k =
-        then_kept HasNumbersInRange Any (mean e w) _
-        (mean_kept e w (between (token_at l lexeme.OpenBracket) (token_at r lexeme.CloseBracket) (spells e) h) k)
+        then_kept HasNumbersInRange Any (meaning_of e w) _
+        (expression_kept e w (between (token_at l lexeme.OpenBracket) (token_at r lexeme.CloseBracket) (spells e) h) k)
         (λ v u b lawful. (tt, lawful))
 
-  pub outcome_lawful : (tree : Expr) (w : WorkspaceValue) → HasConstantsInRange (spells tree) → IsLawful w → IsLawfulOutcome (mean tree w)
-  outcome_lawful = mean_kept
+  pub outcome_lawful : (tree : Expr) (w : WorkspaceValue) → HasConstantsInRange (spells tree) → IsLawful w → IsLawfulOutcome (meaning_of tree w)
+  outcome_lawful = expression_kept
 
   pub evaluated_lawful : (tree : Expr) (old new : WorkspaceValue) (result : Result Shown EvalStop) → HasConstantsInRange (spells tree) → IsLawful old
       → Evaluates tree old new result → IsLawful new

@@ -1,5 +1,6 @@
 pub mod NameLemmas
-pub mod StepLemmas
 pub mod StackLemmas
+pub mod StepLemmas
 pub mod Endings
 pub mod LawfulLemmas
+pub mod RangeLemmas

@@ -1,18 +1,15 @@
 -- The operations of a tree, carried out one after another, come to the tree's meaning.
-use Rattle.std.proofs.Common.{◌≡◌, ◌≢◌, ◌+◌, ◌<◌, ◌≤◌, ℕ, List, [], ◌∷◌, ◌++◌, length, drop, get_or, refl, sym, ◌∙◌, ap, subst, append_assoc, drop-cons, add-one, Option, Some, None, Err}
-use Rattle.std.proofs.lemmas.List.{append-nil, drop_all}
+use Rattle.std.proofs.Common.{◌≡◌, ◌≢◌, ◌+◌, ◌<◌, ◌≤◌, ℕ, List, [], ◌∷◌, ◌++◌, length, drop, get_or, refl, sym, ◌∙◌, ap, subst, append_assoc, drop-cons, add-one, Option, Some, None, Err, arith}
+use Rattle.std.proofs.lemmas.List.{append-nil, drop_all, length-append}
 use Rattle.apl_array.specs.Array.{ArrayValue}
 use Rattle.apl_grammar.specs.declared.program.Operation.{Operation}
 use Rattle.apl_grammar.specs.declared.program.Operation.TheVariants as op
-use Rattle.apl_grammar.specs.declared.program.Form.{Form}
-use Rattle.apl_grammar.specs.declared.program.Form.TheVariants.{Plain, Reduce, Inner, Outer}
 use Rattle.apl_grammar.specs.Tree.{Expr, value, dyadic, monadic, assign, assign_at, Operand, constant, name, group, index, Slots, last, more, Slot, nothing, given, none, along, brackets, indexed_name, semicolons, operations, operand_operations, list_operations, slot_operations, IsProgram}
 use Rattle.apl_print.specs.declared.reports.Report.{Report}
-use Rattle.apl_print.specs.declared.reports.Report.TheVariants.{Syntax}
 use Rattle.apl_eval.specs.Workspace.{WorkspaceValue}
-use Rattle.apl_eval.specs.Functions.{caret_column, monadic_result, dyadic_result}
-use Rattle.apl_eval.specs.Meaning.{Outcome, done, failed, then, judged, mean, mean_operand, mean_slots, mean_slot}
-use Rattle.apl_eval.specs.Steps.{Item, State, HasValue, leaves, waiting, ended, stuck, onto, step, go_on, steps, IsOutcome, IsState}
+use Rattle.apl_eval.specs.Meaning.{Outcome, Evaluation, done, failed, then, index_outcome, assign_at_outcome, meaning_of, meaning_of_operand, meaning_of_slots, meaning_of_slot}
+use Rattle.apl_eval.specs.Steps.{Item, State, HasValue, leaves, waiting, ended, stuck, onto, with_value, step, go_on, steps, IsOutcome, IsState}
+use Rattle.apl_eval.proofs.StackLemmas.{with_slots-above}
 use Rattle.apl_eval.specs.declared.statement.EvalStop.{EvalStop}
 use Rattle.apl_eval.specs.declared.statement.EvalStop.TheVariants.{Error, Memory}
 
@@ -29,62 +26,84 @@ after_axis : {U : Type 0} (m : Outcome ArrayValue) (before : ArrayValue → List
 after_axis (done v u) before behind next here there h = h v u
 after_axis (failed report column u) before behind next here there h = refl
 
-dyadic_along : (f : Form) (x l r : ArrayValue) → dyadic_result f (Some x) l r ≡ Err Syntax
-dyadic_along (Plain column glyph) x l r = refl
-dyadic_along (Reduce column function slash_column slash_glyph) x l r = refl
-dyadic_along (Inner left_column left dot right_column right) x l r = refl
-dyadic_along (Outer jot dot column function) x l r = refl
+-- Of a list there are as many slots as semicolons, and one more.
+abbrev IsSlotCount : Slots → Outcome (List Item) → Type 0
+IsSlotCount s (done slots w) = length slots ≡ length (semicolons s) + 1
+IsSlotCount s (failed report column w) = Unit {0}
 
-monadic_along : (f : Form) (x b : ArrayValue) → monadic_result f (Some x) b ≡ Err Syntax
-monadic_along (Plain column glyph) x b = refl
-monadic_along (Reduce column function slash_column slash_glyph) x b = refl
-monadic_along (Inner left_column left dot right_column right) x b = refl
-monadic_along (Outer jot dot column function) x b = refl
+one_slot : (s : Slot) (m : Outcome Item) → IsSlotCount (last s) (then m (λ slot u. done (slot ∷ []) u))
+one_slot s (done slot u) = refl
+one_slot s (failed report column u) = tt
+
+one_more_slot : (s : Slot) (c : ℕ) (ss : Slots) (slots : List Item) (m : Outcome Item) → length slots ≡ length (semicolons ss) + 1
+    → IsSlotCount (more s c ss) (then m (λ slot v. done (slot ∷ slots) v))
+one_more_slot s c ss slots (done slot v) count = omega (arith, length-append (semicolons ss) (c ∷ []))
+one_more_slot s c ss slots (failed report column v) count = tt
+
+more_slots : (s : Slot) (c : ℕ) (ss : Slots) (m : Outcome (List Item)) → IsSlotCount ss m
+    → IsSlotCount (more s c ss) (then m (λ slots u. then (meaning_of_slot s u) (λ slot v. done (slot ∷ slots) v)))
+more_slots s c ss (done slots u) count = one_more_slot s c ss slots (meaning_of_slot s u) count
+more_slots s c ss (failed report column u) count = tt
+
+slot_count : (s : Slots) (w : WorkspaceValue) → IsSlotCount s (meaning_of_slots s w)
+slot_count (last s) w = one_slot s (meaning_of_slot s w)
+slot_count (more s c ss) w = more_slots s c ss (meaning_of_slots ss w) (slot_count ss w)
+
+-- The slots are taken from the stack.
+after_slots : {U : Type 0} (s : Slots) (m : Outcome (List Item)) → IsSlotCount s m → (below : List Item) (behind : U → List Item) (next : List Item → Evaluation U) (here there : List Item → WorkspaceValue → State)
+    → ((slots : List Item) (u : WorkspaceValue) → length slots ≡ length (semicolons s) + 1 → here (slots ++ below) u ≡ go_on (leaves behind (next slots u)) there)
+    → go_on (leaves (λ slots. slots ++ below) m) here ≡ go_on (leaves behind (then m next)) there
+after_slots s (done slots u) count below behind next here there h = h slots u count
+after_slots s (failed report column u) count below behind next here there h = refl
 
 mutual
-  steps-operations : (e : Expr) (rest : List Operation) (below : List Item) (w : WorkspaceValue) → steps (operations e ++ rest) below w ≡ go_on (onto below (mean e w)) (steps rest)
+  steps-operations : (e : Expr) (rest : List Operation) (below : List Item) (w : WorkspaceValue) → steps (operations e ++ rest) below w ≡ go_on (onto below (meaning_of e w)) (steps rest)
   steps-operations (value o) rest below w = steps-operand o rest below w
   steps-operations (dyadic o f none e) rest below w =
       let last_one : Operation = op.Dyadic f None in
       let regrouped : (operations e ++ (operand_operations o ++ last_one ∷ [])) ++ rest ≡ operations e ++ (operand_operations o ++ last_one ∷ rest) = simp append_assoc in
       ap (λ os. steps os below w) regrouped
       ∙ steps-operations e (operand_operations o ++ last_one ∷ rest) below w
-      ∙ after (mean e w) _ _ _ _ _ (λ b u. steps-operand o (last_one ∷ rest) (Some b ∷ below) u ∙ after (mean_operand o u) _ _ _ _ _ (λ a x. refl))
+      ∙ after (meaning_of e w) _ _ _ _ _ (λ b u. steps-operand o (last_one ∷ rest) (Some b ∷ below) u ∙ after (meaning_of_operand o u) _ _ _ _ _ (λ a x. refl))
   steps-operations (dyadic o f (along l x r) e) rest below w =
       let last_one : Operation = op.Dyadic f (Some (brackets l r)) in
       let regrouped : (operations e ++ (operations x ++ (operand_operations o ++ last_one ∷ []))) ++ rest ≡ operations e ++ (operations x ++ (operand_operations o ++ last_one ∷ rest)) = simp append_assoc in
       ap (λ os. steps os below w) regrouped
       ∙ steps-operations e (operations x ++ (operand_operations o ++ last_one ∷ rest)) below w
-      ∙ after (mean e w) _ _ _ _ _ (λ b u.
+      ∙ after (meaning_of e w) _ _ _ _ _ (λ b u.
       steps-operations x (operand_operations o ++ last_one ∷ rest) (Some b ∷ below) u
-      ∙ after_axis (mean x u) _ _ _ _ _ (λ v t.
+      ∙ after_axis (meaning_of x u) _ _ _ _ _ (λ v t.
       steps-operand o (last_one ∷ rest) (Some v ∷ Some b ∷ below) t
-      ∙ after (mean_operand o t) _ _ _ _ _ (λ a s. ap (λ m. go_on (onto below (judged m (caret_column f) s)) (steps rest)) (sym (dyadic_along f v a b)))))
+      ∙ after (meaning_of_operand o t) _ _ _ _ _ (λ a s. refl)))
   steps-operations (monadic f none e) rest below w =
       let last_one : Operation = op.Monadic f None in
       ap (λ os. steps os below w) (append_assoc (operations e) (last_one ∷ []) rest)
       ∙ steps-operations e (last_one ∷ rest) below w
-      ∙ after (mean e w) _ _ _ _ _ (λ b u. refl)
+      ∙ after (meaning_of e w) _ _ _ _ _ (λ b u. refl)
   steps-operations (monadic f (along l x r) e) rest below w =
       let last_one : Operation = op.Monadic f (Some (brackets l r)) in
       let regrouped : (operations e ++ (operations x ++ last_one ∷ [])) ++ rest ≡ operations e ++ (operations x ++ last_one ∷ rest) = simp append_assoc in
       ap (λ os. steps os below w) regrouped
       ∙ steps-operations e (operations x ++ last_one ∷ rest) below w
-      ∙ after (mean e w) _ _ _ _ _ (λ b u.
+      ∙ after (meaning_of e w) _ _ _ _ _ (λ b u.
       steps-operations x (last_one ∷ rest) (Some b ∷ below) u
-      ∙ after_axis (mean x u) _ _ _ _ _ (λ v t. ap (λ m. go_on (onto below (judged m (caret_column f) t)) (steps rest)) (sym (monadic_along f v b))))
+      ∙ after_axis (meaning_of x u) _ _ _ _ _ (λ v t. refl))
   steps-operations (assign c n r e) rest below w =
       ap (λ os. steps os below w) (append_assoc (operations e) (op.Assign c n r ∷ []) rest)
       ∙ steps-operations e (op.Assign c n r ∷ rest) below w
-      ∙ after (mean e w) _ _ _ _ _ (λ b u. refl)
+      ∙ after (meaning_of e w) _ _ _ _ _ (λ b u. refl)
   steps-operations (assign_at c n l s r a e) rest below w =
       let last_one : Operation = op.AssignAt (indexed_name c n (semicolons s) (brackets l r) a) in
       let regrouped : (operations e ++ (list_operations s ++ last_one ∷ [])) ++ rest ≡ operations e ++ (list_operations s ++ last_one ∷ rest) = simp append_assoc in
       ap (λ os. steps os below w) regrouped
       ∙ steps-operations e (list_operations s ++ last_one ∷ rest) below w
-      ∙ after (mean e w) _ _ _ _ _ (λ b u. steps-slots s (last_one ∷ rest) (Some b ∷ below) u ∙ after (mean_slots s u) _ _ _ _ _ (λ xs v. refl))
+      ∙ after (meaning_of e w) _ _ _ _ _ (λ b u.
+      steps-slots s (last_one ∷ rest) (Some b ∷ below) u
+      ∙ after_slots s (meaning_of_slots s u) (slot_count s u) (Some b ∷ below) _ _ _ _ (λ slots v count. ap (λ state. go_on state (steps rest))
+      (with_slots-above (length (semicolons s) + 1) slots (Some b ∷ below)
+      (λ slots items. with_value items (λ right below. onto below (assign_at_outcome c n a slots right v))) count)))
 
-  steps-operand : (o : Operand) (rest : List Operation) (below : List Item) (w : WorkspaceValue) → steps (operand_operations o ++ rest) below w ≡ go_on (onto below (mean_operand o w)) (steps rest)
+  steps-operand : (o : Operand) (rest : List Operation) (below : List Item) (w : WorkspaceValue) → steps (operand_operations o ++ rest) below w ≡ go_on (onto below (meaning_of_operand o w)) (steps rest)
   steps-operand (constant c v) rest below w = refl
   steps-operand (name c n) rest below w = refl
   steps-operand (group l e r) rest below w =
@@ -95,27 +114,30 @@ mutual
       let regrouped : (list_operations s ++ (operand_operations o ++ last_one ∷ [])) ++ rest ≡ list_operations s ++ (operand_operations o ++ last_one ∷ rest) = simp append_assoc in
       ap (λ os. steps os below w) regrouped
       ∙ steps-slots s (operand_operations o ++ last_one ∷ rest) below w
-      ∙ after (mean_slots s w) _ _ _ _ _ (λ xs u. steps-operand o (last_one ∷ rest) (xs ++ below) u ∙ after (mean_operand o u) _ _ _ _ _ (λ a v. refl))
+      ∙ after_slots s (meaning_of_slots s w) (slot_count s w) below _ _ _ _ (λ slots u count.
+      steps-operand o (last_one ∷ rest) (slots ++ below) u
+      ∙ after (meaning_of_operand o u) _ _ _ _ _ (λ a v. ap (λ state. go_on state (steps rest))
+      (with_slots-above (length (semicolons s) + 1) slots below (λ slots below. onto below (index_outcome l a slots v)) count)))
 
   -- the first slot is on top
-  steps-slots : (s : Slots) (rest : List Operation) (below : List Item) (w : WorkspaceValue) → steps (list_operations s ++ rest) below w ≡ go_on (leaves (λ xs. xs ++ below) (mean_slots s w)) (steps rest)
-  steps-slots (last s) rest below w = steps-slot s rest below w ∙ after (mean_slot s w) _ _ _ _ _ (λ x u. refl)
+  steps-slots : (s : Slots) (rest : List Operation) (below : List Item) (w : WorkspaceValue) → steps (list_operations s ++ rest) below w ≡ go_on (leaves (λ xs. xs ++ below) (meaning_of_slots s w)) (steps rest)
+  steps-slots (last s) rest below w = steps-slot s rest below w ∙ after (meaning_of_slot s w) _ _ _ _ _ (λ x u. refl)
   steps-slots (more s c ss) rest below w =
       ap (λ os. steps os below w) (append_assoc (list_operations ss) (slot_operations s) rest)
       ∙ steps-slots ss (slot_operations s ++ rest) below w
-      ∙ after (mean_slots ss w) _ _ _ _ _ (λ xs u. steps-slot s rest (xs ++ below) u ∙ after (mean_slot s u) _ _ _ _ _ (λ x v. refl))
+      ∙ after (meaning_of_slots ss w) _ _ _ _ _ (λ xs u. steps-slot s rest (xs ++ below) u ∙ after (meaning_of_slot s u) _ _ _ _ _ (λ x v. refl))
 
-  steps-slot : (s : Slot) (rest : List Operation) (below : List Item) (w : WorkspaceValue) → steps (slot_operations s ++ rest) below w ≡ go_on (leaves (λ x. x ∷ below) (mean_slot s w)) (steps rest)
+  steps-slot : (s : Slot) (rest : List Operation) (below : List Item) (w : WorkspaceValue) → steps (slot_operations s ++ rest) below w ≡ go_on (leaves (λ x. x ∷ below) (meaning_of_slot s w)) (steps rest)
   steps-slot nothing rest below w = refl
-  steps-slot (given e) rest below w = steps-operations e rest below w ∙ after (mean e w) _ _ _ _ _ (λ v u. refl)
+  steps-slot (given e) rest below w = steps-operations e rest below w ∙ after (meaning_of e w) _ _ _ _ _ (λ v u. refl)
 
 onto-nothing : (m : Outcome ArrayValue) → go_on (onto [] m) (steps []) ≡ onto [] m
 onto-nothing (done v w) = refl
 onto-nothing (failed report c w) = refl
 
 -- all operations of a tree
-pub steps-program : (e : Expr) (w : WorkspaceValue) → steps (operations e) [] w ≡ onto [] (mean e w)
-steps-program e w = ap (λ os. steps os [] w) (sym (append-nil (operations e))) ∙ steps-operations e [] [] w ∙ onto-nothing (mean e w)
+pub steps-program : (e : Expr) (w : WorkspaceValue) → steps (operations e) [] w ≡ onto [] (meaning_of e w)
+steps-program e w = ap (λ os. steps os [] w) (sym (append-nil (operations e))) ∙ steps-operations e [] [] w ∙ onto-nothing (meaning_of e w)
 
 not_stuck : (m : Outcome ArrayValue) → onto [] m ≢ stuck
 not_stuck (done v w) e = absurd cc
@@ -143,28 +165,28 @@ module _ (ops : List Operation) (start : WorkspaceValue) (place : ℕ) (values :
 
   pub is_possible : IsProgram ops → place < length ops → o ≡ get_or ops place o → ComesTo ops start place values w → step o values w ≢ stuck
   is_possible program inside is h e =
-      let whole : steps ops [] start ≡ onto [] (mean program.0 start) = ap (λ os. steps os [] start) (sym program.2) ∙ steps-program program.0 start in
-      not_stuck (mean program.0 start) (sym whole ∙ sym h.left ∙ here inside is ∙ ap (λ s. go_on s (steps (drop (place + 1) ops))) e)
+      let whole : steps ops [] start ≡ onto [] (meaning_of program.0 start) = ap (λ os. steps os [] start) (sym program.2) ∙ steps-program program.0 start in
+      not_stuck (meaning_of program.0 start) (sym whole ∙ sym h.left ∙ here inside is ∙ ap (λ s. go_on s (steps (drop (place + 1) ops))) e)
 
   pub ComesTo-more : place < length ops → o ≡ get_or ops place o → ComesTo ops start place values w → (next : List Item) (u : WorkspaceValue) → step o values w ≡ waiting next u → ComesTo ops start (place + 1) next u
   ComesTo-more inside is h next u e = record { left = sym (ap (λ s. go_on s (steps (drop (place + 1) ops))) e) ∙ sym (here inside is) ∙ h.left }
 
-  pub ends_with : (e : Expr) → operations e ≡ ops → place < length ops → o ≡ get_or ops place o → ComesTo ops start place values w → (report : Report) (c : ℕ) (u : WorkspaceValue) → step o values w ≡ ended report c u → mean e start ≡ failed report c u
+  pub ends_with : (e : Expr) → operations e ≡ ops → place < length ops → o ≡ get_or ops place o → ComesTo ops start place values w → (report : Report) (c : ℕ) (u : WorkspaceValue) → step o values w ≡ ended report c u → meaning_of e start ≡ failed report c u
   ends_with e program inside is h report c u fault =
-      fails (mean e start) report c u
+      fails (meaning_of e start) report c u
       (sym (ap (λ os. steps os [] start) (sym program) ∙ steps-program e start) ∙ sym h.left ∙ here inside is ∙ ap (λ s. go_on s (steps (drop (place + 1) ops))) fault)
 
-  pub stops_with : (T Z : Type 0) (e : Expr) → operations e ≡ ops → place < length ops → o ≡ get_or ops place o → ComesTo ops start place values w → (next : List Item) (u : WorkspaceValue) (stop : EvalStop) → IsState {T = T} (step o values w) next u (Err stop) → IsOutcome {Z = Z} (mean e start) u (Err stop)
+  pub stops_with : (T Z : Type 0) (e : Expr) → operations e ≡ ops → place < length ops → o ≡ get_or ops place o → ComesTo ops start place values w → (next : List Item) (u : WorkspaceValue) (stop : EvalStop) → IsState {T = T} (step o values w) next u (Err stop) → IsOutcome {Z = Z} (meaning_of e start) u (Err stop)
   stops_with T Z e program inside is h next u Memory fault = tt
   stops_with T Z e program inside is h next u (Error report column) fault = ends_with e program inside is h report column u fault
 
 module _ (ops : List Operation) (start : WorkspaceValue) (place : ℕ) (values : List Item) (w : WorkspaceValue) where
-  at_end : length ops ≤ place → ComesTo ops start place values w → (e : Expr) → operations e ≡ ops → onto [] (mean e start) ≡ waiting values w
+  at_end : length ops ≤ place → ComesTo ops start place values w → (e : Expr) → operations e ≡ ops → onto [] (meaning_of e start) ≡ waiting values w
   at_end past h e program =
       sym (steps-program e start) ∙ ap (λ os. steps os [] start) program ∙ sym h.left ∙ ap (λ os. steps os values w) (drop_all place ops past)
 
   pub one_left : length ops ≤ place → ComesTo ops start place values w → IsProgram ops → HasValue values
-  one_left past h program = has_value (mean program.0 start) values w (at_end past h program.0 program.2)
+  one_left past h program = has_value (meaning_of program.0 start) values w (at_end past h program.0 program.2)
 
-  pub means : length ops ≤ place → ComesTo ops start place values w → (e : Expr) → operations e ≡ ops → (v : ArrayValue) (below : List Item) → values ≡ Some v ∷ below → mean e start ≡ done v w
-  means past h e program v below is = only (mean e start) v below w (at_end past h e program ∙ ap (λ vs. waiting vs w) is)
+  pub means : length ops ≤ place → ComesTo ops start place values w → (e : Expr) → operations e ≡ ops → (v : ArrayValue) (below : List Item) → values ≡ Some v ∷ below → meaning_of e start ≡ done v w
+  means past h e program v below is = only (meaning_of e start) v below w (at_end past h e program ∙ ap (λ vs. waiting vs w) is)

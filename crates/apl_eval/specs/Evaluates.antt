@@ -8,7 +8,7 @@ use Rattle.apl_eval.specs.declared.statement.Shown.TheVariants.{Silent, Text}
 use Rattle.apl_eval.specs.declared.statement.EvalStop.{EvalStop}
 use Rattle.apl_eval.specs.declared.statement.EvalStop.TheVariants.{Error, Memory}
 use Rattle.apl_eval.specs.Workspace.{WorkspaceValue}
-use Rattle.apl_eval.specs.Meaning.{done, failed, mean, is_assignment}
+use Rattle.apl_eval.specs.Meaning.{done, failed, meaning_of, is_assignment}
 
 -- the bytes are the printed text of a value on lines of this width
 abbrev pub IsPrinted : ArrayValue → ℕ → List ℕ → Type 0
@@ -22,6 +22,6 @@ IsShownAs tree v width (Text text) = (is_assignment tree ≡ false) × IsPrinted
 -- The result of a statement between the workspace before it and the one behind it: its value is shown, at the width of the
 -- workspace behind it, or its report is the answer. After want of memory the workspace is as it was.
 abbrev pub Evaluates : Expr → WorkspaceValue → WorkspaceValue → Result Shown EvalStop → Type 0
-Evaluates tree old new (Ok shown) = (v : ArrayValue) × (mean tree old ≡ done v new) × IsShownAs tree v new.width shown
-Evaluates tree old new (Err (Error report column)) = mean tree old ≡ failed report column new
+Evaluates tree old new (Ok shown) = (v : ArrayValue) × (meaning_of tree old ≡ done v new) × IsShownAs tree v new.width shown
+Evaluates tree old new (Err (Error report column)) = meaning_of tree old ≡ failed report column new
 Evaluates tree old new (Err Memory) = new ≡ old

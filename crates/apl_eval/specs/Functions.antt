@@ -1,5 +1,6 @@
--- Functions in all their forms: where their faults are shown, and their results.
-use Rattle.std.specs.Prelude.{ℕ, Option, Some, None, Result, Ok, Err, if◌then◌else◌}
+-- Functions of arrays: where their faults are shown, and their results.
+use Rattle.std.specs.Prelude.{ℕ, List, Option, Some, None, Result, Ok, Err, if◌then◌else◌}
+use Rattle.apl_array.specs.declared.axis.Origin.{Origin}
 use Rattle.apl_array.specs.Array.{ArrayValue}
 use Rattle.apl_array.specs.declared.function.ScalarFunction.{ScalarFunction}
 use Rattle.apl_array.specs.Valences.{has_monadic, has_dyadic}
@@ -35,25 +36,33 @@ report_of fault.Domain = report.Domain
 report_of fault.Limit = report.Limit
 report_of fault.Memory = report.WsFull
 
-abbrev pub reported : Result ArrayValue OpFault → Result ArrayValue Report
-reported (Ok array) = Ok array
-reported (Err fault) = Err (report_of fault)
+abbrev pub result_of : (answer : Result ArrayValue OpFault) → Result ArrayValue Report
+result_of (Ok array) = Ok array
+result_of (Err fault) = Err (report_of fault)
 
 -- a scalar function of one argument, and of two; where it isn't a function of so many it is Syntax
-abbrev pub monadic_scalar : Option ScalarFunction → (argument : ArrayValue) → Result ArrayValue Report
-monadic_scalar (Some f) argument = if has_monadic f then reported (monadic_answer f argument) else Err report.Syntax
-monadic_scalar None argument = Err report.Syntax
+abbrev pub monadic_scalar : Option ScalarFunction → (right : ArrayValue) → Result ArrayValue Report
+monadic_scalar (Some f) right = if has_monadic f then result_of (monadic_answer f right) else Err report.Syntax
+monadic_scalar None right = Err report.Syntax
 
 abbrev pub dyadic_scalar : Option ScalarFunction → (left right : ArrayValue) → Result ArrayValue Report
-dyadic_scalar (Some f) left right = if has_dyadic f then reported (dyadic_answer f left right) else Err report.Syntax
+dyadic_scalar (Some f) left right = if has_dyadic f then result_of (dyadic_answer f left right) else Err report.Syntax
 dyadic_scalar None left right = Err report.Syntax
 
--- of one argument, perhaps along an axis; forms that are not built so far are Syntax
-abbrev pub monadic_result : Form → Option ArrayValue → (argument : ArrayValue) → Result ArrayValue Report
-monadic_result (Plain column glyph) None argument = monadic_scalar (scalar_function glyph) argument
-monadic_result _ _ argument = Err report.Syntax
+-- Of one argument, perhaps along an axis. What is not built so far is Syntax, here and below.
+unfoldable pub monadic_result : Origin → Form → (axis : Option ArrayValue) → (right : ArrayValue) → Result ArrayValue Report
+monadic_result origin (Plain column glyph) None right = monadic_scalar (scalar_function glyph) right
+monadic_result origin _ axis right = Err report.Syntax
 
--- of two arguments, perhaps along an axis; forms that are not built so far are Syntax
-abbrev pub dyadic_result : Form → Option ArrayValue → (left right : ArrayValue) → Result ArrayValue Report
-dyadic_result (Plain column glyph) None left right = dyadic_scalar (scalar_function glyph) left right
-dyadic_result _ _ left right = Err report.Syntax
+-- of two arguments, perhaps along an axis
+unfoldable pub dyadic_result : Origin → Form → (axis : Option ArrayValue) → (left right : ArrayValue) → Result ArrayValue Report
+dyadic_result origin (Plain column glyph) None left right = dyadic_scalar (scalar_function glyph) left right
+dyadic_result origin _ axis left right = Err report.Syntax
+
+-- the elements of an array that the slots choose, of which an empty one chooses all
+unfoldable pub index_result : Origin → (array : ArrayValue) → (slots : List (Option ArrayValue)) → Result ArrayValue Report
+index_result origin array slots = Err report.Syntax
+
+-- a name's array, if it has one, with the value in the place of the elements that the slots choose
+unfoldable pub assign_at_result : Origin → (array : Option ArrayValue) → (slots : List (Option ArrayValue)) → (value : ArrayValue) → Result ArrayValue Report
+assign_at_result origin array slots value = Err report.Syntax

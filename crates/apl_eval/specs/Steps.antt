@@ -1,14 +1,13 @@
 -- Operations carried out one after another on a stack, the last item first. No contract of a public function cites this file.
-use Rattle.std.specs.Prelude.{◌≡◌, ℕ, List, [], ◌∷◌, map, reverse, Option, Some, None, Result, Ok, Err, option_map}
+use Rattle.std.specs.Prelude.{◌≡◌, ℕ, ◌+◌, zero, suc, List, [], ◌∷◌, length, map, reverse, Option, Some, None, Result, Ok, Err, option_map}
 use Rattle.std.specs.declared.rc.Rc.{Rc}
 use Rattle.apl_array.specs.Array.{ArrayValue}
+use Rattle.apl_grammar.specs.declared.program.Brackets.{Brackets}
 use Rattle.apl_grammar.specs.declared.program.Operation.{Operation}
 use Rattle.apl_grammar.specs.declared.program.Operation.TheVariants as op
 use Rattle.apl_print.specs.declared.reports.Report.{Report}
-use Rattle.apl_print.specs.declared.reports.Report.TheVariants.{Syntax}
-use Rattle.apl_eval.specs.Workspace.{NameValues, WorkspaceValue, with_names, value_of, assigned}
-use Rattle.apl_eval.specs.Functions.{caret_column, monadic_result, dyadic_result}
-use Rattle.apl_eval.specs.Meaning.{Outcome, done, failed, found, judged}
+use Rattle.apl_eval.specs.Workspace.{NameValues, WorkspaceValue, with_names}
+use Rattle.apl_eval.specs.Meaning.{Outcome, done, failed, name_outcome, monadic_outcome, dyadic_outcome, index_outcome, assign_outcome, assign_at_outcome}
 use Rattle.apl_eval.specs.Names.{overlaid}
 use Rattle.apl_eval.specs.declared.statement.EvalStop.{EvalStop}
 use Rattle.apl_eval.specs.declared.statement.EvalStop.TheVariants.{Error, Memory}
@@ -32,19 +31,38 @@ leaves items (failed report column w) = ended report column w
 abbrev pub onto : List Item → Outcome ArrayValue → State
 onto below = leaves (λ v. Some v ∷ below)
 
+-- what comes next, with the value on top
+abbrev pub with_value : List Item → (ArrayValue → List Item → State) → State
+with_value (Some v ∷ below) next = next v below
+with_value _ next = stuck
+
+-- with the axis argument on top, if one stands there
+abbrev pub with_axis : Option Brackets → List Item → (Option ArrayValue → List Item → State) → State
+with_axis None items next = next None items
+with_axis (Some brackets) (Some v ∷ below) next = next (Some v) below
+with_axis (Some brackets) _ next = stuck
+
+-- with so many slots on top, the first of which is the topmost
+abbrev pub with_slots : ℕ → List Item → (List Item → List Item → State) → State
+with_slots zero items next = next [] items
+with_slots (suc n) [] next = stuck
+with_slots (suc n) (slot ∷ items) next = with_slots n items (λ slots below. next (slot ∷ slots) below)
+
 abbrev pub step : Operation → List Item → WorkspaceValue → State
 step (op.Constant column v) below w = waiting (Some v ∷ below) w
-step (op.Name column name) below w = onto below (found (value_of name w) column w)
+step (op.Name column name) below w = onto below (name_outcome column name w)
 step (op.Group brackets) items w = waiting items w
 step op.EmptySlot below w = waiting (None ∷ below) w
-step (op.Index semicolons brackets) items w = ended Syntax brackets.left w
-step (op.Assign column name arrow) (Some b ∷ below) w = waiting (Some b ∷ below) (assigned name b w)
-step (op.AssignAt target) items w = ended Syntax target.arrow w
-step (op.Monadic f None) (Some b ∷ below) w = onto below (judged (monadic_result f None b) (caret_column f) w)
-step (op.Monadic f (Some brackets)) items w = ended Syntax (caret_column f) w
-step (op.Dyadic f None) (Some a ∷ Some b ∷ below) w = onto below (judged (dyadic_result f None a b) (caret_column f) w)
-step (op.Dyadic f (Some brackets)) items w = ended Syntax (caret_column f) w
-step _ items w = stuck
+step (op.Index semicolons brackets) items w =
+    with_value items (λ array items. with_slots (length semicolons + 1) items (λ slots below. onto below (index_outcome brackets.left array slots w)))
+step (op.Assign column name arrow) items w = with_value items (λ right below. onto below (assign_outcome name right w))
+step (op.AssignAt target) items w =
+    with_slots (length target.semicolons + 1) items (λ slots items.
+    with_value items (λ right below. onto below (assign_at_outcome target.column target.name target.arrow slots right w)))
+step (op.Monadic f axis) items w =
+    with_axis axis items (λ axis items. with_value items (λ right below. onto below (monadic_outcome f axis right w)))
+step (op.Dyadic f axis) items w =
+    with_value items (λ left items. with_axis axis items (λ axis items. with_value items (λ right below. onto below (dyadic_outcome f axis left right w))))
 
 abbrev pub go_on : State → (List Item → WorkspaceValue → State) → State
 go_on (waiting items w) next = next items w
@@ -55,19 +73,40 @@ abbrev pub steps : List Operation → List Item → WorkspaceValue → State
 steps [] items w = waiting items w
 steps (o ∷ os) items w = go_on (step o items w) (steps os)
 
+-- what an array on a stack is, or an empty slot
+abbrev pub item_of : {Z : Type 0} → Option (Rc ArrayValue Z) → Item
+item_of = option_map (λ r. r.value)
+
 -- the stack that a vector holds
 abbrev pub stack_of : {Z : Type 0} → List (Option (Rc ArrayValue Z)) → List Item
-stack_of items = map (option_map (λ r. r.value)) (reverse items)
+stack_of items = map item_of (reverse items)
 
--- a value is on top
+-- a value is on top, below which the items have a property
+abbrev pub HasValueAbove : (List Item → Type 0) → List Item → Type 0
+HasValueAbove P (Some v ∷ below) = P below
+HasValueAbove P _ = ⊥
+
 abbrev pub HasValue : List Item → Type 0
-HasValue (Some v ∷ below) = Unit {0}
-HasValue _ = ⊥
+HasValue items = HasValueAbove (λ below. Unit {0}) items
 
--- a value is on top, and one below it
-abbrev pub HasTwoValues : List Item → Type 0
-HasTwoValues (Some a ∷ Some b ∷ below) = Unit {0}
-HasTwoValues _ = ⊥
+-- an axis argument is on top, if one stands there, below which the items have a property
+abbrev pub HasAxisAbove : (List Item → Type 0) → Option Brackets → List Item → Type 0
+HasAxisAbove P None items = P items
+HasAxisAbove P (Some brackets) items = HasValueAbove P items
+
+abbrev pub HasAxis : Option Brackets → List Item → Type 0
+HasAxis axis items = HasAxisAbove (λ below. Unit {0}) axis items
+
+-- so many slots are on top, below which the items have a property
+abbrev pub HasSlotsAbove : (List Item → Type 0) → ℕ → List Item → Type 0
+HasSlotsAbove P zero items = P items
+HasSlotsAbove P (suc n) [] = ⊥
+HasSlotsAbove P (suc n) (slot ∷ items) = HasSlotsAbove P n items
+
+-- the items with an axis argument on top, if there is one
+abbrev pub under_axis : Option ArrayValue → List Item → List Item
+under_axis None items = items
+under_axis (Some axis) items = Some axis ∷ items
 
 -- the workspace with the assignments of the line
 abbrev pub staged_in : NameValues → WorkspaceValue → WorkspaceValue

@@ -1,13 +1,13 @@
-//! Functions in all their forms.
-ghost use Rattle.std.specs.Prelude.{◌≡◌, None, Result};
+//! Functions of arrays.
+ghost use Rattle.std.specs.Prelude.{◌≡◌, Result, map, option_copied};
 ghost use Rattle.apl_array.specs.Array.{ArrayValue};
 ghost use Rattle.apl_answer.specs.declared.fault.OpFault.{OpFault};
 ghost use Rattle.apl_answer.specs.Pointwise.{IsAnswerOf};
-ghost use Rattle.apl_eval.specs.Functions.{caret_column, scalar_function, reported, monadic_scalar, dyadic_scalar, monadic_result, dyadic_result};
+ghost use Rattle.apl_eval.specs.Functions.{caret_column, scalar_function, result_of, monadic_scalar, dyadic_scalar, monadic_result, dyadic_result, index_result, assign_at_result};
 ghost use Rattle.apl_eval.specs.Refusals.{Answers};
 
 use apl_answer::OpFault;
-use apl_array::Array;
+use apl_array::{Array, Origin};
 use apl_grammar::Form;
 use apl_pool::{Cut, Gate, Pool};
 use apl_print::Report;
@@ -63,8 +63,8 @@ fn scalar_function(glyph: Glyph) -> Option<Prim>
 }
 
 /// What a scalar function answered, its fault as a report.
-fn reported(answer: Result<Array, OpFault>) -> Result<Array, Refusal>
-    ensures { (wanted : Result ArrayValue OpFault) → IsAnswerOf wanted answer → Answers (reported wanted) result }
+fn result_of(answer: Result<Array, OpFault>) -> Result<Array, Refusal>
+    ensures { (wanted : Result ArrayValue OpFault) → IsAnswerOf wanted answer → Answers (result_of wanted) result }
 {
     match answer {
         Ok(array) => Ok(array),
@@ -84,7 +84,7 @@ fn monadic_scalar<R: Threads + Sync, C: Cut + Sync, G: Gate + Sync>(
 {
     match function {
         Some(function) if function.is_monadic() => {
-            reported(apl_scalar::monadic(rt, alloc, pool, function, right))
+            result_of(apl_scalar::monadic(rt, alloc, pool, function, right))
         }
         _ => Err(Refusal::Fault(Report::Syntax)),
     }
@@ -103,49 +103,88 @@ fn dyadic_scalar<R: Threads + Sync, C: Cut + Sync, G: Gate + Sync>(
 {
     match function {
         Some(function) if function.is_dyadic() => {
-            reported(apl_scalar::dyadic(rt, alloc, pool, function, left, right))
+            result_of(apl_scalar::dyadic(rt, alloc, pool, function, left, right))
         }
         _ => Err(Refusal::Fault(Report::Syntax)),
     }
 }
 
-/// The result of a function of one array, without axis.
+/// The result of a function of one array, perhaps along an axis.
+#[tactic(auto, unfolding(crate::specs::Functions::monadic_result))]
 pub(crate) fn monadic<R: Threads + Sync, C: Cut + Sync, G: Gate + Sync>(
     rt: &R,
     alloc: Global,
     pool: &Pool<C, G>,
+    origin: Origin,
     form: Form,
+    axis: Option<&Array>,
     right: &Array,
 ) -> Result<Array, Refusal>
-    ensures { Answers (monadic_result form None right.now) result }
+    ensures { Answers (monadic_result origin form (option_copied axis.entry) right.now) result }
 {
-    match form {
-        Form::Plain { glyph, .. } => {
+    match (form, axis) {
+        (Form::Plain { glyph, .. }, None) => {
             monadic_scalar(rt, alloc, pool, scalar_function(glyph), right)
         }
-        Form::Reduce { .. } | Form::Inner { .. } | Form::Outer { .. } => {
+        (Form::Plain { .. }, Some(_))
+        | (Form::Reduce { .. } | Form::Inner { .. } | Form::Outer { .. }, _) => {
             Err(Refusal::Fault(Report::Syntax))
         }
     }
 }
 
-/// The result of a function of two arrays, without axis.
+/// The result of a function of two arrays, perhaps along an axis.
+#[tactic(auto, unfolding(crate::specs::Functions::dyadic_result))]
 pub(crate) fn dyadic<R: Threads + Sync, C: Cut + Sync, G: Gate + Sync>(
     rt: &R,
     alloc: Global,
     pool: &Pool<C, G>,
+    origin: Origin,
     form: Form,
+    axis: Option<&Array>,
     left: &Array,
     right: &Array,
 ) -> Result<Array, Refusal>
-    ensures { Answers (dyadic_result form None left.now right.now) result }
+    ensures { Answers (dyadic_result origin form (option_copied axis.entry) left.now right.now) result }
 {
-    match form {
-        Form::Plain { glyph, .. } => {
+    match (form, axis) {
+        (Form::Plain { glyph, .. }, None) => {
             dyadic_scalar(rt, alloc, pool, scalar_function(glyph), left, right)
         }
-        Form::Reduce { .. } | Form::Inner { .. } | Form::Outer { .. } => {
+        (Form::Plain { .. }, Some(_))
+        | (Form::Reduce { .. } | Form::Inner { .. } | Form::Outer { .. }, _) => {
             Err(Refusal::Fault(Report::Syntax))
         }
     }
+}
+
+/// The elements of an array that the slots choose.
+#[tactic(auto, unfolding(crate::specs::Functions::index_result))]
+pub(crate) fn index<R: Threads + Sync, C: Cut + Sync, G: Gate + Sync>(
+    rt: &R,
+    alloc: Global,
+    pool: &Pool<C, G>,
+    origin: Origin,
+    array: &Array,
+    slots: &[Option<&Array>],
+) -> Result<Array, Refusal>
+    ensures { Answers (index_result origin array.now (map option_copied slots.now)) result }
+{
+    Err(Refusal::Fault(Report::Syntax))
+}
+
+/// A name's array, if it has one, with the value in the place of the elements that the slots choose.
+#[tactic(auto, unfolding(crate::specs::Functions::assign_at_result))]
+pub(crate) fn assign_at<R: Threads + Sync, C: Cut + Sync, G: Gate + Sync>(
+    rt: &R,
+    alloc: Global,
+    pool: &Pool<C, G>,
+    origin: Origin,
+    array: Option<&Array>,
+    slots: &[Option<&Array>],
+    value: &Array,
+) -> Result<Array, Refusal>
+    ensures { Answers (assign_at_result origin (option_copied array.entry) (map option_copied slots.now) value.now) result }
+{
+    Err(Refusal::Fault(Report::Syntax))
 }

@@ -6,7 +6,7 @@ ghost use Rattle.apl_grammar.specs.Tree.{Expr, spells};
 ghost use Rattle.apl_eval.specs.declared.statement.Shown.{Shown};
 ghost use Rattle.apl_eval.specs.declared.statement.EvalStop.{EvalStop};
 ghost use Rattle.apl_eval.specs.Workspace.{WorkspaceValue, with_origin, with_width, opening_workspace};
-ghost use Rattle.apl_eval.specs.Meaning.{mean};
+ghost use Rattle.apl_eval.specs.Meaning.{meaning_of};
 ghost use Rattle.apl_eval.specs.Evaluates.{Evaluates};
 ghost use Rattle.apl_eval.specs.Lawful.{IsLawful, IsLawfulOutcome};
 
@@ -17,7 +17,7 @@ pub fn lawful_stays()
     ensures opening { IsLawful opening_workspace }
     ensures origin { (origin : Origin) (w : WorkspaceValue) → IsLawful w → IsLawful (with_origin origin w) }
     ensures width { (width : ℕ) (w : WorkspaceValue) → 30 ≤ width → width ≤ 130 → IsLawful w → IsLawful (with_width width w) }
-    ensures outcome { (tree : Expr) (w : WorkspaceValue) → HasConstantsInRange (spells tree) → IsLawful w → IsLawfulOutcome (mean tree w) }
+    ensures outcome { (tree : Expr) (w : WorkspaceValue) → HasConstantsInRange (spells tree) → IsLawful w → IsLawfulOutcome (meaning_of tree w) }
     ensures evaluated { (tree : Expr) (old new : WorkspaceValue) (result : Result Shown EvalStop) → HasConstantsInRange (spells tree)
         → IsLawful old → Evaluates tree old new result → IsLawful new }
 {

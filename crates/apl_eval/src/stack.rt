@@ -1,11 +1,22 @@
 //! The stack of what waits for operations.
-ghost use Rattle.std.specs.Prelude.{◌≡◌, List, [], ◌∷◌, Some, None, IfOk};
-ghost use Rattle.apl_eval.specs.Steps.{Item, HasValue};
+ghost use Rattle.std.specs.Prelude.{◌≡◌, ◌≤◌, List, [], ◌∷◌, ◌++◌, length, map, Some, None, is_some, option_copied, IfOk};
+ghost use Rattle.apl_eval.specs.Steps.{Item, item_of, under_axis, HasValue, HasAxis};
 
 use apl_array::Array;
+use apl_grammar::Brackets;
 use std::alloc::{AllocError, Global};
 use std::marker::Model;
 use std::rc::Rc;
+
+/// The array of an item, if it has one.
+pub(crate) fn array_of(item: &Option<Rc<Array>>) -> Option<&Array>
+    ensures { option_copied result ≡ item_of item.now }
+{
+    match item {
+        Some(array) => Some(array.as_ref()),
+        None => None,
+    }
+}
 
 /// Values and empty slots, the last one on top.
 #[derive(Drop)]
@@ -57,6 +68,34 @@ impl Stack {
         }
     }
 
+    /// Takes the axis argument on top, if one stands there.
+    pub(crate) fn pop_axis(&mut self, axis: Option<Brackets>) -> Option<Rc<Array>>
+        requires { HasAxis axis self.old }
+        ensures items { self.old ≡ under_axis (item_of result) self.new }
+        ensures axis { is_some result ≡ is_some axis }
+    {
+        match axis {
+            Some(_) => Some(self.pop_value()),
+            None => None,
+        }
+    }
+
+    /// Takes so many slots, of which the first one is on top.
+    pub(crate) fn pop_slots(&mut self, alloc: Global, count: usize) -> Result<Slots, AllocError>
+        requires { count ≤ length self.old }
+        ensures count { IfOk result (λ slots. length slots ≡ count) }
+        ensures items { IfOk result (λ slots. self.old ≡ slots ++ self.new) }
+    {
+        let mut slots = Vec::new(alloc);
+        'slots: for _ in 0..count {
+            let Some(slot) = self.items.pop() else {
+                unreachable!()
+            };
+            slots.push(slot)?;
+        }
+        Ok(Slots { slots })
+    }
+
     /// The value on top.
     pub(crate) fn top_value(&self) -> &Rc<Array>
         requires { HasValue self.now }
@@ -66,5 +105,33 @@ impl Stack {
             Some(Some(value)) => value,
             _ => unreachable!(),
         }
+    }
+}
+
+/// The slots of a list, from the first to the last.
+#[derive(Drop)]
+pub(crate) struct Slots {
+    slots: Vec<Option<Rc<Array>>>,
+}
+
+impl Model for Slots {
+    ghost use Rattle.std.specs.Prelude.{List, map};
+    ghost use Rattle.apl_eval.specs.Steps.{Item, item_of};
+
+    ghost Value = { List Item };
+
+    ghost view = { λ s. map item_of s.slots.items };
+}
+
+impl Slots {
+    /// The array of each slot that is not empty.
+    pub(crate) fn arrays(&self, alloc: Global) -> Result<Vec<Option<&Array>>, AllocError>
+        ensures { IfOk result (λ arrays. map option_copied arrays.items ≡ self.now) }
+    {
+        let mut arrays = Vec::new(alloc);
+        for slot in &self.slots {
+            arrays.push(array_of(slot))?;
+        }
+        Ok(arrays)
     }
 }

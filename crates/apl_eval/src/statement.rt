@@ -1,25 +1,23 @@
 //! Statements evaluated in a workspace.
-ghost use Rattle.std.specs.Prelude.{◌≡◌, ◌≢◌, ◌≤◌, Some, None, MatchOption, Result, IfOk};
+ghost use Rattle.std.specs.Prelude.{◌≡◌, ◌≢◌, ◌≤◌, ◌+◌, length, Some, None, option_copied, MatchOption, Result, IfOk};
 ghost use Rattle.std.specs.FinMap.{empty};
 ghost use Rattle.apl_array.specs.Array.{ArrayValue};
 ghost use Rattle.apl_grammar.specs.Tree.{Expr, operations};
+ghost use Rattle.apl_grammar.specs.declared.program.Operation.TheVariants as op;
 ghost use Rattle.apl_print.specs.declared.reports.Report.{Report};
-ghost use Rattle.apl_print.specs.declared.reports.Report.TheVariants.{Syntax};
-ghost use Rattle.apl_eval.specs.declared.statement.EvalStop.TheVariants.{Error};
 ghost use Rattle.apl_eval.specs.Workspace.{WorkspaceValue, value_of};
 ghost use Rattle.apl_eval.specs.Functions.{caret_column};
-ghost use Rattle.apl_eval.specs.Meaning.{Outcome, done, found, judged, mean, is_assignment};
+ghost use Rattle.apl_eval.specs.Meaning.{Outcome, done, outcome_at, name_outcome, assign_at_column, meaning_of, is_assignment};
 ghost use Rattle.apl_eval.specs.Evaluates.{Evaluates, IsShownAs};
 ghost use Rattle.apl_eval.specs.Refusals.{Answers};
-ghost use Rattle.apl_grammar.specs.declared.program.Operation.TheVariants as op;
-ghost use Rattle.apl_eval.specs.Steps.{step, stuck, onto, staged_in, HasValue, HasTwoValues, IsOutcome, IsState};
+ghost use Rattle.apl_eval.specs.Steps.{step, stuck, onto, staged_in, HasValue, HasValueAbove, HasAxisAbove, HasSlotsAbove, IsOutcome, IsState};
 
-use super::functions::{Refusal, caret_column, dyadic, monadic};
+use super::functions::{Refusal, assign_at, caret_column, dyadic, index, monadic};
 use super::names::Names;
-use super::stack::Stack;
+use super::stack::{Stack, array_of};
 use super::workspace::Workspace;
-use apl_array::Array;
-use apl_grammar::{Brackets, Form, Operation, Program};
+use apl_array::{Array, Origin};
+use apl_grammar::{Axis, Brackets, Columns, Function, IndexedName, Operation, Program};
 use apl_pool::{Cut, Gate, Pool};
 use apl_print::{Report, print};
 use apl_tokens::Constant;
@@ -83,6 +81,16 @@ fn look_up<'a>(workspace: &'a Workspace, staged: &'a Names, name: &str) -> Optio
     }
 }
 
+/// The array that is the value of a name.
+fn array_named<'a>(workspace: &'a Workspace, staged: &'a Names, name: &str) -> Option<&'a Array>
+    ensures { option_copied result ≡ value_of name.now (staged_in staged.now workspace.now) }
+{
+    match look_up(workspace, staged, name) {
+        Some(value) => Some(value.as_ref()),
+        None => None,
+    }
+}
+
 /// The value of a name at this column.
 fn name_value(
     workspace: &Workspace,
@@ -90,7 +98,7 @@ fn name_value(
     column: usize,
     name: &str,
 ) -> Result<Rc<Array>, EvalStop>
-    ensures { let w = staged_in staged.now workspace.now in IsOutcome (found (value_of name.now w) column w) w result }
+    ensures { let w = staged_in staged.now workspace.now in IsOutcome (name_outcome column name.now w) w result }
 {
     match look_up(workspace, staged, name) {
         Some(value) => Ok(value.clone()?),
@@ -101,27 +109,18 @@ fn name_value(
     }
 }
 
-/// A function's result, or its fault at its caret.
-fn judged(alloc: Global, answer: Result<Array, Refusal>, form: Form) -> Result<Rc<Array>, EvalStop>
-    ensures { (wanted : Result ArrayValue Report) → (w : WorkspaceValue) → Answers wanted answer → IsOutcome (judged wanted (caret_column form) w) w result }
+/// The value of a result, or its report at this column.
+fn outcome_at(
+    alloc: Global,
+    column: usize,
+    answer: Result<Array, Refusal>,
+) -> Result<Rc<Array>, EvalStop>
+    ensures { (wanted : Result ArrayValue Report) → (w : WorkspaceValue) → Answers wanted answer → IsOutcome (outcome_at column wanted w) w result }
 {
     match answer {
         Ok(value) => Ok(Rc::new(alloc, value)?),
-        Err(Refusal::Fault(report)) => Err(EvalStop::Error {
-            report,
-            column: caret_column(form),
-        }),
+        Err(Refusal::Fault(report)) => Err(EvalStop::Error { report, column }),
         Err(Refusal::Memory) => Err(EvalStop::Memory),
-    }
-}
-
-/// The answer of an operation that is not built so far.
-fn not_built(column: usize) -> EvalStop
-    ensures { result ≡ Error Syntax column }
-{
-    EvalStop::Error {
-        report: Report::Syntax,
-        column,
     }
 }
 
@@ -138,45 +137,107 @@ fn put(stack: &mut Stack, value: Result<Rc<Array>, EvalStop>) -> Result<(), Eval
     }
 }
 
-/// Puts a function's result in the place of its right argument on the stack.
+/// Puts a function's result in the place of its arguments on the stack, of which the axis argument is on top.
 fn apply_monadic<R: Threads + Sync, C: Cut + Sync, G: Gate + Sync>(
     rt: &R,
     alloc: Global,
     pool: &Pool<C, G>,
+    origin: Origin,
     stack: &mut Stack,
-    form: Form,
-    axis: Option<Brackets>,
+    function: &Function,
+    axis: &Axis,
 ) -> Result<(), EvalStop>
-    requires { axis ≡ None → HasValue stack.old }
-    ensures { (w : WorkspaceValue) → IsState (step (op.Monadic form axis) stack.old w) stack.new w result }
+    requires { HasAxisAbove HasValue axis.now stack.old }
+    ensures { (w : WorkspaceValue) → w.origin ≡ origin → IsState (step (op.Monadic function.now axis.now) stack.old w) stack.new w result }
 {
-    let None = axis else {
-        return Err(not_built(caret_column(form)));
-    };
+    let form = function.form();
+    let axis = stack.pop_axis(axis.brackets());
     let right = stack.pop_value();
-    let result = monadic(rt, alloc, pool, form, &right);
-    put(stack, judged(alloc, result, form))
+    let axis = array_of(&axis);
+    let answer = monadic(rt, alloc, pool, origin, form, axis, &right);
+    put(stack, outcome_at(alloc, caret_column(form), answer))
 }
 
-/// Puts a function's result in the place of its arguments on the stack, of which the left one is on top.
+/// Puts a function's result in the place of its arguments on the stack, of which the left one is on top, and the axis argument next.
 fn apply_dyadic<R: Threads + Sync, C: Cut + Sync, G: Gate + Sync>(
     rt: &R,
     alloc: Global,
     pool: &Pool<C, G>,
+    origin: Origin,
     stack: &mut Stack,
-    form: Form,
-    axis: Option<Brackets>,
+    function: &Function,
+    axis: &Axis,
 ) -> Result<(), EvalStop>
-    requires { axis ≡ None → HasTwoValues stack.old }
-    ensures { (w : WorkspaceValue) → IsState (step (op.Dyadic form axis) stack.old w) stack.new w result }
+    requires { HasValueAbove (HasAxisAbove HasValue axis.now) stack.old }
+    ensures { (w : WorkspaceValue) → w.origin ≡ origin → IsState (step (op.Dyadic function.now axis.now) stack.old w) stack.new w result }
 {
-    let None = axis else {
-        return Err(not_built(caret_column(form)));
-    };
+    let form = function.form();
     let left = stack.pop_value();
+    let axis = stack.pop_axis(axis.brackets());
     let right = stack.pop_value();
-    let result = dyadic(rt, alloc, pool, form, &left, &right);
-    put(stack, judged(alloc, result, form))
+    let axis = array_of(&axis);
+    let answer = dyadic(rt, alloc, pool, origin, form, axis, &left, &right);
+    put(stack, outcome_at(alloc, caret_column(form), answer))
+}
+
+/// Puts the chosen elements of the array on top of the stack in the place of the array and of the slots below it.
+fn apply_index<R: Threads + Sync, C: Cut + Sync, G: Gate + Sync>(
+    rt: &R,
+    alloc: Global,
+    pool: &Pool<C, G>,
+    origin: Origin,
+    stack: &mut Stack,
+    semicolons: &Columns,
+    brackets: &Brackets,
+) -> Result<(), EvalStop>
+    requires { HasValueAbove (HasSlotsAbove (λ below. Unit {0}) (length semicolons.now + 1)) stack.old }
+    ensures { (w : WorkspaceValue) → w.origin ≡ origin → IsState (step (op.Index semicolons.now brackets.now) stack.old w) stack.new w result }
+{
+    let array = stack.pop_value();
+    let slots = stack.pop_slots(alloc, semicolons.as_slice().len() + 1)?;
+    let chosen = slots.arrays(alloc)?;
+    let answer = index(rt, alloc, pool, origin, &array, chosen.as_slice());
+    put(stack, outcome_at(alloc, brackets.left, answer))
+}
+
+/// The column at which an indexed assignment's report is shown.
+fn assign_at_column(target: &IndexedName, report: Report) -> usize
+    ensures { result ≡ assign_at_column target.now.column target.now.arrow report }
+{
+    match report {
+        Report::Value => target.column,
+        _ => target.arrow,
+    }
+}
+
+/// Gives a name its array with the value on the stack in the place of the chosen elements; the value stays on the stack.
+fn apply_assign_at<R: Threads + Sync, C: Cut + Sync, G: Gate + Sync>(
+    rt: &R,
+    alloc: Global,
+    pool: &Pool<C, G>,
+    workspace: &Workspace,
+    staged: &mut Names,
+    stack: &mut Stack,
+    target: &IndexedName,
+) -> Result<(), EvalStop>
+    requires { HasSlotsAbove HasValue (length target.now.semicolons + 1) stack.old }
+    ensures { IsState (step (op.AssignAt target.now) stack.old (staged_in staged.old workspace.now)) stack.new (staged_in staged.new workspace.now) result }
+{
+    let slots = stack.pop_slots(alloc, target.semicolons.as_slice().len() + 1)?;
+    let chosen = slots.arrays(alloc)?;
+    let name = target.name.as_str();
+    let array = array_named(workspace, staged, name);
+    let value = stack.top_value();
+    let origin = workspace.origin();
+    let chosen = chosen.as_slice();
+    match assign_at(rt, alloc, pool, origin, array, chosen, value) {
+        Ok(changed) => Ok(staged.insert(alloc, name, Rc::new(alloc, changed)?)?),
+        Err(Refusal::Fault(report)) => Err(EvalStop::Error {
+            report,
+            column: assign_at_column(target, report),
+        }),
+        Err(Refusal::Memory) => Err(EvalStop::Memory),
+    }
 }
 
 /// Carries out one operation. The line's assignments are staged, and read before the workspace's names.
@@ -192,6 +253,7 @@ fn carry_out<R: Threads + Sync, C: Cut + Sync, G: Gate + Sync>(
     requires { step operation.now stack.old (staged_in staged.old workspace.now) ≢ stuck }
     ensures { IsState (step operation.now stack.old (staged_in staged.old workspace.now)) stack.new (staged_in staged.new workspace.now) result }
 {
+    let origin = workspace.origin();
     match operation {
         Operation::Constant(_, constant) => put(stack, constant_value(alloc, constant)),
         Operation::Name(column, name) => {
@@ -205,13 +267,18 @@ fn carry_out<R: Threads + Sync, C: Cut + Sync, G: Gate + Sync>(
             Ok(())
         }
         Operation::Dyadic(function, axis) => {
-            apply_dyadic(rt, alloc, pool, stack, function.form(), axis.brackets())
+            apply_dyadic(rt, alloc, pool, origin, stack, function, axis)
         }
         Operation::Monadic(function, axis) => {
-            apply_monadic(rt, alloc, pool, stack, function.form(), axis.brackets())
+            apply_monadic(rt, alloc, pool, origin, stack, function, axis)
         }
-        Operation::Index(_, brackets) => Err(not_built(brackets.left)),
-        Operation::AssignAt(target) => Err(not_built(target.indexed_name().arrow)),
+        Operation::Index(semicolons, brackets) => {
+            apply_index(rt, alloc, pool, origin, stack, semicolons, brackets)
+        }
+        Operation::AssignAt(target) => {
+            let target = target.indexed_name();
+            apply_assign_at(rt, alloc, pool, workspace, staged, stack, target)
+        }
     }
 }
 
@@ -225,7 +292,7 @@ fn run<R: Threads + Sync, C: Cut + Sync, G: Gate + Sync>(
     program: &Program,
 ) -> Result<Rc<Array>, EvalStop>
     requires { staged.old ≡ empty }
-    ensures { (tree : Expr) → operations tree ≡ program.now → IsOutcome (mean tree workspace.now) (staged_in staged.new workspace.now) result }
+    ensures { (tree : Expr) → operations tree ≡ program.now → IsOutcome (meaning_of tree workspace.now) (staged_in staged.new workspace.now) result }
 {
     let mut stack = Stack::new(alloc);
     'operations: for operation in program.operations() {

@@ -13,7 +13,7 @@ use Rattle.apl_syntax.specs.declared.lines.Command.{Command}
 use Rattle.apl_syntax.specs.declared.lines.Command.TheVariants.{Origin as SetOrigin, Width, Clear, Off, Incorrect}
 use Rattle.apl_syntax.specs.Reading.{Reading, character, command, blank, statement, syntax, limit, IsReading}
 use Rattle.apl_eval.specs.Workspace.{WorkspaceValue, with_origin, with_width, opening_workspace}
-use Rattle.apl_eval.specs.Meaning.{Outcome, done, failed, mean, is_assignment}
+use Rattle.apl_eval.specs.Meaning.{Outcome, done, failed, meaning_of, is_assignment}
 use Rattle.apl_eval.specs.Lawful.{IsLawful, IsLawfulOutcome}
 use Rattle.apl_session.specs.Run.{Answer, IsTotal}
 use Rattle.apl_session.specs.Step.{says, reports, obeyed, Prints, IsStatementAnswer, IsAnswerTo, session_semantics}
@@ -25,7 +25,7 @@ pub record StepLaws : Type 0 where
   pub opening : IsLawful opening_workspace
   pub origin : (origin : Origin) (w : WorkspaceValue) → IsLawful w → IsLawful (with_origin origin w)
   pub width : (width : ℕ) (w : WorkspaceValue) → 30 ≤ width → width ≤ 130 → IsLawful w → IsLawful (with_width width w)
-  pub outcome : (tree : Expr) (w : WorkspaceValue) → HasConstantsInRange (spells tree) → IsLawful w → IsLawfulOutcome (mean tree w)
+  pub outcome : (tree : Expr) (w : WorkspaceValue) → HasConstantsInRange (spells tree) → IsLawful w → IsLawfulOutcome (meaning_of tree w)
   pub shown : (a : ArrayValue) (width : ℕ) → HasNumbersInRange a → 30 ≤ width → (text : List ℕ) × IsShown a width text
 
 module _ (laws : StepLaws) where
@@ -54,7 +54,7 @@ module _ (laws : StepLaws) where
       → (answer : Answer WorkspaceValue) × IsAnswerTo state line r answer × IsLawful answer.after
   some_answer state line (command given) is lawful = (obeyed given state, refl, obeyed_lawful state line given is lawful)
   some_answer state line (statement tree) (characters, listed, (not, (lexed, tree_is))) lawful =
-      some_statement line tree (mean tree state) (laws.outcome tree state (laws.constants characters (spells tree) lexed) lawful)
+      some_statement line tree (meaning_of tree state) (laws.outcome tree state (laws.constants characters (spells tree) lexed) lawful)
   some_answer state line blank is lawful = (_, refl, lawful)
   some_answer state line (character bytes column) is lawful = (_, refl, lawful)
   some_answer state line (syntax column) is lawful = (_, refl, lawful)

@@ -19,7 +19,7 @@ use Rattle.apl_eval.specs.Workspace.{WorkspaceValue}
 use Rattle.apl_eval.specs.Evaluates.{Evaluates, IsPrinted}
 use Rattle.apl_eval.specs.declared.statement.Shown.TheVariants.{Silent, Text}
 use Rattle.apl_eval.specs.declared.statement.EvalStop.TheVariants.{Error, Memory as NoMemory}
-use Rattle.apl_eval.specs.Meaning.{Outcome, done, failed, mean, is_assignment}
+use Rattle.apl_eval.specs.Meaning.{Outcome, done, failed, meaning_of, is_assignment}
 use Rattle.apl_session.specs.Lines.{without_return}
 use Rattle.apl_session.specs.Run.{Answer, IsDeterministic, refused_step}
 use Rattle.apl_session.specs.LineAnswer.{IsLineAnswered, next_after}
@@ -50,7 +50,7 @@ module _ (shown_once : (a : ArrayValue) (width : ℕ) (s t : List ℕ) → IsSho
   one_answer state line (character b c) one other h k = h ∙ sym k
   one_answer state line (command given) one other h k = h ∙ sym k
   one_answer state line blank one other h k = h ∙ sym k
-  one_answer state line (statement tree) one other h k = one_statement line tree (mean tree state) one other h k
+  one_answer state line (statement tree) one other h k = one_statement line tree (meaning_of tree state) one other h k
   one_answer state line (syntax c) one other h k = h ∙ sym k
   one_answer state line (limit c) one other h k = h ∙ sym k
 

@@ -14,7 +14,7 @@ use Rattle.apl_print.specs.Shown.{IsShown}
 use Rattle.apl_array.specs.Array.{ArrayValue}
 use Rattle.apl_array.specs.Axes.{origin_number}
 use Rattle.apl_eval.specs.Workspace.{WorkspaceValue, with_origin, with_width, opening_workspace}
-use Rattle.apl_eval.specs.Meaning.{Outcome, done, failed, mean, is_assignment}
+use Rattle.apl_eval.specs.Meaning.{Outcome, done, failed, meaning_of, is_assignment}
 use Rattle.apl_session.specs.Run.{Answer, Semantics}
 
 -- the answer that writes this text and leaves this workspace
@@ -51,7 +51,7 @@ IsStatementAnswer line tree (failed report column after) answer = answer ≡ rep
 abbrev pub IsAnswerTo : WorkspaceValue → List ℕ → Reading → Answer WorkspaceValue → Type 0
 IsAnswerTo workspace line blank answer = answer ≡ says [] workspace
 IsAnswerTo workspace line (command given) answer = answer ≡ obeyed given workspace
-IsAnswerTo workspace line (statement tree) answer = IsStatementAnswer line tree (mean tree workspace) answer
+IsAnswerTo workspace line (statement tree) answer = IsStatementAnswer line tree (meaning_of tree workspace) answer
 IsAnswerTo workspace line (character bytes column) answer = answer ≡ reports Character (take bytes line) column workspace
 IsAnswerTo workspace line (syntax column) answer = answer ≡ reports Syntax line column workspace
 IsAnswerTo workspace line (limit column) answer = answer ≡ reports Limit line column workspace

@@ -7,4 +7,4 @@ pub returns-in-Some : goal.returns-in-Some
 returns-in-Some g c =
     let f = c.in-Some.function in
     let has : has_monadic f ≡ true = sym c.is_monadic.ensures ∙ c.if-is_monadic.true in
-    rw (c.in-Some.is, has) (c.reported.ensures (monadic_answer f c.args.right.now) c.monadic.ensures)
+    rw (c.in-Some.is, has) (c.result_of.ensures (monadic_answer f c.args.right.now) c.monadic.ensures)

@@ -1,10 +1,9 @@
-use Rattle.std.proofs.Common.{◌≡◌, ◌∷◌, sym, ◌∙◌, ap, Some}
+use Rattle.std.proofs.Common.{◌≡◌, ◌∷◌, sym, ◌∙◌, ap, Some, rules}
 use Rattle.std.specs.FinMap.{insert}
 use Rattle.apl_grammar.specs.declared.program.Operation.TheVariants as op
-use Rattle.apl_eval.specs.Workspace.{value_of}
-use Rattle.apl_eval.specs.Meaning.{done, found}
+use Rattle.apl_eval.specs.Meaning.{done, name_outcome}
 use Rattle.apl_eval.specs.Steps.{staged_in, waiting}
-use Rattle.apl_eval.proofs.StackLemmas.{staged_in-insert}
+use Rattle.apl_eval.proofs.StackLemmas.{staged_in-insert, monadic_above, dyadic_above, index_above, assign_at_above}
 use Rattle.apl_eval.proofs.statement.carry_out.Goals as goal
 
 pub returns-in-Constant : goal.returns-in-Constant
@@ -16,19 +15,52 @@ pub returns-in-Name : goal.returns-in-Name
 returns-in-Name g c =
     let w = staged_in c.args.staged.now c.args.workspace.now in
     let value = rw c.as_str.ensures at c.name_value.ensures in
-    rw c.in-Name.is (c.put-in-Name.ensures (found (value_of c.in-Name.name w) c.in-Name.column w) w value)
+    rw c.in-Name.is (c.put-in-Name.ensures (name_outcome c.in-Name.column c.in-Name.name w) w value)
+
+pub apply_dyadic-requires : goal.apply_dyadic-requires
+apply_dyadic-requires g c =
+    let w = staged_in c.args.staged.now c.args.workspace.now in
+    let possible = dyadic_above w c.in-Dyadic.function c.in-Dyadic.axis c.args.stack.now (rw c.in-Dyadic.is at c.requires) in
+    (search rules, (search rules, (search rules, possible)))
 
 pub returns-in-Dyadic : goal.returns-in-Dyadic
 returns-in-Dyadic g c =
     let w = staged_in c.args.staged.now c.args.workspace.now in
-    let is : c.args.operation.now ≡ op.Dyadic c.form.result c.brackets.result = cc in
-    rw is (c.apply_dyadic.ensures w)
+    rw c.in-Dyadic.is (c.apply_dyadic.ensures w (sym c.origin-origin.ensures))
+
+pub apply_monadic-requires : goal.apply_monadic-requires
+apply_monadic-requires g c =
+    let w = staged_in c.args.staged.now c.args.workspace.now in
+    let possible = monadic_above w c.in-Monadic.function c.in-Monadic.axis c.args.stack.now (rw c.in-Monadic.is at c.requires) in
+    (search rules, (search rules, (search rules, possible)))
 
 pub returns-in-Monadic : goal.returns-in-Monadic
 returns-in-Monadic g c =
     let w = staged_in c.args.staged.now c.args.workspace.now in
-    let is : c.args.operation.now ≡ op.Monadic c.form-in-Monadic.result c.brackets-in-Monadic.result = cc in
-    rw is (c.apply_monadic.ensures w)
+    rw c.in-Monadic.is (c.apply_monadic.ensures w (sym c.origin-origin.ensures))
+
+pub apply_index-requires : goal.apply_index-requires
+apply_index-requires g c =
+    let w = staged_in c.args.staged.now c.args.workspace.now in
+    let possible = index_above w c.in-Index.semicolons c.in-Index.brackets c.args.stack.now (rw c.in-Index.is at c.requires) in
+    (search rules, (search rules, (search rules, possible)))
+
+pub returns-in-Index : goal.returns-in-Index
+returns-in-Index g c =
+    let w = staged_in c.args.staged.now c.args.workspace.now in
+    rw c.in-Index.is (c.apply_index.ensures w (sym c.origin-origin.ensures))
+
+pub apply_assign_at-requires : goal.apply_assign_at-requires
+apply_assign_at-requires g c =
+    let w = staged_in c.args.staged.now c.args.workspace.now in
+    let is : c.args.operation.now ≡ op.AssignAt c.indexed_name-target.result.now = cc in
+    let possible = assign_at_above w c.indexed_name-target.result.now c.args.stack.now (rw is at c.requires) in
+    (search rules, (search rules, (search rules, possible)))
+
+pub returns-in-AssignAt : goal.returns-in-AssignAt
+returns-in-AssignAt g c =
+    let is : c.args.operation.now ≡ op.AssignAt c.indexed_name-target.result.now = cc in
+    rw is c.apply_assign_at.ensures
 
 pub returns-in_ok-insert-in-Assign : goal.returns-in_ok-insert-in-Assign
 returns-in_ok-insert-in-Assign g c =
