@@ -14,6 +14,7 @@ use std::thread::{Threads, join, join_mut};
 
 /// The values of the first `tasks` shares. Each worker has a list of its own, and they are put together in the order of their
 /// places.
+#[cycle(collect)]
 pub(crate) fn collect_shares<
     R: Threads + Sync,
     T: Copy + Send,

@@ -5,16 +5,16 @@ use Rattle.apl_pool.specs.Parts.{AreValuesFrom}
 use Rattle.apl_pool.specs.Shares.{share_start}
 use Rattle.apl_pool.proofs.Bounds.{bounds_within, starts_order}
 use Rattle.apl_pool.proofs.Values.{AreValuesFrom-append, AreValuesFrom-from_part, IsStopFrom-from_part, IsStopFrom-longer, IsStopFrom-wider}
-use Rattle.apl_pool.proofs.crew.+collect_shares+fn-collect_shares-before.Goals as goal
+use Rattle.apl_pool.proofs.crew.+collect.Goals as goal
 
 pub append_share-requires-clause-room : goal.append_share-requires-clause-room
 append_share-requires-clause-room g t c =
     let pieces = c.pieces-then-tasks-eq1.result.now in
-    let same : c.pieces.result.now ≡ pieces = c.pieces.ensures ∙ sym c.pieces-then-tasks-eq1.ensures in
-    let places : c.pieces.result.now.places ≡ pieces.places = ap (λ (p : Pieces). p.places) same in
-    let count : pieces.count ≡ c.args.shares.now.pieces.count = ap (λ (p : Pieces). p.count) c.pieces-then-tasks-eq1.ensures in
+    let room = ap (λ (p : Pieces). p.places) c.pieces.ensures in
+    let places = ap (λ (p : Pieces). p.places) c.pieces-then-tasks-eq1.ensures in
+    let count = ap (λ (p : Pieces). p.count) c.pieces-then-tasks-eq1.ensures in
     let within = bounds_within _ _ _ pieces.starts_are c.share.result.to (omega (arith, count, c.share.ensures.within)) in
-    omega (arith, within, places, c.places-room.ensures)
+    omega (arith, within, room, places, c.places-room.ensures)
 
 pub returns-in_err-values : goal.returns-in_err-values
 returns-in_err-values g t c =

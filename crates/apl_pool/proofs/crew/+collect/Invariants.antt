@@ -1,5 +1,5 @@
 use Prim.Native.Nat.{◌+◌, ◌*◌}
-use Rattle.apl_pool.proofs.crew.+collect_shares+fn-collect_shares-before.Given as goal
+use Rattle.apl_pool.proofs.crew.+collect.Given as goal
 
 abbrev pub decreases-collect_shares : goal.decreases-collect_shares
 decreases-collect_shares g l = 2 * l.tasks
