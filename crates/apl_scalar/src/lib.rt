@@ -20,6 +20,3 @@ pub use arrays::{dyadic, monadic};
 pub use function::{OpFault, ScalarFunction as Prim};
 pub use laws::{answer_is_each_outcome, answers_are_in_range};
 pub use tables::{apply1, apply2, identity};
-
-#[cfg(test)]
-mod tests;

@@ -1,163 +1,13 @@
-//! The tables at worked values, and arrays of several shapes.
-
-use crate::{
-    OpFault, Prim, answer_is_each_outcome, answers_are_in_range, apply1, apply2, dyadic, identity,
-    monadic,
-};
-use apl_array::{Array, Elem, Shape};
-use apl_pool::{Every, Fault, Open, Pool};
+//! The scalar functions of arrays of several shapes, by several workers.
+use apl_array::{Array, Shape};
+use apl_pool::{Every, Open, Pool};
+use apl_scalar::{OpFault, Prim, answer_is_each_outcome, answers_are_in_range, dyadic, monadic};
 use std::alloc::Global;
 use std::process::Abort;
 use std::test::Fail;
 use std::thread::Threads;
 
 const LEAST: i64 = i64::MIN;
-
-const MOST: i64 = i64::MAX;
-
-#[test]
-fn monadic_functions(rt: HostRuntime) -> Result<(), Fail> {
-    for (f, x, wanted) in [
-        (Prim::Plus, LEAST, Ok(LEAST)),
-        (Prim::Minus, 7, Ok(-7)),
-        (Prim::Minus, LEAST, Err(Fault::Limit)),
-        (Prim::Times, -7, Ok(-1)),
-        (Prim::Times, 0, Ok(0)),
-        (Prim::Times, 7, Ok(1)),
-        (Prim::Divide, 1, Ok(1)),
-        (Prim::Divide, -1, Ok(-1)),
-        (Prim::Divide, 2, Err(Fault::Domain)),
-        (Prim::Divide, 0, Err(Fault::Domain)),
-        (Prim::Stile, -7, Ok(7)),
-        (Prim::Stile, LEAST, Err(Fault::Limit)),
-        (Prim::Bang, -1, Err(Fault::Domain)),
-        (Prim::Bang, 0, Ok(1)),
-        (Prim::Bang, 20, Ok(2432902008176640000)),
-        (Prim::Bang, 21, Err(Fault::Limit)),
-        (Prim::Bang, MOST, Err(Fault::Limit)),
-        (Prim::Floor, 5, Ok(5)),
-        (Prim::Ceiling, -5, Ok(-5)),
-        (Prim::Tilde, 0, Ok(1)),
-        (Prim::Tilde, 1, Ok(0)),
-        (Prim::Tilde, 2, Err(Fault::Domain)),
-    ] {
-        assert!(rt; f.is_monadic());
-        assert_eq!(rt; apply1(f, Elem::Int(x)), wanted.map(Elem::Int), "{f:?} {x}");
-        assert_eq!(rt; apply1(f, Elem::Chr('A')), Err(Fault::Domain));
-    }
-    assert!(rt; !Prim::Star.is_monadic());
-    Ok(())
-}
-
-#[test]
-fn dyadic_functions(rt: HostRuntime) -> Result<(), Fail> {
-    for (x, f, y, wanted) in [
-        (MOST, Prim::Plus, 1, Err(Fault::Limit)),
-        (0, Prim::Minus, LEAST, Err(Fault::Limit)),
-        (-1, Prim::Minus, LEAST, Ok(MOST)),
-        (-4611686018427387904, Prim::Times, 2, Ok(LEAST)),
-        (0, Prim::Divide, 0, Ok(1)),
-        (7, Prim::Divide, 2, Err(Fault::Domain)),
-        (7, Prim::Divide, 0, Err(Fault::Domain)),
-        (LEAST, Prim::Divide, -1, Err(Fault::Limit)),
-        (LEAST, Prim::Divide, 0, Err(Fault::Domain)),
-        (0, Prim::Divide, 5, Ok(0)),
-        (-6, Prim::Divide, 3, Ok(-2)),
-        (3, Prim::Stile, -7, Ok(2)),
-        (3, Prim::Stile, 7, Ok(1)),
-        (-3, Prim::Stile, 7, Ok(-2)),
-        (-3, Prim::Stile, -7, Ok(-1)),
-        (0, Prim::Stile, -5, Ok(-5)),
-        (5, Prim::Stile, LEAST, Ok(2)),
-        (LEAST, Prim::Stile, MOST, Ok(-1)),
-        (MOST, Prim::Stile, LEAST, Ok(MOST - 1)),
-        (-1, Prim::Stile, LEAST, Ok(0)),
-        (0, Prim::Stile, LEAST, Ok(LEAST)),
-        (-2, Prim::Star, 63, Ok(LEAST)),
-        (2, Prim::Star, 63, Err(Fault::Limit)),
-        (2, Prim::Star, 62, Ok(4611686018427387904)),
-        (2, Prim::Star, -1, Err(Fault::Domain)),
-        (0, Prim::Star, 0, Ok(1)),
-        (0, Prim::Star, -1, Err(Fault::Domain)),
-        (-1, Prim::Star, -3, Ok(-1)),
-        (0, Prim::Star, MOST, Ok(0)),
-        (-1, Prim::Star, LEAST, Ok(1)),
-        (-1, Prim::Star, MOST, Ok(-1)),
-        (2, Prim::Star, MOST, Err(Fault::Limit)),
-        (2, Prim::Bang, 5, Ok(10)),
-        (33, Prim::Bang, 66, Ok(7219428434016265740)),
-        (33, Prim::Bang, 67, Err(Fault::Limit)),
-        (0, Prim::Bang, 0, Ok(1)),
-        (5, Prim::Bang, 3, Ok(0)),
-        (-1, Prim::Bang, 3, Err(Fault::Domain)),
-        (3, Prim::Bang, -1, Err(Fault::Domain)),
-        (MOST - 1, Prim::Bang, MOST, Ok(MOST)),
-        (4611686018427387904, Prim::Bang, MOST, Err(Fault::Limit)),
-        (2, Prim::Floor, -3, Ok(-3)),
-        (2, Prim::Ceiling, -3, Ok(2)),
-        (1, Prim::And, 1, Ok(1)),
-        (0, Prim::And, 2, Err(Fault::Domain)),
-        (1, Prim::Or, 5, Err(Fault::Domain)),
-        (0, Prim::Or, 1, Ok(1)),
-        (-1, Prim::Nand, 0, Err(Fault::Domain)),
-        (1, Prim::Nand, 1, Ok(0)),
-        (0, Prim::Nor, 0, Ok(1)),
-        (1, Prim::Less, 2, Ok(1)),
-        (2, Prim::LessOrEqual, 2, Ok(1)),
-        (2, Prim::Equal, 3, Ok(0)),
-        (2, Prim::GreaterOrEqual, 3, Ok(0)),
-        (3, Prim::Greater, 2, Ok(1)),
-        (3, Prim::NotEqual, 2, Ok(1)),
-    ] {
-        assert!(rt; f.is_dyadic());
-        let answer = apply2(f, Elem::Int(x), Elem::Int(y));
-        assert_eq!(rt; answer, wanted.map(Elem::Int), "{x} {f:?} {y}");
-    }
-    assert!(rt; !Prim::Tilde.is_dyadic());
-    Ok(())
-}
-
-#[test]
-fn characters(rt: HostRuntime) -> Result<(), Fail> {
-    let (a, b, n) = (Elem::Chr('A'), Elem::Chr('B'), Elem::Int(65));
-    assert_eq!(rt; apply2(Prim::Equal, a, a), Ok(Elem::Int(1)));
-    assert_eq!(rt; apply2(Prim::NotEqual, a, b), Ok(Elem::Int(1)));
-    assert_eq!(rt; apply2(Prim::Equal, n, a), Ok(Elem::Int(0)));
-    assert_eq!(rt; apply2(Prim::NotEqual, a, n), Ok(Elem::Int(1)));
-    assert_eq!(rt; apply2(Prim::Less, a, b), Err(Fault::Domain));
-    assert_eq!(rt; apply2(Prim::Plus, a, n), Err(Fault::Domain));
-    Ok(())
-}
-
-#[test]
-fn identities(rt: HostRuntime) -> Result<(), Fail> {
-    for (f, wanted) in [
-        (Prim::Plus, Some(0)),
-        (Prim::Minus, Some(0)),
-        (Prim::Times, Some(1)),
-        (Prim::Divide, Some(1)),
-        (Prim::Stile, Some(0)),
-        (Prim::Star, Some(1)),
-        (Prim::Bang, Some(1)),
-        (Prim::Floor, Some(MOST)),
-        (Prim::Ceiling, Some(LEAST)),
-        (Prim::And, Some(1)),
-        (Prim::Or, Some(0)),
-        (Prim::Nand, None),
-        (Prim::Nor, None),
-        (Prim::Less, Some(0)),
-        (Prim::LessOrEqual, Some(1)),
-        (Prim::Equal, Some(1)),
-        (Prim::GreaterOrEqual, Some(1)),
-        (Prim::Greater, Some(0)),
-        (Prim::NotEqual, Some(0)),
-    ] {
-        assert_eq!(rt; identity(f), wanted, "{f:?}");
-    }
-    answer_is_each_outcome();
-    answers_are_in_range();
-    Ok(())
-}
 
 /// An argument of a function.
 #[derive(Clone, Copy, Debug, Drop)]
@@ -267,13 +117,17 @@ fn one_argument(rt: HostRuntime) -> Result<(), Fail> {
 }
 
 #[test]
-fn extended_arguments(rt: HostRuntime) -> Result<(), Fail> {
+fn two_arguments(rt: HostRuntime) -> Result<(), Fail> {
     const SQUARE: Argument = Numbers(&[2, 2], &[1, 2, 3, 4]);
     const CUBE: Argument = Numbers(&[1, 1, 1], &[5]);
+    const ZEROS: Argument = Numbers(&[2, 2], &[0, 0, 0, 0]);
+    const WIDE: Argument = Numbers(&[2, 3], &[0, 0, 0, 0, 0, 0]);
+    const HIGH: Argument = Numbers(&[3, 2], &[0, 0, 0, 0, 0, 0]);
     check_dyadic(
         &rt,
         rt.alloc(),
         &[
+            // extended arguments
             (
                 SQUARE,
                 Prim::Plus,
@@ -319,16 +173,7 @@ fn extended_arguments(rt: HostRuntime) -> Result<(), Fail> {
                 Text("ABA"),
                 Is(&[3], &[1, 1, 1]),
             ),
-        ],
-    )
-}
-
-#[test]
-fn arrays_of_characters(rt: HostRuntime) -> Result<(), Fail> {
-    check_dyadic(
-        &rt,
-        rt.alloc(),
-        &[
+            // characters
             (Text("AB"), Prim::Equal, Text("AC"), Is(&[2], &[1, 0])),
             (Numbers(&[], &[1]), Prim::Equal, Text("A"), Is(&[1], &[0])),
             (Text(""), Prim::Equal, Text(""), Is(&[0], &[])),
@@ -339,23 +184,11 @@ fn arrays_of_characters(rt: HostRuntime) -> Result<(), Fail> {
                 Numbers(&[2], &[1, 2]),
                 Stops(OpFault::Domain),
             ),
-        ],
-    )
-}
-
-#[test]
-fn shapes_come_before_elements(rt: HostRuntime) -> Result<(), Fail> {
-    const SQUARE: Argument = Numbers(&[2, 2], &[0, 0, 0, 0]);
-    const WIDE: Argument = Numbers(&[2, 3], &[0, 0, 0, 0, 0, 0]);
-    const HIGH: Argument = Numbers(&[3, 2], &[0, 0, 0, 0, 0, 0]);
-    check_dyadic(
-        &rt,
-        rt.alloc(),
-        &[
+            // shapes come before elements
             (
                 Numbers(&[2], &[1, 2]),
                 Prim::Plus,
-                SQUARE,
+                ZEROS,
                 Stops(OpFault::Rank),
             ),
             (WIDE, Prim::Plus, HIGH, Stops(OpFault::Length)),
@@ -371,16 +204,11 @@ fn shapes_come_before_elements(rt: HostRuntime) -> Result<(), Fail> {
                 Numbers(&[2], &[1, 2]),
                 Stops(OpFault::Length),
             ),
-            (Text("AB"), Prim::Less, SQUARE, Stops(OpFault::Rank)),
+            (Text("AB"), Prim::Less, ZEROS, Stops(OpFault::Rank)),
         ],
-    )
-}
-
-#[test]
-fn places_of_a_shape(rt: HostRuntime) -> Result<(), Fail> {
-    let shape = Shape::new(rt.alloc(), &[2, 3, 4])?;
-    assert_eq!(rt; shape.place(&[1, 2, 3]), 23);
-    assert_eq!(rt; shape.coordinate(23, 1), 2);
+    )?;
+    answer_is_each_outcome();
+    answers_are_in_range();
     Ok(())
 }
 
@@ -398,7 +226,7 @@ fn check_refusals<R: Abort + Threads + Sync>(
         for piece in [0, 1, 2, 3, 4096, usize::MAX] {
             let pool = Pool::new(workers, Every(piece), Open);
             let answer = dyadic(rt, alloc, &pool, Prim::Divide, &left, &right);
-            assert_eq!(rt; answer.err(), Some(fault));
+            assert!(rt; answer.err() == Some(fault));
         }
     }
     Ok(())
