@@ -1,4 +1,4 @@
-use Rattle.apl_syntax.proofs.tests.recogniser.+recogniser.Given as goal
+use Rattle.tests_reading.proofs.recogniser.+recogniser.Given as goal
 
 abbrev pub decreases-derive : goal.decreases-derive
 decreases-derive l = l.depth
