@@ -23,10 +23,3 @@ pub use runs::BLOCK;
 pub use sessions::Session;
 pub use sources::{Source, SourceFault};
 pub use streams::In;
-
-#[cfg(test)]
-mod gates;
-#[cfg(test)]
-mod rows;
-#[cfg(test)]
-mod tests;

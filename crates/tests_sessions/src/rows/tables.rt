@@ -1,7 +1,7 @@
 //! Sessions and what they write.
 
 /// Functions, names and assignments.
-pub(super) const VALUES: [(&str, &str); 17] = [
+pub(super) const VALUES: [(&str, &str); 20] = [
     ("10-4-3\n", "9\n"),
     ("2+3 4 5\n", "5 6 7\n"),
     ("10-4-3\n2+3 4 5\n", "9\n5 6 7\n"),
@@ -28,10 +28,16 @@ pub(super) const VALUES: [(&str, &str); 17] = [
         "DOMAIN ERROR\n      B←5+÷0×C←4\n          ∧\n4\nVALUE ERROR\n      B\n      ∧\n",
     ),
     ("(B)+B←2\n", "4\n"),
+    ("(10-4)-3\n", "3\n"),
+    ("2 3×5 7\n", "10 21\n"),
+    (
+        "A+A←3\nA\n(A←4)\nA←4 5\nB←Q+C←7\nC\nB\n",
+        "6\n3\n4\nVALUE ERROR\n      B←Q+C←7\n        ∧\n7\nVALUE ERROR\n      B\n      ∧\n",
+    ),
 ];
 
 /// The scalar functions.
-pub(super) const SCALARS: [(&str, &str); 29] = [
+pub(super) const SCALARS: [(&str, &str); 34] = [
     (
         "1 ¯9223372036854775808÷0 ¯1\n¯9223372036854775808 1÷¯1 0\n",
         "DOMAIN ERROR\n      1 ¯9223372036854775808÷0 ¯1\n                            ∧\nLIMIT ERROR\n      ¯9223372036854775808 1÷¯1 0\n                            ∧\n",
@@ -103,6 +109,17 @@ pub(super) const SCALARS: [(&str, &str); 29] = [
         "0-¯9223372036854775808\n¯1-¯9223372036854775808\n|¯9223372036854775808\n",
         "LIMIT ERROR\n      0-¯9223372036854775808\n       ∧\n9223372036854775807\nLIMIT ERROR\n      |¯9223372036854775808\n      ∧\n",
     ),
+    ("+3\n", "3\n"),
+    ("-3 0\n", "¯3 0\n"),
+    ("1 2 3⌊2\n1 2 3⌈2\n", "1 2 2\n2 2 3\n"),
+    (
+        "0 0 1 1∧0 1 0 1\n0 0 1 1∨0 1 0 1\n0 0 1 1⍲0 1 0 1\n0 0 1 1⍱0 1 0 1\n",
+        "0 0 0 1\n0 1 1 1\n1 1 1 0\n1 0 0 0\n",
+    ),
+    (
+        "1 2 3<2\n1 2 3≤2\n1 2 3=2\n1 2 3≥2\n1 2 3>2\n1 2 3≠2\n",
+        "1 0 0\n1 1 0\n0 1 0\n0 1 1\n0 0 1\n1 0 1\n",
+    ),
 ];
 
 /// Ends of lines, blank lines and comments.
@@ -122,7 +139,7 @@ pub(super) const LINES: [(&str, &str); 9] = [
 ];
 
 /// Numerals and the range.
-pub(super) const NUMERALS: [(&str, &str); 11] = [
+pub(super) const NUMERALS: [(&str, &str); 13] = [
     (
         "99999999999999999999 '\n",
         "LIMIT ERROR\n      99999999999999999999 '\n      ∧\n",
@@ -149,6 +166,14 @@ pub(super) const NUMERALS: [(&str, &str); 11] = [
         "9223372036854775808\n",
         "LIMIT ERROR\n      9223372036854775808\n      ∧\n",
     ),
+    (
+        "99999999999999999999\n",
+        "LIMIT ERROR\n      99999999999999999999\n      ∧\n",
+    ),
+    (
+        "¯ 9223372036854775808\n",
+        "SYNTAX ERROR\n      ¯ 9223372036854775808\n      ∧\n",
+    ),
 ];
 
 /// Text constants.
@@ -167,7 +192,7 @@ pub(super) const TEXTS: [(&str, &str); 11] = [
 ];
 
 /// Lines that are no statement, each with its caret.
-pub(super) const CARETS: [(&str, &str); 47] = [
+pub(super) const CARETS: [(&str, &str); 50] = [
     ("3+\n", "SYNTAX ERROR\n      3+\n       ∧\n"),
     ("_A\n", "SYNTAX ERROR\n      _A\n      ∧\n"),
     ("#\n", "SYNTAX ERROR\n      #\n      ∧\n"),
@@ -221,10 +246,13 @@ pub(super) const CARETS: [(&str, &str); 47] = [
         "3+\n(1+2\n1)\n2+<3\n3←4\nA+/B\n1 ¯ 2\n'AB\n",
         "SYNTAX ERROR\n      3+\n       ∧\nSYNTAX ERROR\n      (1+2\n      ∧\nSYNTAX ERROR\n      1)\n      ∧\nSYNTAX ERROR\n      2+<3\n       ∧\nSYNTAX ERROR\n      3←4\n      ∧\nSYNTAX ERROR\n      A+/B\n      ∧\nSYNTAX ERROR\n      1 ¯ 2\n        ∧\nSYNTAX ERROR\n      'AB\n      ∧\n",
     ),
+    ("+\\1\n", "SYNTAX ERROR\n      +\\1\n      ∧\n"),
+    ("1  ;3\n", "SYNTAX ERROR\n      1  ;3\n         ∧\n"),
+    ("1  ←3\n", "SYNTAX ERROR\n      1  ←3\n      ∧\n"),
 ];
 
 /// Forms that are not evaluated yet: their operands are, and then their caret is shown.
-pub(super) const FORMS_TO_COME: [(&str, &str); 13] = [
+pub(super) const FORMS_TO_COME: [(&str, &str); 18] = [
     ("⍴3\n", "SYNTAX ERROR\n      ⍴3\n      ∧\n"),
     ("1 2[1]\n", "SYNTAX ERROR\n      1 2[1]\n         ∧\n"),
     ("Q[1]←2\n", "SYNTAX ERROR\n      Q[1]←2\n          ∧\n"),
@@ -238,10 +266,15 @@ pub(super) const FORMS_TO_COME: [(&str, &str); 13] = [
     ("1∘.+2\n", "SYNTAX ERROR\n      1∘.+2\n        ∧\n"),
     ("+/1 2\n", "SYNTAX ERROR\n      +/1 2\n       ∧\n"),
     ("1÷B\n", "VALUE ERROR\n      1÷B\n        ∧\n"),
+    ("1+.×2\n", "SYNTAX ERROR\n      1+.×2\n        ∧\n"),
+    ("1⌽[9]1 2\n", "SYNTAX ERROR\n      1⌽[9]1 2\n       ∧\n"),
+    ("A←4 5\nA[;]\n", "SYNTAX ERROR\n      A[;]\n       ∧\n"),
+    ("B⍴A←3\nA\n", "VALUE ERROR\n      B⍴A←3\n      ∧\n3\n"),
+    ("Q[D;D←2]\nD\n", "VALUE ERROR\n      Q[D;D←2]\n      ∧\n2\n"),
 ];
 
 /// Commands.
-pub(super) const COMMANDS: [(&str, &str); 20] = [
+pub(super) const COMMANDS: [(&str, &str); 22] = [
     (")ORIGIN 00\n )ORIGIN 1\n", "WAS 1\nWAS 0\n"),
     (
         ")ORIGIN\n)WIDTH 29\n) CLEAR\n)CLEAR 1\n",
@@ -279,6 +312,14 @@ pub(super) const COMMANDS: [(&str, &str); 20] = [
     (
         ")ORIGIN 0\n)ORIGIN 0\n)ORIGIN 2\n)width 60\n)CLEAR\n)OFF\n1\n",
         "WAS 1\nWAS 0\nINCORRECT COMMAND\nINCORRECT COMMAND\nCLEAR WS\n",
+    ),
+    (
+        ") \n)A←3\n)CLEAR'\n)CLEARS\n)OF\n)off\n)ORIGIN \n)ORIGIN 256\n)ORIGIN 1A\n)ORIGIN ¯1\n)origin 1\n)WIDTH\n)WIDTH 131\n)WIDTH 286\n)WIDTH60\n",
+        "INCORRECT COMMAND\nINCORRECT COMMAND\nINCORRECT COMMAND\nINCORRECT COMMAND\nINCORRECT COMMAND\nINCORRECT COMMAND\nINCORRECT COMMAND\nINCORRECT COMMAND\nINCORRECT COMMAND\nINCORRECT COMMAND\nINCORRECT COMMAND\nINCORRECT COMMAND\nINCORRECT COMMAND\nINCORRECT COMMAND\nINCORRECT COMMAND\n",
+    ),
+    (
+        ")WIDTH 30\n1 2 3 4 5 6 7 8 9 10 11 12 13 14\n",
+        "WAS 120\n1 2 3 4 5 6 7 8 9 10 11 12 13\n      14\n",
     ),
 ];
 

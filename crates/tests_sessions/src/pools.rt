@@ -1,13 +1,17 @@
-//! Two workers meet at the gate, each piece passes it once, and the answers of small kernels.
-use crate::{Cut, Every, Fault, Gate, Kernel, MOST_PLACES, Open, Pool, Stop};
+//! Each piece passes the gate once, and the answers of small kernels.
+ghost use Rattle.std.specs.Prelude.{◌≤◌};
+ghost use Rattle.apl_pool.specs.declared.kernel.TheConstants.{MOST_PLACES};
+
+use apl_pool::{Cut, Every, Fault, Gate, Kernel, MOST_PLACES, Open, Pool, Stop};
 use std::sync::atomic::{AtomicU64, Ordering};
 use std::test::Fail;
 
 /// At each place below the count its number, but a fault from `limit` on.
 #[derive(Drop)]
-struct Numbers {
-    count: u16,
-    limit: usize,
+pub(super) struct Numbers {
+    pub(super) count: usize,
+    pub(super) limit: usize,
+    ghost few: { count ≤ MOST_PLACES },
 }
 
 impl Kernel for Numbers {
@@ -22,7 +26,7 @@ impl Kernel for Numbers {
     ghost outcome = { λ k place. if nat_lt place k.limit then Ok place else Err Limit };
 
     fn count(&self) -> usize {
-        self.count as usize
+        self.count
     }
 
     fn at(&self, place: usize) -> Result<usize, Fault> {
@@ -64,7 +68,7 @@ fn all_places_have_values(rt: HostRuntime) -> Result<(), Fail> {
         for piece in [0, 1, 2, 3, 4096, usize::MAX] {
             let kernel = Numbers { count: 7, limit: 7 };
             let values = Pool::new(workers, Every(piece), Open).fill(&rt, rt.alloc(), &kernel)?;
-            assert_eq!(rt; values.as_slice(), [0, 1, 2, 3, 4, 5, 6].as_slice());
+            assert!(rt; values.as_slice() == [0, 1, 2, 3, 4, 5, 6].as_slice());
         }
     }
     let none = Numbers { count: 0, limit: 0 };
@@ -83,7 +87,7 @@ fn the_least_fault_is_the_answer(rt: HostRuntime) -> Result<(), Fail> {
                 place: 3,
                 fault: Fault::Limit,
             };
-            assert_eq!(rt; answer.err(), Some(stop));
+            assert!(rt; answer.err() == Some(stop));
         }
     }
     Ok(())
@@ -98,7 +102,7 @@ fn a_refusal_takes_no_room(rt: HostRuntime) -> Result<(), Fail> {
             place: 0,
             fault: Fault::Domain,
         };
-        assert_eq!(rt; answer.err(), Some(stop));
+        assert!(rt; answer.err() == Some(stop));
     }
     Ok(())
 }
@@ -155,21 +159,21 @@ impl Gate for Noting {
 }
 
 /// Of 3 pieces: one worker has all, of two the second has the last two, of five the second, the
-/// fourth and the fifth have one each.
+/// fourth and the fifth have one each. One piece is the last worker's, by the caller's own thread.
 #[test]
 fn each_piece_passes_once(rt: HostRuntime) -> Result<(), Fail> {
-    for (workers, wanted) in [
-        (1u8, [1000, 1000, 1000, 0]),
-        (2, [1000, 1001, 1001, 0]),
-        (3, [1000, 1001, 1002, 0]),
-        (5, [1001, 1003, 1004, 0]),
-        (64, [1021, 1042, 1063, 0]),
+    for (workers, piece, wanted) in [
+        (1u8, 2, [1000, 1000, 1000, 0]),
+        (2, 2, [1000, 1001, 1001, 0]),
+        (3, 2, [1000, 1001, 1002, 0]),
+        (5, 2, [1001, 1003, 1004, 0]),
+        (64, 2, [1021, 1042, 1063, 0]),
+        (4, usize::MAX, [1003, 0, 0, 0]),
     ] {
         let noting = Noting::new();
         let kernel = Numbers { count: 5, limit: 5 };
-        let values = Pool::new(workers, Every(2), &noting).fill(&rt, rt.alloc(), &kernel)?;
-        assert_eq!(rt; values.as_slice(), [0, 1, 2, 3, 4].as_slice());
-        assert_eq!(rt; noting.noted(), wanted);
+        let values = Pool::new(workers, Every(piece), &noting).fill(&rt, rt.alloc(), &kernel)?;
+        assert!(rt; values.as_slice() == [0, 1, 2, 3, 4].as_slice() && noting.noted() == wanted);
     }
     Ok(())
 }
@@ -179,53 +183,9 @@ fn pieces_may_be_uneven(rt: HostRuntime) -> Result<(), Fail> {
     let noting = Noting::new();
     let kernel = Numbers { count: 9, limit: 9 };
     let values = Pool::new(3, Uneven, &noting).fill(&rt, rt.alloc(), &kernel)?;
-    assert_eq!(rt; values.as_slice(), [0, 1, 2, 3, 4, 5, 6, 7, 8].as_slice());
-    assert_eq!(rt; noting.noted(), [1000, 1001, 1002, 1002]);
-    Ok(())
-}
-
-/// One piece is the last worker's, by the caller's own thread.
-#[test]
-fn one_piece(rt: HostRuntime) -> Result<(), Fail> {
-    let noting = Noting::new();
-    let kernel = Numbers { count: 5, limit: 5 };
-    let values = Pool::new(4, Every(usize::MAX), &noting).fill(&rt, rt.alloc(), &kernel)?;
-    assert_eq!(rt; values.len(), 5);
-    assert_eq!(rt; noting.noted(), [1003, 0, 0, 0]);
-    Ok(())
-}
-
-/// Each of two pieces waits until the other one has come.
-#[derive(Drop)]
-struct Meeting {
-    come: [AtomicU64; 2],
-    met: AtomicU64,
-}
-
-impl Gate for Meeting {
-    fn pass(&self, _worker: u8, piece: u32) {
-        let other = if piece == 0 { 1 } else { 0 };
-        if let Some(here) = self.come.get(piece as usize) {
-            here.store(1, Ordering::SeqCst);
-        }
-        for _ in 0..2_000_000_000u64 {
-            if self.come[other].load(Ordering::SeqCst) == 1 {
-                self.met.fetch_add(1, Ordering::SeqCst);
-                return;
-            }
-        }
-    }
-}
-
-#[test]
-fn gate_two(rt: HostRuntime) -> Result<(), Fail> {
-    let meeting = Meeting {
-        come: [AtomicU64::new(0), AtomicU64::new(0)],
-        met: AtomicU64::new(0),
-    };
-    let kernel = Numbers { count: 2, limit: 2 };
-    let values = Pool::new(2, Every(1), &meeting).fill(&rt, rt.alloc(), &kernel)?;
-    assert_eq!(rt; values.as_slice(), [0, 1].as_slice());
-    assert_eq!(rt; meeting.met.load(Ordering::SeqCst), 2);
+    assert!(rt;
+        values.as_slice() == [0, 1, 2, 3, 4, 5, 6, 7, 8].as_slice()
+            && noting.noted() == [1000, 1001, 1002, 1002]
+    );
     Ok(())
 }
