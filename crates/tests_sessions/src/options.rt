@@ -1,5 +1,5 @@
 //! The options of the program's command line.
-use apl_session::{refusal, settings};
+use apl_options::{refusal, settings};
 use clap::error::ErrorKind;
 use std::test::Fail;
 

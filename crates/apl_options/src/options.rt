@@ -1,7 +1,7 @@
 //! What the options of the program's command line ask for.
 ghost use Rattle.std.specs.Prelude.{◌≤◌};
 ghost use Rattle.apl_pool.specs.declared.pool.TheConstants.{MOST_WORKERS};
-ghost use Rattle.apl_session.specs.declared.options.TheConstants.{LONGEST_PIECE};
+ghost use Rattle.apl_options.specs.declared.options.TheConstants.{LONGEST_PIECE};
 
 /// The most elements that a piece may be asked to have.
 pub const LONGEST_PIECE: u32 = 1_048_576;
