@@ -11,6 +11,3 @@ mod workspace;
 pub use laws::lawful_stays;
 pub use statement::{EvalStop, Shown, eval};
 pub use workspace::Workspace;
-
-#[cfg(test)]
-mod tests;

@@ -6,8 +6,6 @@ mod places;
 mod program;
 mod reader;
 mod statement;
-#[cfg(test)]
-mod tests;
 
 pub use program::{
     Axis, Brackets, Columns, Form, Function, IndexedName, Operation, Program, Target,

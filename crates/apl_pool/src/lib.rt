@@ -18,6 +18,3 @@ pub use cut::{Cut, Every};
 pub use gate::{Gate, Open};
 pub use kernel::{Fault, Kernel, MOST_PLACES, Stop};
 pub use pool::{MOST_WORKERS, Pool};
-
-#[cfg(test)]
-mod tests;

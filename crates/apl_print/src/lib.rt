@@ -19,6 +19,3 @@ pub use reports::Report;
 pub use sinks::{Sink, SinkFault, put_all};
 pub use streams::Out;
 pub use values::{numerals, print, shown_always, shown_once};
-
-#[cfg(test)]
-mod tests;

@@ -20,6 +20,3 @@ pub use apl_array::ScalarFunction as Prim;
 pub use arrays::{dyadic, monadic};
 pub use laws::answers_are_in_range;
 pub use tables::{apply1, apply2, identity};
-
-#[cfg(test)]
-mod tests;

@@ -10,6 +10,3 @@ pub use apl_grammar::{
 };
 pub use lines::{Command, Line, ReadStop};
 pub use reader::{one_reading, read, some_reading};
-
-#[cfg(test)]
-mod tests;

@@ -14,6 +14,3 @@ pub use laws::{
 pub use lexer::{LexicalStop, blanks_before, tokens};
 pub use symbols::is_digit;
 pub use token::{Class, Constant, Glyph, Lexeme, Name, Token};
-
-#[cfg(test)]
-mod tests;

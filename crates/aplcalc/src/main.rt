@@ -1,9 +1,10 @@
 //! Answers a session from standard input on standard output.
 #![tactic(auto)]
 
+use apl_options::{Settings, refusal, settings};
 use apl_pool::{Every, Open, Pool};
 use apl_print::Out;
-use apl_session::{In, RunFault, Settings, ending, refusal, run, settings};
+use apl_session::{In, RunFault, ending, run};
 use clap::error::ErrorKind;
 use clap::{Command, Error};
 use std::alloc::{AllocError, Global};

@@ -1,3 +1,0 @@
-mod reports;
-mod sinks;
-mod values;

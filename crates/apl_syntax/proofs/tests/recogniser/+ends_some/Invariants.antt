@@ -1,4 +1,0 @@
-use Rattle.apl_syntax.proofs.tests.recogniser.+ends_some.Given as goal
-
-abbrev pub decreases-ends_some : goal.decreases-ends_some
-decreases-ends_some l = l.depth

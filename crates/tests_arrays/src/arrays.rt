@@ -1,0 +1,72 @@
+//! Shapes, places of a small array, and arrays that keep their kind.
+use apl_array::{
+    Array, Elem, Kind, MOST_ELEMENTS, Shape, ShapeError, elements_determine_array,
+    inserted_index_has_place, places_match_index_lists, range_is_decided, replaced_index_has_place,
+};
+use std::test::Fail;
+
+#[test]
+fn shapes(rt: HostRuntime) {
+    let rows: [(&[usize], Result<usize, ShapeError>); 6] = [
+        (&[1; 9], Err(ShapeError::Rank)),
+        (&[MOST_ELEMENTS + 1; 9], Err(ShapeError::Rank)),
+        (&[MOST_ELEMENTS, 2], Err(ShapeError::Count)),
+        (&[0, MOST_ELEMENTS + 1], Err(ShapeError::Count)),
+        (&[MOST_ELEMENTS, MOST_ELEMENTS, 0], Ok(0)),
+        (&[], Ok(1)),
+    ];
+    for (lengths, wanted) in rows {
+        let count = Shape::new(rt.alloc(), lengths).map(|shape| shape.count());
+        assert!(rt; count == wanted, "{lengths:?}");
+    }
+}
+
+/// Each place of a shape is found again from the indexes along its axes.
+#[test]
+fn places(rt: HostRuntime) -> Result<(), Fail> {
+    let shape = Shape::new(rt.alloc(), &[2, 3, 4])?.copy(rt.alloc())?;
+    assert!(rt; shape.rank() == 3 && shape.count() == 24);
+    assert!(rt; shape.axis(1) == 3 && shape.lengths()[2] == 4);
+    assert!(rt; shape.place(&[1, 2, 3]) == 23 && shape.place(&[1, 0, 2]) == 14);
+    for place in 0..24 {
+        assert!(rt;
+            shape.coordinate(place, 0) == place / 12
+                && shape.coordinate(place, 1) == place / 4 % 3
+                && shape.coordinate(place, 2) == place % 4
+        );
+    }
+    places_match_index_lists();
+    inserted_index_has_place();
+    replaced_index_has_place();
+    Ok(())
+}
+
+#[test]
+fn numbers_in_row_order(rt: HostRuntime) -> Result<(), Fail> {
+    let alloc = rt.alloc();
+    let shape = Shape::new(alloc, &[2, 3])?;
+    assert!(rt; shape.count() == 6);
+    let table = Array::ints(shape, vec![in alloc; 1, 2, 3, 4, i64::MIN, i64::MAX]?);
+    assert!(rt; table.shape().rank() == 2 && table.kind() == Kind::Number);
+    assert!(rt; table.get(4) == Elem::Int(i64::MIN) && table.get(5) == Elem::Int(i64::MAX));
+    assert!(rt;
+        table.numbers().is_some_and(|numbers| numbers.len() == 6) && table.characters().is_none()
+    );
+    elements_determine_array();
+    range_is_decided();
+    Ok(())
+}
+
+#[test]
+fn an_empty_array_keeps_its_kind(rt: HostRuntime) -> Result<(), Fail> {
+    let alloc = rt.alloc();
+    let shape = Shape::new(alloc, &[0])?;
+    assert!(rt; shape.count() == 0);
+    let text = Array::chars(shape, Vec::new(alloc)).copy(alloc)?;
+    assert!(rt; text.kind() == Kind::Character && text.numbers().is_none());
+    assert!(rt;
+        text.characters()
+            .is_some_and(|characters| characters.is_empty())
+    );
+    Ok(())
+}

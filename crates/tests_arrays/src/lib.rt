@@ -1,0 +1,11 @@
+//! Tests of arrays, of the scalar functions, and of printed values.
+#![tactic(auto)]
+
+#[cfg(test)]
+mod arrays;
+#[cfg(test)]
+mod elements;
+#[cfg(test)]
+mod printed;
+#[cfg(test)]
+mod scalars;

@@ -1,0 +1,13 @@
+//! Tests of what lines read as: fronts, tokens, programs, commands and carets.
+#![tactic(auto)]
+
+#[cfg(test)]
+mod lexing;
+#[cfg(test)]
+mod lines;
+#[cfg(test)]
+mod programs;
+#[cfg(test)]
+mod recogniser;
+#[cfg(test)]
+mod short_lines;

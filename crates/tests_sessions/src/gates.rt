@@ -1,0 +1,161 @@
+//! Work is done by two workers at once: of places, of functions of arrays, and of lines.
+ghost use Rattle.std.specs.Prelude.{◌≤◌};
+ghost use Rattle.tests_sessions.specs.declared.gates.TheConstants.{HALF};
+
+use super::pools::Numbers;
+use apl_pool::{Every, Gate, Pool};
+use apl_print::MemorySink;
+use apl_session::{BLOCK, MemorySource, run};
+use std::alloc::{AllocError, Global};
+use std::sync::atomic::{AtomicU64, Ordering};
+use std::test::Fail;
+use std::thread::Threads;
+
+/// Each of two pieces waits until the other one has come as often.
+#[derive(Drop)]
+struct Meeting {
+    come: [AtomicU64; 2],
+    met: AtomicU64,
+}
+
+impl Meeting {
+    fn new() -> Meeting {
+        Meeting {
+            come: [AtomicU64::new(0), AtomicU64::new(0)],
+            met: AtomicU64::new(0),
+        }
+    }
+
+    /// How often a piece has met the other one.
+    fn met(&self) -> u64 {
+        self.met.load(Ordering::SeqCst)
+    }
+}
+
+impl Gate for Meeting {
+    fn pass(&self, _worker: u8, piece: u32) {
+        let [first, second] = &self.come;
+        let (here, there) = if piece == 0 {
+            (first, second)
+        } else {
+            (second, first)
+        };
+        let before = here.fetch_add(1, Ordering::SeqCst);
+        for _ in 0..2_000_000_000u64 {
+            if there.load(Ordering::SeqCst) > before {
+                self.met.fetch_add(1, Ordering::SeqCst);
+                return;
+            }
+        }
+    }
+}
+
+/// Half as many places as the largest arrays here have.
+const HALF: usize = 1 << 19;
+
+/// Fills twice so many places by two workers. Says whether each place has its value, and both pieces met.
+fn halves_meet<R: Threads + Sync>(rt: &R, alloc: Global, half: usize) -> Result<bool, Fail>
+    requires { half ≤ HALF }
+{
+    let meeting = Meeting::new();
+    let kernel = Numbers {
+        count: 2 * half,
+        limit: 2 * half,
+    };
+    let values = Pool::new(2, Every(half), &meeting).fill(rt, alloc, &kernel)?;
+    let has_values = values
+        .iter()
+        .enumerate()
+        .all(|(place, value)| place == *value);
+    Ok(has_values && values.len() == 2 * half && meeting.met() == 2)
+}
+
+#[test]
+fn gate_two(rt: HostRuntime) -> Result<(), Fail> {
+    assert!(rt; halves_meet(&rt, rt.alloc(), 1)? && halves_meet(&rt, rt.alloc(), HALF)?);
+    Ok(())
+}
+
+/// Functions of the elements of `A`, which are all 1, and what they are for two of them.
+const FUNCTIONS: [(&str, &str); 28] = [
+    ("+A", "1 1\n"),
+    ("-A", "¯1 ¯1\n"),
+    ("×A", "1 1\n"),
+    ("÷A", "1 1\n"),
+    ("|A", "1 1\n"),
+    ("!A", "1 1\n"),
+    ("⌊A", "1 1\n"),
+    ("⌈A", "1 1\n"),
+    ("~A", "0 0\n"),
+    ("A+A", "2 2\n"),
+    ("A-A", "0 0\n"),
+    ("A×A", "1 1\n"),
+    ("A÷A", "1 1\n"),
+    ("A|A", "0 0\n"),
+    ("A*A", "1 1\n"),
+    ("A!A", "1 1\n"),
+    ("A⌊A", "1 1\n"),
+    ("A⌈A", "1 1\n"),
+    ("A∧A", "1 1\n"),
+    ("A∨A", "1 1\n"),
+    ("A⍲A", "0 0\n"),
+    ("A⍱A", "0 0\n"),
+    ("A<A", "0 0\n"),
+    ("A≤A", "1 1\n"),
+    ("A=A", "1 1\n"),
+    ("A≥A", "1 1\n"),
+    ("A>A", "0 0\n"),
+    ("A≠A", "0 0\n"),
+];
+
+/// Answers a session by two workers and pieces of this length. Says whether it wrote the text, and both pieces met
+/// at each of so many functions.
+fn meets<R: Threads + Sync>(
+    rt: &R,
+    alloc: Global,
+    piece: usize,
+    session: &str,
+    functions: u32,
+    text: &str,
+) -> bool {
+    let meeting = Meeting::new();
+    let pool = Pool::new(2, Every(piece), &meeting);
+    let mut source = MemorySource::new(session.as_bytes(), BLOCK, None);
+    let mut sink = MemorySink::new(alloc, BLOCK, None);
+    let outcome = run(rt, alloc, &pool, &mut source, &mut sink);
+    outcome.is_ok() && sink.bytes() == text.as_bytes() && meeting.met() == 2 * u64::from(functions)
+}
+
+#[test]
+fn gate_run(rt: HostRuntime) {
+    assert!(rt; meets(&rt, rt.alloc(), 1, "1 2+3 4\n", 1, "4 6\n"));
+}
+
+/// The line that makes `A` so many numbers 1.
+fn ones(alloc: Global, count: usize) -> Result<String, AllocError> {
+    let mut line = String::from_str(alloc, "A←'x'='")?;
+    for _ in 0..count {
+        line.push('x')?;
+    }
+    line.push_str("'\n")?;
+    Ok(line)
+}
+
+#[test]
+fn each_scalar_function_uses_the_pool(rt: HostRuntime) -> Result<(), Fail> {
+    let alloc = rt.alloc();
+    let mut two = String::from_str(alloc, "A←1 1\n")?;
+    let mut texts = String::new(alloc);
+    let mut some = ones(alloc, 2048)?;
+    for (function, text) in &FUNCTIONS {
+        write!(two, "{function}\n")?;
+        texts.push_str(text)?;
+        write!(some, "B←{function}\n")?;
+    }
+    let mut many = ones(alloc, 2 * HALF)?;
+    many.push_str("B←~A\nB←A+A\n")?;
+    assert!(rt; meets(&rt, alloc, 1, two.as_str(), 28, texts.as_str()));
+    assert!(rt; meets(&rt, alloc, 1024, some.as_str(), 29, ""));
+    assert!(rt; meets(&rt, alloc, HALF, many.as_str(), 3, ""));
+    Ok(())
+}

@@ -1,0 +1,19 @@
+//! Tests of sessions, and of what carries them: pools, workspaces, sources, sinks, reports and options.
+#![tactic(auto)]
+
+#[cfg(test)]
+mod devices;
+#[cfg(test)]
+mod failures;
+#[cfg(test)]
+mod gates;
+#[cfg(test)]
+mod options;
+#[cfg(test)]
+mod pools;
+#[cfg(test)]
+mod reports;
+#[cfg(test)]
+mod rows;
+#[cfg(test)]
+mod sizes;

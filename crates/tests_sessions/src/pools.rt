@@ -1,0 +1,191 @@
+//! Each piece passes the gate once, and the answers of small kernels.
+ghost use Rattle.std.specs.Prelude.{◌≤◌};
+ghost use Rattle.apl_pool.specs.declared.kernel.TheConstants.{MOST_PLACES};
+
+use apl_pool::{Cut, Every, Fault, Gate, Kernel, MOST_PLACES, Open, Pool, Stop};
+use std::sync::atomic::{AtomicU64, Ordering};
+use std::test::Fail;
+
+/// At each place below the count its number, but a fault from `limit` on.
+#[derive(Drop)]
+pub(super) struct Numbers {
+    pub(super) count: usize,
+    pub(super) limit: usize,
+    ghost few: { count ≤ MOST_PLACES },
+}
+
+impl Kernel for Numbers {
+    ghost use Rattle.std.specs.Prelude.{nat_lt, Ok, Err, if◌then◌else◌};
+    ghost use Rattle.apl_pool.specs.declared.kernel.Fault.{Fault};
+    ghost use Rattle.apl_pool.specs.declared.kernel.Fault.TheVariants.{Limit};
+
+    type Out = usize;
+
+    ghost place_count = { λ k. k.count };
+
+    ghost outcome = { λ k place. if nat_lt place k.limit then Ok place else Err Limit };
+
+    fn count(&self) -> usize {
+        self.count
+    }
+
+    fn at(&self, place: usize) -> Result<usize, Fault> {
+        if place < self.limit {
+            Ok(place)
+        } else {
+            Err(Fault::Limit)
+        }
+    }
+}
+
+/// A fault at every place of the most places that there are. Room for all values would be 8 TiB.
+#[derive(Drop)]
+struct Refusing;
+
+impl Kernel for Refusing {
+    ghost use Rattle.std.specs.Prelude.{Err};
+    ghost use Rattle.apl_pool.specs.declared.kernel.Fault.TheVariants.{Domain};
+    ghost use Rattle.apl_pool.specs.declared.kernel.TheConstants.{MOST_PLACES};
+
+    type Out = [u64; 1024];
+
+    ghost place_count = { λ k. MOST_PLACES };
+
+    ghost outcome = { λ k place. Err Domain };
+
+    fn count(&self) -> usize {
+        MOST_PLACES
+    }
+
+    fn at(&self, _place: usize) -> Result<[u64; 1024], Fault> {
+        Err(Fault::Domain)
+    }
+}
+
+#[test]
+fn all_places_have_values(rt: HostRuntime) -> Result<(), Fail> {
+    for workers in [1, 2, 3, 64u8] {
+        for piece in [0, 1, 2, 3, 4096, usize::MAX] {
+            let kernel = Numbers { count: 7, limit: 7 };
+            let values = Pool::new(workers, Every(piece), Open).fill(&rt, rt.alloc(), &kernel)?;
+            assert!(rt; values.as_slice() == [0, 1, 2, 3, 4, 5, 6].as_slice());
+        }
+    }
+    let none = Numbers { count: 0, limit: 0 };
+    let values = Pool::new(4, Every(1), Open).fill(&rt, rt.alloc(), &none)?;
+    assert!(rt; values.is_empty());
+    Ok(())
+}
+
+#[test]
+fn the_least_fault_is_the_answer(rt: HostRuntime) -> Result<(), Fail> {
+    for workers in [1, 2, 3, 64u8] {
+        for piece in [0, 1, 2, 3, 4096, usize::MAX] {
+            let kernel = Numbers { count: 7, limit: 3 };
+            let answer = Pool::new(workers, Every(piece), Open).fill(&rt, rt.alloc(), &kernel);
+            let stop = Stop::Fault {
+                place: 3,
+                fault: Fault::Limit,
+            };
+            assert!(rt; answer.err() == Some(stop));
+        }
+    }
+    Ok(())
+}
+
+/// No room is taken for the values where the first place has a fault.
+#[test]
+fn a_refusal_takes_no_room(rt: HostRuntime) -> Result<(), Fail> {
+    for workers in [1, 64u8] {
+        let answer = Pool::new(workers, Every(1), Open).fill(&rt, rt.alloc(), &Refusing);
+        let stop = Stop::Fault {
+            place: 0,
+            fault: Fault::Domain,
+        };
+        assert!(rt; answer.err() == Some(stop));
+    }
+    Ok(())
+}
+
+/// Pieces of 3, 1, 2 and what is left.
+#[derive(Drop)]
+struct Uneven;
+
+impl Cut for Uneven {
+    fn first(&self, start: usize, rest: usize) -> usize {
+        match start {
+            0 => 3,
+            3 => 1,
+            4 => 2,
+            _ => rest,
+        }
+    }
+}
+
+/// For each of four pieces 1000 for each time that it passed, and the numbers of the workers.
+#[derive(Drop)]
+struct Noting {
+    passed: [AtomicU64; 4],
+}
+
+impl Noting {
+    fn new() -> Noting {
+        Noting {
+            passed: [
+                AtomicU64::new(0),
+                AtomicU64::new(0),
+                AtomicU64::new(0),
+                AtomicU64::new(0),
+            ],
+        }
+    }
+
+    fn noted(&self) -> [u64; 4] {
+        [
+            self.passed[0].load(Ordering::SeqCst),
+            self.passed[1].load(Ordering::SeqCst),
+            self.passed[2].load(Ordering::SeqCst),
+            self.passed[3].load(Ordering::SeqCst),
+        ]
+    }
+}
+
+impl Gate for Noting {
+    fn pass(&self, worker: u8, piece: u32) {
+        if let Some(note) = self.passed.get(piece as usize) {
+            note.fetch_add(1000 + worker as u64, Ordering::SeqCst);
+        }
+    }
+}
+
+/// Of 3 pieces: one worker has all, of two the second has the last two, of five the second, the
+/// fourth and the fifth have one each. One piece is the last worker's, by the caller's own thread.
+#[test]
+fn each_piece_passes_once(rt: HostRuntime) -> Result<(), Fail> {
+    for (workers, piece, wanted) in [
+        (1u8, 2, [1000, 1000, 1000, 0]),
+        (2, 2, [1000, 1001, 1001, 0]),
+        (3, 2, [1000, 1001, 1002, 0]),
+        (5, 2, [1001, 1003, 1004, 0]),
+        (64, 2, [1021, 1042, 1063, 0]),
+        (4, usize::MAX, [1003, 0, 0, 0]),
+    ] {
+        let noting = Noting::new();
+        let kernel = Numbers { count: 5, limit: 5 };
+        let values = Pool::new(workers, Every(piece), &noting).fill(&rt, rt.alloc(), &kernel)?;
+        assert!(rt; values.as_slice() == [0, 1, 2, 3, 4].as_slice() && noting.noted() == wanted);
+    }
+    Ok(())
+}
+
+#[test]
+fn pieces_may_be_uneven(rt: HostRuntime) -> Result<(), Fail> {
+    let noting = Noting::new();
+    let kernel = Numbers { count: 9, limit: 9 };
+    let values = Pool::new(3, Uneven, &noting).fill(&rt, rt.alloc(), &kernel)?;
+    assert!(rt;
+        values.as_slice() == [0, 1, 2, 3, 4, 5, 6, 7, 8].as_slice()
+            && noting.noted() == [1000, 1001, 1002, 1002]
+    );
+    Ok(())
+}

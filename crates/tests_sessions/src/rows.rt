@@ -1,0 +1,159 @@
+//! Whole sessions, and what they write.
+mod tables;
+
+use apl_pool::{Every, Open, Pool};
+use apl_print::MemorySink;
+use apl_session::{MemorySource, run};
+use std::alloc::{AllocError, Global};
+use std::process::Abort;
+use std::test::Fail;
+use std::thread::Threads;
+use tables::{CARETS, COMMANDS, FORMS_TO_COME, LINES, NUMERALS, SCALARS, TEXTS, UNLISTED, VALUES};
+
+/// Whether a session writes exactly this on a pool, by takes and puts of at most so many bytes.
+fn writes<R: Threads + Sync>(
+    rt: &R,
+    alloc: Global,
+    pool: &Pool<Every, Open>,
+    session: &[u8],
+    most: usize,
+    text: &[u8],
+) -> bool {
+    let mut source = MemorySource::new(session, most.max(1), None);
+    let mut sink = MemorySink::new(alloc, most.max(1), None);
+    let outcome = run(rt, alloc, pool, &mut source, &mut sink);
+    outcome.is_ok() && sink.bytes() == text
+}
+
+/// Takes and puts of single bytes, of a few, and of as many as there are.
+const SIZES: [usize; 3] = [1, 7, ALL];
+
+/// More bytes than a session here has.
+const ALL: usize = 1 << 20;
+
+const WORKERS: [u8; 4] = [1, 2, 3, 64];
+
+/// What a cut answers to how many elements a piece has. One of none and one of more than there are cut too.
+const PIECES: [usize; 6] = [1, 2, 3, 4096, 0, usize::MAX];
+
+/// Checks what each session of a table writes, by takes and puts of each size, and on each pool.
+fn check<R: Abort + Threads + Sync>(rt: &R, alloc: Global, sessions: &[(&str, &str)]) {
+    let pool = Pool::new(3, Every(2), Open);
+    for most in SIZES {
+        check_on(rt, alloc, &pool, most, sessions);
+    }
+    for workers in WORKERS {
+        for piece in PIECES {
+            let pool = Pool::new(workers, Every(piece), Open);
+            check_on(rt, alloc, &pool, ALL, sessions);
+        }
+    }
+}
+
+/// Checks what each session of a table writes on a pool, by takes and puts of at most so many bytes.
+fn check_on<R: Abort + Threads + Sync>(
+    rt: &R,
+    alloc: Global,
+    pool: &Pool<Every, Open>,
+    most: usize,
+    sessions: &[(&str, &str)],
+) {
+    for (session, text) in sessions {
+        let is_written = writes(rt, alloc, pool, session.as_bytes(), most, text.as_bytes());
+        assert!(rt; is_written, "{session}");
+    }
+}
+
+#[test]
+fn statements(rt: HostRuntime) {
+    for sessions in [VALUES.as_slice(), &SCALARS, &FORMS_TO_COME] {
+        check(&rt, rt.alloc(), sessions);
+    }
+}
+
+#[test]
+fn lines(rt: HostRuntime) {
+    for sessions in [
+        LINES.as_slice(),
+        &NUMERALS,
+        &TEXTS,
+        &CARETS,
+        &COMMANDS,
+        &UNLISTED,
+    ] {
+        check(&rt, rt.alloc(), sessions);
+    }
+}
+
+#[test]
+fn bytes_that_are_no_text(rt: HostRuntime) {
+    let pool = Pool::new(2, Every(1), Open);
+    let sessions: [(&[u8], &str); 4] = [
+        (b"A\xff\n", "CHARACTER ERROR\n      A\n       ∧\n"),
+        (b"1+\xe2\x8d\n", "CHARACTER ERROR\n      1+\n        ∧\n"),
+        (b"\xc0\x80\n", "CHARACTER ERROR\n      \n      ∧\n"),
+        (b"\xed\xa0\x80\n", "CHARACTER ERROR\n      \n      ∧\n"),
+    ];
+    for most in SIZES {
+        for (session, text) in sessions {
+            assert!(rt; writes(&rt, rt.alloc(), &pool, session, most, text.as_bytes()));
+        }
+    }
+}
+
+/// A report of three lines, with the caret at a column.
+fn report(alloc: Global, name: &str, line: &[u8], column: usize) -> Result<Vec<u8>, AllocError> {
+    let mut text = Vec::new(alloc);
+    text.extend_from_slice(name.as_bytes())?;
+    text.extend_from_slice(b" ERROR\n      ")?;
+    text.extend_from_slice(line)?;
+    text.extend_from_slice(b"\n      ")?;
+    for _ in 0..column {
+        text.push(b' ')?;
+    }
+    text.extend_from_slice("∧\n".as_bytes())?;
+    Ok(text)
+}
+
+/// How many brackets or digits a long line has.
+const MANY: usize = 10_000;
+
+/// Checks what a long session writes.
+fn check_long<R: Abort + Threads + Sync>(rt: &R, alloc: Global, session: &[u8], text: &[u8]) {
+    let pool = Pool::new(4, Every(4096), Open);
+    for most in SIZES {
+        assert!(rt;
+            writes(rt, alloc, &pool, session, most, text),
+            "{most} at a time"
+        );
+    }
+}
+
+#[test]
+fn long_lines(rt: HostRuntime) -> Result<(), Fail> {
+    let alloc = rt.alloc();
+    let digits = vec![in alloc; b'9'; 1000]?;
+    let limit = report(alloc, "LIMIT", digits.as_slice(), 0)?;
+    check_long(&rt, alloc, digits.as_slice(), limit.as_slice());
+    let unlisted = vec![in alloc; 0xe2; 100_000]?;
+    let character = report(alloc, "CHARACTER", b"", 0)?;
+    check_long(&rt, alloc, unlisted.as_slice(), character.as_slice());
+    Ok(())
+}
+
+#[test]
+fn many_parentheses(rt: HostRuntime) -> Result<(), Fail> {
+    let alloc = rt.alloc();
+    let mut opened = vec![in alloc; b'('; MANY]?;
+    opened.push(b'1')?;
+    let unclosed = report(alloc, "SYNTAX", opened.as_slice(), MANY - 1)?;
+    check_long(&rt, alloc, opened.as_slice(), unclosed.as_slice());
+    let closing = vec![in alloc; b')'; MANY]?;
+    opened.extend_from_slice(closing.as_slice())?;
+    check_long(&rt, alloc, opened.as_slice(), b"1\n");
+    let mut closed = vec![in alloc; b'1'; 1]?;
+    closed.extend_from_slice(closing.as_slice())?;
+    let unopened = report(alloc, "SYNTAX", closed.as_slice(), 0)?;
+    check_long(&rt, alloc, closed.as_slice(), unopened.as_slice());
+    Ok(())
+}
