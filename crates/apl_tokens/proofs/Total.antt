@@ -11,7 +11,8 @@ use Rattle.apl_tokens.specs.declared.token.Lexeme.{Lexeme}
 use Rattle.apl_tokens.specs.declared.token.Lexeme.TheVariants.{Constant, Name}
 use Rattle.apl_tokens.specs.Symbols.{is_digit, is_letter, is_name_character, is_blank, quote, is_quote, comment_mark, symbol_lexeme}
 use Rattle.apl_tokens.specs.Fronts.{AllPass}
-use Rattle.apl_tokens.specs.Lexis.{BeginsWithNo, number_of_digits, IsNumeral, plain, negative, negated, Numeral, AreNumerals, EndsNumerals, HasNoNextNumeral, AreInRange, most_elements, constant_shape, doubled, quoted, IsToken, LexesUpTo, IsEnd, Lexes, BeginsWithNoToken, FirstOutOfRange, here, later, IsBeyondLimit, HasLexicalFault, HasLimitFault}
+use Rattle.apl_array.specs.Shape.{most_elements}
+use Rattle.apl_tokens.specs.Lexis.{BeginsWithNo, number_of_digits, IsNumeral, plain, negative, negated, Numeral, AreNumerals, EndsNumerals, HasNoNextNumeral, AreInRange, constant_shape, doubled, quoted, IsToken, LexesUpTo, IsEnd, Lexes, BeginsWithNoToken, FirstOutOfRange, here, later, IsBeyondLimit, HasLexicalFault, HasLimitFault}
 use Rattle.apl_tokens.specs.Scans.{HasNoNumeral}
 use Rattle.apl_tokens.proofs.Runs.{no_plain, no_negative, no_blanks, numeral_begins, all_blanks}
 use Rattle.apl_tokens.proofs.Quotes.{no_quotation}

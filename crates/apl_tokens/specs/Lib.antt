@@ -2,6 +2,6 @@ pub mod Symbols
 pub mod Fronts
 pub mod Lexis
 pub mod Stops
-pub mod Held
+pub mod Storage
 pub mod Scans
 pub mod Constants

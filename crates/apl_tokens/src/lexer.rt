@@ -5,7 +5,7 @@ ghost use Rattle.apl_tokens.specs.Fronts.{AllPass};
 ghost use Rattle.apl_array.specs.Array.{number_array, character_array};
 ghost use Rattle.apl_tokens.specs.Lexis.{BeginsWithNo, number_of_digits, negated, HasNoNextNumeral, AreBlanks, EndsNumerals, constant_shape, Lexes};
 ghost use Rattle.apl_tokens.specs.Stops.{IsLexicalStopOf};
-ghost use Rattle.apl_tokens.specs.Scans.{passes, IsHeldAs, IsNumeralAt, HasNoNumeral, IsNextNumeralAt, held_more, IsRow, IsSpelling, BeginsWithClosingQuote, IsQuotation, HasNoQuotation, BeginsWithQuote, IsTokenAt, IsStopAt};
+ghost use Rattle.apl_tokens.specs.Scans.{is_of_class, IsCheckedNumber, IsNumeralAt, HasNoNumeral, IsNextNumeralAt, with_number, IsNumeralRow, IsSpelling, BeginsWithClosingQuote, IsQuotation, HasNoQuotation, BeginsWithQuote, IsTokenAt, IsStopAt};
 
 use crate::symbols::{
     is_blank, is_comment_mark, is_digit, is_letter, is_name_character, is_quote, symbol_lexeme,
@@ -47,27 +47,27 @@ impl<T: Drop> From<AllocFailed<T>> for LexicalStop {
 
 /// A class of characters.
 #[derive(Clone, Copy, Drop)]
-pub(crate) enum Class {
+pub(crate) enum CharacterClass {
     Blank,
     Digit,
     NamePart,
 }
 
-fn is_in(class: Class, c: char) -> bool
-    ensures { result ≡ passes class c }
+fn is_in(class: CharacterClass, c: char) -> bool
+    ensures { result ≡ is_of_class class c }
 {
     match class {
-        Class::Blank => is_blank(c),
-        Class::Digit => is_digit(c),
-        Class::NamePart => is_name_character(c),
+        CharacterClass::Blank => is_blank(c),
+        CharacterClass::Digit => is_digit(c),
+        CharacterClass::NamePart => is_name_character(c),
     }
 }
 
 /// The length of the longest front of the class.
-fn run_length(text: &[char], class: Class) -> usize
+fn run_length(text: &[char], class: CharacterClass) -> usize
     ensures within { result ≤ length text.now }
-    ensures front { AllPass (passes class) (take result text.now) }
-    ensures longest { BeginsWithNo (passes class) (drop result text.now) }
+    ensures front { AllPass (is_of_class class) (take result text.now) }
+    ensures longest { BeginsWithNo (is_of_class class) (drop result text.now) }
 {
     for (i, c) in text.iter().enumerate() {
         if !is_in(class, *c) {
@@ -83,7 +83,7 @@ pub fn blanks_before(text: &[char]) -> usize
     ensures blank { AllPass is_blank (take result text.now) }
     ensures longest { BeginsWithNo is_blank (drop result text.now) }
 {
-    run_length(text, Class::Blank)
+    run_length(text, CharacterClass::Blank)
 }
 
 /// The number that digits spell, if it is at most 2 to the 63rd.
@@ -106,7 +106,7 @@ fn magnitude(digits: &[char]) -> Option<u64>
 /// The number that digits spell behind a high minus or none, if it is in range.
 fn number(digits: &[char], negative: bool) -> Option<i64>
     requires { AllPass is_digit digits.now }
-    ensures { IsHeldAs (if negative then negated (number_of_digits digits.now) else pos (number_of_digits digits.now)) result }
+    ensures { IsCheckedNumber (if negative then negated (number_of_digits digits.now) else pos (number_of_digits digits.now)) result }
 {
     match magnitude(digits) {
         None => None,
@@ -137,7 +137,7 @@ fn numeral_at(text: &[char]) -> Option<Numeral>
 {
     if !text.is_empty() && text[0] == '¯' {
         let rest = &text[1..];
-        let digits = run_length(rest, Class::Digit);
+        let digits = run_length(rest, CharacterClass::Digit);
         if digits == 0 {
             return None;
         }
@@ -147,7 +147,7 @@ fn numeral_at(text: &[char]) -> Option<Numeral>
             number,
         });
     }
-    let digits = run_length(text, Class::Digit);
+    let digits = run_length(text, CharacterClass::Digit);
     if digits == 0 {
         return None;
     }
@@ -170,7 +170,7 @@ fn next_numeral(text: &[char]) -> Option<NextNumeral>
     ensures found { IfSome result (λ next. IsNextNumeralAt text.now next.gap next.numeral.length next.numeral.number) }
     ensures none { IfNone result (HasNoNextNumeral text.now) }
 {
-    let gap = run_length(text, Class::Blank);
+    let gap = run_length(text, CharacterClass::Blank);
     if gap == 0 {
         return None;
     }
@@ -189,14 +189,14 @@ struct Row {
     values: Vec<i64>,
 }
 
-/// Holds one more number, or its place where it is the first out of range.
-fn hold(
+/// Adds one more number, or its place where it is the first out of range.
+fn add_number(
     values: &mut Vec<i64>,
     beyond: Option<usize>,
     place: usize,
     number: Option<i64>,
 ) -> Result<Option<usize>, AllocError>
-    ensures { IfOk result (λ b. held_more values.old.items beyond place number ≡ (values.new.items, b)) }
+    ensures { IfOk result (λ b. with_number values.old.items beyond place number ≡ (values.new.items, b)) }
 {
     if beyond.is_some() {
         return Ok(beyond);
@@ -219,17 +219,17 @@ fn row_at(
 ) -> Result<Row, AllocError>
     requires first { IsNumeralAt text.now first.length first.number }
     requires second { IsNextNumeralAt (drop first.length text.now) second.gap second.numeral.length second.numeral.number }
-    ensures row { IfOk result (λ r. IsRow text.now r.length r.count r.beyond r.values.items) }
+    ensures row { IfOk result (λ r. IsNumeralRow text.now r.length r.count r.beyond r.values.items) }
     ensures ends { IfOk result (λ r. EndsNumerals (drop r.length text.now)) }
     ensures several { IfOk result (λ r. 1 < r.count) }
 {
     let mut values = Vec::new(alloc);
     let mut length = first.length;
     let mut count = 1;
-    let mut beyond = hold(&mut values, None, 0, first.number)?;
+    let mut beyond = add_number(&mut values, None, 0, first.number)?;
     let mut next = Some(second);
     while let Some(NextNumeral { gap, numeral }) = next {
-        beyond = hold(&mut values, beyond, length + gap, numeral.number)?;
+        beyond = add_number(&mut values, beyond, length + gap, numeral.number)?;
         length += gap + numeral.length;
         count += 1;
         next = next_numeral(&text[length..]);
@@ -391,7 +391,7 @@ fn token_at(alloc: Global, text: &[char], column: usize) -> Result<Scanned, Lexi
 {
     let first = text[0];
     if is_letter(first) {
-        let length = run_length(text, Class::NamePart);
+        let length = run_length(text, CharacterClass::NamePart);
         let name = name_of(alloc, &text[..length])?;
         return Ok(Scanned {
             lexeme: Lexeme::Name(name),
@@ -425,13 +425,13 @@ pub fn tokens(alloc: Global, characters: &[char]) -> Result<Vec<Token>, LexicalS
     ensures stop { IfErr result (IsLexicalStopOf characters.now) }
 {
     let mut tokens = Vec::with_capacity(alloc, characters.len().min(ROOM))?;
-    let mut column = run_length(characters, Class::Blank);
+    let mut column = run_length(characters, CharacterClass::Blank);
     while column < characters.len() && !is_comment_mark(characters[column]) {
         let token = token_at(alloc, &characters[column..], column)?;
         let lexeme = token.lexeme;
         tokens.push(Token { lexeme, column })?;
         column += token.length;
-        column += run_length(&characters[column..], Class::Blank);
+        column += run_length(&characters[column..], CharacterClass::Blank);
     }
     Ok(tokens)
 }
