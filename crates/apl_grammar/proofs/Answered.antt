@@ -8,7 +8,7 @@ use Rattle.apl_grammar.specs.declared.statement.GrammarStop.TheVariants as stop
 use Rattle.apl_grammar.specs.Tree.{Expr, IsTree, spells, operations, IsProgramOf}
 use Rattle.apl_grammar.specs.Caret.{IsCaret, HasNoTree}
 use Rattle.apl_grammar.specs.Stops.{IsStopOf}
-use Rattle.apl_grammar.specs.Automaton.{Machine, step, run, finished, Stops, stuck, early, IsRefusedBy}
+use Rattle.apl_grammar.specs.Automaton.{Machine, step, run, statement_operations, Stops, stuck, early, IsRefusedBy}
 use Rattle.apl_grammar.proofs.Partial as partial
 use Rattle.apl_grammar.proofs.Partial.{Frame, Level, wanted, whole, dotted, arrowed, beside, named, Config}
 use Rattle.apl_grammar.proofs.Viable.{run-tree, spells-injective, stuck-IsCaret, early-IsCaret}
@@ -41,16 +41,16 @@ ends_whole [] (beside b x q e) r ops h is = absurd cc
 ends_whole [] (named b s d q e) r ops h is = absurd cc
 ends_whole (f ∷ fr) l r ops h is = absurd cc
 
-pub is_program_of : (ts : List Token) (ops : List Operation) → option_and_then finished (run ts) ≡ Some ops → IsProgramOf ts ops
+pub is_program_of : (ts : List Token) (ops : List Operation) → option_and_then statement_operations (run ts) ≡ Some ops → IsProgramOf ts ops
 is_program_of ts ops is = by_run (run ts) refl is
   where
-    by_end : (m : Machine) → Read ts m → finished m ≡ Some ops → IsProgramOf ts ops
+    by_end : (m : Machine) → Read ts m → statement_operations m ≡ Some ops → IsProgramOf ts ops
     by_end m h end =
-        let found : (e : Expr) × (h.config ≡ ([], whole e)) × (operations e ≡ ops) = ends_whole h.config.0 h.config.1 (finished m) ops (Holds-Ends h.config m h.holds) end in
+        let found : (e : Expr) × (h.config ≡ ([], whole e)) × (operations e ≡ ops) = ends_whole h.config.0 h.config.1 (statement_operations m) ops (Holds-Ends h.config m h.holds) end in
         let tree : IsTree found.0 × (spells found.0 ≡ ts) = run-tree ts found.0 (h.ran ∙ ap Some found.1) in
         (found.0, tree.0, found.2, tree.1, λ other is_other same. spells-injective other found.0 is_other tree.0 (same ∙ sym tree.1))
 
-    by_run : (r : Option Machine) → run ts ≡ r → option_and_then finished r ≡ Some ops → IsProgramOf ts ops
+    by_run : (r : Option Machine) → run ts ≡ r → option_and_then statement_operations r ≡ Some ops → IsProgramOf ts ops
     by_run None e end = absurd cc
     by_run (Some m) e end = by_end m (read_of ts m e) end
 
@@ -74,7 +74,7 @@ Stops-IsCaret ts c (stuck before t after m ran fails) =
     stuck-IsCaret before t after h.config h.ran (refused t h.config (step t m) (step_follows t h.config m h.holds) fails)
 Stops-IsCaret ts c (early t after m ran fails) =
     let h : Read (t ∷ after) m = read_of (t ∷ after) m ran in
-    early-IsCaret t after h.config h.ran (λ e same. not_whole h.config.0 h.config.1 (finished m) e (Holds-Ends h.config m h.holds) fails same)
+    early-IsCaret t after h.config h.ran (λ e same. not_whole h.config.0 h.config.1 (statement_operations m) e (Holds-Ends h.config m h.holds) fails same)
 
 pub is_stop_of : (ts : List Token) (s : GrammarStop) → IsRefusedBy ts s → IsStopOf ts s
 is_stop_of ts (stop.Syntax c) h = Stops-IsCaret ts c h
