@@ -14,7 +14,7 @@ use Rattle.apl_grammar.specs.declared.reader.Pending.TheVariants as pending
 use Rattle.apl_grammar.specs.Functions.{may_be_monadic}
 use Rattle.apl_grammar.specs.Tree.{Expr, value, dyadic, monadic, assign, assign_at, Operand, index, Axis, has_axis, brackets, axis_brackets, semicolons, operations, operand_operations, list_operations, axis_operations}
 use Rattle.apl_grammar.specs.Automaton.{Machine, machine, without_empty_places, after_operand, with_monadic, with_leading_function, expression_operations}
-use Rattle.apl_grammar.proofs.Partial.{Wanted, alone, applied as applied_to, indexed, fill, Level, wanted, whole, dotted, arrowed, beside, named, Tail, no_slots, slots, Frame, grouped, sliced, either, stored, Config, level_for}
+use Rattle.apl_grammar.proofs.Partial.{Wanted, alone, applied as applied_to, indexed, fill, Level, operand_wanted, expression, leading_dot, leading_arrow, leading_brackets, leading_slots, Tail, no_slots, slots, Frame, open_group, open_index, open_axis_or_index, open_indexed_assignment, Config, level_for}
 use Rattle.apl_grammar.proofs.Emitted.{emitted-append}
 
 -- the operations that are emitted while an operand is wanted, and those that wait for it
@@ -69,49 +69,49 @@ other_places (p ∷ ps) = ps
 
 abbrev pub frame_stack : List Frame → List ℕ → List Pending
 frame_stack [] ps = []
-frame_stack (grouped r w ∷ fr) ps = pending.Group r ∷ wanted_stack w (frame_stack fr ps)
-frame_stack (sliced r t w ∷ fr) ps = pending.Index r (tail_columns t) ∷ wanted_stack w (frame_stack fr ps)
-frame_stack (either r e ∷ fr) ps = pending.AxisOrIndex r (undecided_of e (first_place ps)) ∷ frame_stack fr (other_places ps)
-frame_stack (stored r t a e ∷ fr) ps = pending.IndexedAssignment r (tail_columns t) a ∷ frame_stack fr ps
+frame_stack (open_group r w ∷ fr) ps = pending.Group r ∷ wanted_stack w (frame_stack fr ps)
+frame_stack (open_index r t w ∷ fr) ps = pending.Index r (tail_columns t) ∷ wanted_stack w (frame_stack fr ps)
+frame_stack (open_axis_or_index r e ∷ fr) ps = pending.AxisOrIndex r (undecided_of e (first_place ps)) ∷ frame_stack fr (other_places ps)
+frame_stack (open_indexed_assignment r t a e ∷ fr) ps = pending.IndexedAssignment r (tail_columns t) a ∷ frame_stack fr ps
 
 -- The emitted operations are those of the open brackets and then these. Where a place is kept, the operations before
 -- it are those on the right of its brackets.
 abbrev pub Emits : List Frame → List ℕ → List Operation → List (Option Operation) → Type 0
 Emits [] ps ops os = without_empty_places os ≡ ops
-Emits (grouped r w ∷ fr) ps ops os = Emits fr ps (wanted_operations w ++ ops) os
-Emits (sliced r t w ∷ fr) ps ops os = Emits fr ps (wanted_operations w ++ (tail_operations t ++ ops)) os
-Emits (stored r t a e ∷ fr) ps ops os = Emits fr ps (operations e ++ (tail_operations t ++ ops)) os
-Emits (either r (monadic f a e) ∷ fr) ps ops os =
+Emits (open_group r w ∷ fr) ps ops os = Emits fr ps (wanted_operations w ++ ops) os
+Emits (open_index r t w ∷ fr) ps ops os = Emits fr ps (wanted_operations w ++ (tail_operations t ++ ops)) os
+Emits (open_indexed_assignment r t a e ∷ fr) ps ops os = Emits fr ps (operations e ++ (tail_operations t ++ ops)) os
+Emits (open_axis_or_index r (monadic f a e) ∷ fr) ps ops os =
     (below above : List (Option Operation)) × (os ≡ below ++ None ∷ above) × (without_empty_places above ≡ ops) × (first_place ps ≡ length below)
     × Emits fr (other_places ps) (operations e ++ axis_operations a) below
-Emits (either r (value o) ∷ fr) ps ops os = Emits fr (other_places ps) (operations (value o) ++ ops) os
-Emits (either r (dyadic o f a e) ∷ fr) ps ops os = Emits fr (other_places ps) (operations (dyadic o f a e) ++ ops) os
-Emits (either r (assign c n q e) ∷ fr) ps ops os = Emits fr (other_places ps) (operations (assign c n q e) ++ ops) os
-Emits (either r (assign_at c n l s d q e) ∷ fr) ps ops os = Emits fr (other_places ps) (operations (assign_at c n l s d q e) ++ ops) os
+Emits (open_axis_or_index r (value o) ∷ fr) ps ops os = Emits fr (other_places ps) (operations (value o) ++ ops) os
+Emits (open_axis_or_index r (dyadic o f a e) ∷ fr) ps ops os = Emits fr (other_places ps) (operations (dyadic o f a e) ++ ops) os
+Emits (open_axis_or_index r (assign c n q e) ∷ fr) ps ops os = Emits fr (other_places ps) (operations (assign c n q e) ++ ops) os
+Emits (open_axis_or_index r (assign_at c n l s d q e) ∷ fr) ps ops os = Emits fr (other_places ps) (operations (assign_at c n l s d q e) ++ ops) os
 
 abbrev pub level_state : Level → List ℕ → State
-level_state (wanted w) ps = state.OperandWanted
-level_state (whole e) ps = whole_state e
-level_state (dotted d c g e) ps = state.LeadingDot d c g
-level_state (arrowed r e) ps = state.LeadingArrow r
-level_state (beside l x r e) ps = state.LeadingBrackets (brackets l r) (undecided_of e (first_place ps))
-level_state (named l s d r e) ps = state.LeadingSlots (semicolons s) (brackets l d) r
+level_state (operand_wanted w) ps = state.OperandWanted
+level_state (expression e) ps = whole_state e
+level_state (leading_dot d c g e) ps = state.LeadingDot d c g
+level_state (leading_arrow r e) ps = state.LeadingArrow r
+level_state (leading_brackets l x r e) ps = state.LeadingBrackets (brackets l r) (undecided_of e (first_place ps))
+level_state (leading_slots l s d r e) ps = state.LeadingSlots (semicolons s) (brackets l d) r
 
 abbrev pub level_stack : List Frame → Level → List ℕ → List Pending
-level_stack fr (wanted w) ps = wanted_stack w (frame_stack fr ps)
-level_stack fr (whole e) ps = frame_stack fr ps
-level_stack fr (dotted d c g e) ps = frame_stack fr ps
-level_stack fr (arrowed r e) ps = frame_stack fr ps
-level_stack fr (beside l x r e) ps = frame_stack fr (other_places ps)
-level_stack fr (named l s d r e) ps = frame_stack fr ps
+level_stack fr (operand_wanted w) ps = wanted_stack w (frame_stack fr ps)
+level_stack fr (expression e) ps = frame_stack fr ps
+level_stack fr (leading_dot d c g e) ps = frame_stack fr ps
+level_stack fr (leading_arrow r e) ps = frame_stack fr ps
+level_stack fr (leading_brackets l x r e) ps = frame_stack fr (other_places ps)
+level_stack fr (leading_slots l s d r e) ps = frame_stack fr ps
 
 abbrev pub EmitsLevel : List Frame → Level → List ℕ → List (Option Operation) → Type 0
-EmitsLevel fr (wanted w) ps os = Emits fr ps (wanted_operations w) os
-EmitsLevel fr (whole e) ps os = Emits fr ps (whole_operations e) os
-EmitsLevel fr (dotted d c g e) ps os = Emits fr ps (operations e) os
-EmitsLevel fr (arrowed r e) ps os = Emits fr ps (operations e) os
-EmitsLevel fr (beside l x r e) ps os = Emits (either r e ∷ fr) ps (operations x) os
-EmitsLevel fr (named l s d r e) ps os = Emits fr ps (operations e ++ list_operations s) os
+EmitsLevel fr (operand_wanted w) ps os = Emits fr ps (wanted_operations w) os
+EmitsLevel fr (expression e) ps os = Emits fr ps (whole_operations e) os
+EmitsLevel fr (leading_dot d c g e) ps os = Emits fr ps (operations e) os
+EmitsLevel fr (leading_arrow r e) ps os = Emits fr ps (operations e) os
+EmitsLevel fr (leading_brackets l x r e) ps os = Emits (open_axis_or_index r e ∷ fr) ps (operations x) os
+EmitsLevel fr (leading_slots l s d r e) ps os = Emits fr ps (operations e ++ list_operations s) os
 
 -- the reader holds these partial trees
 pub record Holds (k : Config) (m : Machine) : Type 0 where
@@ -129,32 +129,32 @@ Emits-nil fr ps ops os h = Emits-same fr ps ops (ops ++ []) os (sym (append-nil 
 -- more operations
 pub Emits-append : (fr : List Frame) (ps : List ℕ) (ops : List Operation) (os added : List (Option Operation)) → Emits fr ps ops os → Emits fr ps (ops ++ without_empty_places added) (os ++ added)
 Emits-append [] ps ops os added h = emitted-append os added ∙ ap (λ x. x ++ without_empty_places added) h
-Emits-append (grouped r w ∷ fr) ps ops os added h =
+Emits-append (open_group r w ∷ fr) ps ops os added h =
     Emits-same fr ps ((wanted_operations w ++ ops) ++ without_empty_places added) (wanted_operations w ++ (ops ++ without_empty_places added)) (os ++ added) (simp append_assoc)
     (Emits-append fr ps (wanted_operations w ++ ops) os added h)
-Emits-append (sliced r t w ∷ fr) ps ops os added h =
+Emits-append (open_index r t w ∷ fr) ps ops os added h =
     Emits-same fr ps ((wanted_operations w ++ (tail_operations t ++ ops)) ++ without_empty_places added) (wanted_operations w ++ (tail_operations t ++ (ops ++ without_empty_places added))) (os ++ added) (simp append_assoc)
     (Emits-append fr ps (wanted_operations w ++ (tail_operations t ++ ops)) os added h)
-Emits-append (stored r t a e ∷ fr) ps ops os added h =
+Emits-append (open_indexed_assignment r t a e ∷ fr) ps ops os added h =
     Emits-same fr ps ((operations e ++ (tail_operations t ++ ops)) ++ without_empty_places added) (operations e ++ (tail_operations t ++ (ops ++ without_empty_places added))) (os ++ added) (simp append_assoc)
     (Emits-append fr ps (operations e ++ (tail_operations t ++ ops)) os added h)
-Emits-append (either r (monadic f a e) ∷ fr) ps ops os added (below, above, split, rest, place, h) =
+Emits-append (open_axis_or_index r (monadic f a e) ∷ fr) ps ops os added (below, above, split, rest, place, h) =
     (below, above ++ added, ap (λ x. x ++ added) split ∙ append_assoc below (None ∷ above) added, emitted-append above added ∙ ap (λ x. x ++ without_empty_places added) rest, place, h)
-Emits-append (either r (value o) ∷ fr) ps ops os added h =
+Emits-append (open_axis_or_index r (value o) ∷ fr) ps ops os added h =
     Emits-same fr (other_places ps) ((operations (value o) ++ ops) ++ without_empty_places added) (operations (value o) ++ (ops ++ without_empty_places added)) (os ++ added) (append_assoc (operations (value o)) ops (without_empty_places added))
     (Emits-append fr (other_places ps) (operations (value o) ++ ops) os added h)
-Emits-append (either r (dyadic o f a e) ∷ fr) ps ops os added h =
+Emits-append (open_axis_or_index r (dyadic o f a e) ∷ fr) ps ops os added h =
     Emits-same fr (other_places ps) ((operations (dyadic o f a e) ++ ops) ++ without_empty_places added) (operations (dyadic o f a e) ++ (ops ++ without_empty_places added)) (os ++ added) (append_assoc (operations (dyadic o f a e)) ops (without_empty_places added))
     (Emits-append fr (other_places ps) (operations (dyadic o f a e) ++ ops) os added h)
-Emits-append (either r (assign c n q e) ∷ fr) ps ops os added h =
+Emits-append (open_axis_or_index r (assign c n q e) ∷ fr) ps ops os added h =
     Emits-same fr (other_places ps) ((operations (assign c n q e) ++ ops) ++ without_empty_places added) (operations (assign c n q e) ++ (ops ++ without_empty_places added)) (os ++ added) (append_assoc (operations (assign c n q e)) ops (without_empty_places added))
     (Emits-append fr (other_places ps) (operations (assign c n q e) ++ ops) os added h)
-Emits-append (either r (assign_at c n l s d q e) ∷ fr) ps ops os added h =
+Emits-append (open_axis_or_index r (assign_at c n l s d q e) ∷ fr) ps ops os added h =
     Emits-same fr (other_places ps) ((operations (assign_at c n l s d q e) ++ ops) ++ without_empty_places added) (operations (assign_at c n l s d q e) ++ (ops ++ without_empty_places added)) (os ++ added) (append_assoc (operations (assign_at c n l s d q e)) ops (without_empty_places added))
     (Emits-append fr (other_places ps) (operations (assign_at c n l s d q e) ++ ops) os added h)
 
 -- the brackets hold an index: the place stays empty
-pub index_Emits : (fr : List Frame) (ps : List ℕ) (r : ℕ) (e : Expr) (ops : List Operation) (os : List (Option Operation)) → Emits (either r e ∷ fr) ps ops os → Emits fr (other_places ps) (whole_operations e ++ ops) os
+pub index_Emits : (fr : List Frame) (ps : List ℕ) (r : ℕ) (e : Expr) (ops : List Operation) (os : List (Option Operation)) → Emits (open_axis_or_index r e ∷ fr) ps ops os → Emits fr (other_places ps) (whole_operations e ++ ops) os
 index_Emits fr ps r (monadic f a e) ops os (below, above, split, rest, place, h) =
     let put : Emits fr (other_places ps) ((operations e ++ axis_operations a) ++ without_empty_places above) (below ++ None ∷ above) = Emits-append fr (other_places ps) (operations e ++ axis_operations a) below (None ∷ above) h in
     subst (λ (x : List (Option Operation)). Emits fr (other_places ps) ((operations e ++ axis_operations a) ++ ops) x) (sym split)
@@ -165,7 +165,7 @@ index_Emits fr ps r (assign c n q e) ops os h = h
 index_Emits fr ps r (assign_at c n l s d q e) ops os h = h
 
 -- the brackets hold an axis: the function before them is monadic
-pub axis_Emits : (fr : List Frame) (ps : List ℕ) (r : ℕ) (e : Expr) (ops : List Operation) (os : List (Option Operation)) → Emits (either r e ∷ fr) ps ops os → Emits fr (other_places ps) (operations e ++ ops) (with_monadic os (undecided_of e (first_place ps)))
+pub axis_Emits : (fr : List Frame) (ps : List ℕ) (r : ℕ) (e : Expr) (ops : List Operation) (os : List (Option Operation)) → Emits (open_axis_or_index r e ∷ fr) ps ops os → Emits fr (other_places ps) (operations e ++ ops) (with_monadic os (undecided_of e (first_place ps)))
 axis_Emits fr ps r (monadic f a e) ops os (below, above, split, rest, place, h) =
     let m : Operation = op.Monadic f (axis_brackets a) in
     let put : Emits fr (other_places ps) ((operations e ++ axis_operations a) ++ m ∷ without_empty_places above) (below ++ Some m ∷ above) = Emits-append fr (other_places ps) (operations e ++ axis_operations a) below (Some m ∷ above) h in
@@ -181,20 +181,20 @@ axis_Emits fr ps r (assign_at c n l s d q e) ops os h = h
 -- no operation waits in front of an open bracket
 frames_complete : (fr : List Frame) (ps : List ℕ) (os : List (Option Operation)) → after_operand os (frame_stack fr ps) ≡ machine os (frame_stack fr ps) state.Expression
 frames_complete [] ps os = refl
-frames_complete (grouped r w ∷ fr) ps os = refl
-frames_complete (sliced r t w ∷ fr) ps os = refl
-frames_complete (either r e ∷ fr) ps os = refl
-frames_complete (stored r t a e ∷ fr) ps os = refl
+frames_complete (open_group r w ∷ fr) ps os = refl
+frames_complete (open_index r t w ∷ fr) ps os = refl
+frames_complete (open_axis_or_index r e ∷ fr) ps os = refl
+frames_complete (open_indexed_assignment r t a e ∷ fr) ps os = refl
 
 -- an operand ends
-pub completed_Holds : (w : Wanted) (o : Operand) (fr : List Frame) (ps : List ℕ) (os : List (Option Operation)) → Emits fr ps (wanted_operations w ++ operand_operations o) os → Holds (fr, whole (fill w o)) (after_operand os (wanted_stack w (frame_stack fr ps)))
+pub completed_Holds : (w : Wanted) (o : Operand) (fr : List Frame) (ps : List ℕ) (os : List (Option Operation)) → Emits fr ps (wanted_operations w ++ operand_operations o) os → Holds (fr, expression (fill w o)) (after_operand os (wanted_stack w (frame_stack fr ps)))
 completed_Holds alone o fr ps os h =
-    subst (Holds (fr, whole (value o))) (sym (frames_complete fr ps os)) (record { places = ps; emits = h; stack = refl; state = refl })
+    subst (Holds (fr, expression (value o))) (sym (frames_complete fr ps os)) (record { places = ps; emits = h; stack = refl; state = refl })
 completed_Holds (applied_to f a e) o fr ps os h =
     let last_one : Operation = op.Dyadic f (axis_brackets a) in
     let regrouped : ((operations e ++ axis_operations a) ++ operand_operations o) ++ last_one ∷ [] ≡ operations e ++ (axis_operations a ++ (operand_operations o ++ last_one ∷ [])) = simp append_assoc in
     let all : List (Option Operation) = os ++ Some last_one ∷ [] in
-    subst (Holds (fr, whole (dyadic o f a e))) (sym (frames_complete fr ps all))
+    subst (Holds (fr, expression (dyadic o f a e))) (sym (frames_complete fr ps all))
     (record {
       places = ps;
       emits = Emits-same fr ps (((operations e ++ axis_operations a) ++ operand_operations o) ++ last_one ∷ []) (operations e ++ (axis_operations a ++ (operand_operations o ++ last_one ∷ []))) all regrouped (Emits-append fr ps ((operations e ++ axis_operations a) ++ operand_operations o) os (Some last_one ∷ []) h);
