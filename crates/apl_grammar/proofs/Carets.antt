@@ -27,8 +27,8 @@ pub IsCaret-unique : (ts : List Token) (c d : ℕ) → IsCaret ts c → IsCaret 
 IsCaret-unique [] c d h k = absurd h
 IsCaret-unique (t ∷ ts) c d (inl (before, after, u, e, is, viable, not)) (inl (before', after', u', e', is', viable', not')) =
     is ∙ ap (λ (x : Token). x.column) (one_stop before after before' after' u u' (sym e ∙ e') viable not viable' not') ∙ sym is'
-IsCaret-unique (t ∷ ts) c d (inl (before, after, u, e, is, viable, not)) (inr (whole, is')) =
-    absurd (not (IsViableSuffix-end before (u ∷ after) (subst IsViableSuffix e whole)))
-IsCaret-unique (t ∷ ts) c d (inr (whole, is)) (inl (before, after, u, e, is', viable, not)) =
-    absurd (not (IsViableSuffix-end before (u ∷ after) (subst IsViableSuffix e whole)))
-IsCaret-unique (t ∷ ts) c d (inr (whole, is)) (inr (whole', is')) = is ∙ sym is'
+IsCaret-unique (t ∷ ts) c d (inl (before, after, u, e, is, viable, not)) (inr (expression, is')) =
+    absurd (not (IsViableSuffix-end before (u ∷ after) (subst IsViableSuffix e expression)))
+IsCaret-unique (t ∷ ts) c d (inr (expression, is)) (inl (before, after, u, e, is', viable, not)) =
+    absurd (not (IsViableSuffix-end before (u ∷ after) (subst IsViableSuffix e expression)))
+IsCaret-unique (t ∷ ts) c d (inr (expression, is)) (inr (expression', is')) = is ∙ sym is'

@@ -10,7 +10,7 @@ use Rattle.apl_grammar.specs.declared.program.Form.{Form}
 use Rattle.apl_grammar.specs.declared.program.Form.TheVariants.{Plain, Reduce, Inner, Outer}
 use Rattle.apl_grammar.specs.Functions.{is_dyadic_scalar, is_monadic, takes_axis, is_rotation, reduces, may_be_monadic, may_be_dyadic}
 use Rattle.apl_grammar.specs.Tree.{Expr, value, dyadic, monadic, assign, assign_at, Operand, constant, name, group, index, Slots, last, more, Slot, nothing, given, Axis, none, along, has_axis, IsTree, IsOperand, IsList, IsSlot, IsAxis, token_at, spells, spells_operand, spells_list, spells_slot, spells_axis, spells_form}
-use Rattle.apl_grammar.proofs.Partial.{Wanted, alone, applied, indexed, fill, Level, wanted, whole, dotted, arrowed, beside, named, no_slots, slots, Frame, grouped, sliced, either, stored, as_dyadic, with_index, as_wanted, level_by, level_for, at_operand, at_name, at_close, at_slice, at_close_bracket, only, at_function, at_dot, slot_of, sliced_by, at_semicolon, wanted_by, at_open_bracket, step, run_from, run_from-parts}
+use Rattle.apl_grammar.proofs.Partial.{Wanted, alone, applied, indexed, fill, Level, operand_wanted, expression, leading_dot, leading_arrow, leading_brackets, leading_slots, no_slots, slots, Frame, open_group, open_index, open_axis_or_index, open_indexed_assignment, as_dyadic, with_index, as_wanted, level_by, level_for, at_operand, at_name, at_close, at_slice, at_close_bracket, only, at_function, at_dot, slot_of, sliced_by, at_semicolon, wanted_by, at_open_bracket, step, run_from, run_from-parts}
 
 both_true : (a b : Bool) → IsTrue (a && b) → IsTrue a × IsTrue b
 both_true true b h = (refl, h)
@@ -24,10 +24,10 @@ reduces_plain (Scalar f) h = absurd cc
 reduces_plain _ h = absurd cc
 
 abbrev pub level_axis : Axis → Expr → Level
-level_axis none e = whole e
-level_axis (along l x r) e = beside l x r e
+level_axis none e = expression e
+level_axis (along l x r) e = leading_brackets l x r e
 
-dot_read : (b : Bool) (fr : List Frame) (d c : ℕ) (g : Glyph) (e : Expr) → IsTrue (is_dyadic_scalar (class_of g)) → at_dot fr d (level_by b (Plain c g) none e) ≡ Some (fr, dotted d c g e)
+dot_read : (b : Bool) (fr : List Frame) (d c : ℕ) (g : Glyph) (e : Expr) → IsTrue (is_dyadic_scalar (class_of g)) → at_dot fr d (level_by b (Plain c g) none e) ≡ Some (fr, leading_dot d c g e)
 dot_read true fr d c g e h = rw h refl
 dot_read false fr d c g e h = rw h refl
 
@@ -38,18 +38,18 @@ form2_read (Plain c g) (along l x r) e fr h = rw h refl
 form2_read (Inner c f d k g) none e fr h =
     let both : IsTrue (is_dyadic_scalar (class_of f)) × IsTrue (is_dyadic_scalar (class_of g)) = both_true (is_dyadic_scalar (class_of f)) (is_dyadic_scalar (class_of g)) h in
     ap (option_and_then (step (token_at c (lexeme.Function f)))) (dot_read (is_monadic (class_of g)) fr d k g e both.1)
-    ∙ ap (λ b. only b fr (wanted (applied (Inner c f d k g) none e))) both.0
+    ∙ ap (λ b. only b fr (operand_wanted (applied (Inner c f d k g) none e))) both.0
 form2_read (Outer j d c g) none e fr h = ap (option_and_then (step (token_at j lexeme.Jot))) (dot_read (is_monadic (class_of g)) fr d c g e h)
 form2_read (Inner c f d k g) (along l x r) e fr h = absurd cc
 form2_read (Outer j d c g) (along l x r) e fr h = absurd cc
 form2_read (Reduce c f s g) none e fr h = absurd cc
 form2_read (Reduce c f s g) (along l x r) e fr h = absurd cc
 
-reduce_read : (fr : List Frame) (c : ℕ) (f : Glyph) (s : ℕ) (g : Glyph) (a : Axis) (e : Expr) (b : Bool) → b ≡ false → IsTrue (is_dyadic_scalar (class_of f)) → IsTrue (reduces (class_of g)) → at_function fr c f (level_by b (Plain s g) a e) ≡ Some (fr, whole (monadic (Reduce c f s g) a e))
+reduce_read : (fr : List Frame) (c : ℕ) (f : Glyph) (s : ℕ) (g : Glyph) (a : Axis) (e : Expr) (b : Bool) → b ≡ false → IsTrue (is_dyadic_scalar (class_of f)) → IsTrue (reduces (class_of g)) → at_function fr c f (level_by b (Plain s g) a e) ≡ Some (fr, expression (monadic (Reduce c f s g) a e))
 reduce_read fr c f s g a e true h hf hg = absurd cc
 reduce_read fr c f s g a e false h hf hg = rw (hf, hg) refl
 
-form1_read : (f : Form) (a : Axis) (e : Expr) (fr : List Frame) → IsTrue (may_be_monadic f (has_axis a)) → run_from (fr, level_axis a e) (spells_form f) ≡ Some (fr, whole (monadic f a e))
+form1_read : (f : Form) (a : Axis) (e : Expr) (fr : List Frame) → IsTrue (may_be_monadic f (has_axis a)) → run_from (fr, level_axis a e) (spells_form f) ≡ Some (fr, expression (monadic f a e))
 form1_read (Plain c g) none e fr h = rw h refl
 form1_read (Plain c g) (along l x r) e fr h = rw (rotation_takes (class_of g) h, h) refl
   where
@@ -71,21 +71,21 @@ wants_operand : (b : Bool) (f : Form) (a : Axis) (e : Expr) → IsTrue (may_be_d
 wants_operand true f a e h = rw h refl
 wants_operand false f a e h = refl
 
-name_read : (fr : List Frame) (c : ℕ) (n : List ℕ) (l : Level) (w : Wanted) → as_wanted l ≡ Some w → at_name fr c n l ≡ Some (fr, whole (fill w (name c n)))
-name_read fr c n (wanted v) w h = ap (at_operand fr (name c n)) h
-name_read fr c n (whole e) w h = ap (at_operand fr (name c n)) h
-name_read fr c n (dotted d k g e) w h = absurd cc
-name_read fr c n (arrowed r e) w h = absurd cc
-name_read fr c n (beside l x r e) w h = ap (at_operand fr (name c n)) h
-name_read fr c n (named l s d r e) w h = absurd cc
+name_read : (fr : List Frame) (c : ℕ) (n : List ℕ) (l : Level) (w : Wanted) → as_wanted l ≡ Some w → at_name fr c n l ≡ Some (fr, expression (fill w (name c n)))
+name_read fr c n (operand_wanted v) w h = ap (at_operand fr (name c n)) h
+name_read fr c n (expression e) w h = ap (at_operand fr (name c n)) h
+name_read fr c n (leading_dot d k g e) w h = absurd cc
+name_read fr c n (leading_arrow r e) w h = absurd cc
+name_read fr c n (leading_brackets l x r e) w h = ap (at_operand fr (name c n)) h
+name_read fr c n (leading_slots l s d r e) w h = absurd cc
 
 abbrev pub first_slot : Slots → Slot
 first_slot (last s) = s
 first_slot (more s c ss) = s
 
 abbrev pub level_slot : Slot → Level
-level_slot nothing = wanted alone
-level_slot (given e) = whole e
+level_slot nothing = operand_wanted alone
+level_slot (given e) = expression e
 
 slot_of_level : (s : Slot) → slot_of (level_slot s) ≡ Some s
 slot_of_level nothing = refl
@@ -99,30 +99,30 @@ frame_of f g (more s c ss) = g c ss
 record Brackets (fr : List Frame) (l : Level) (c : ℕ) (w : Wanted) : Type 0 where
   frame : Frame
   behind : ℕ → Slots → Frame
-  opens : at_close_bracket fr c l ≡ Some (frame ∷ fr, wanted alone)
-  first : (k : ℕ) (s : Slot) → at_semicolon k (frame ∷ fr) (Some s) ≡ Some (behind k (last s) ∷ fr, wanted alone)
-  next : (k j : ℕ) (s : Slot) (ss : Slots) → at_semicolon k (behind j ss ∷ fr) (Some s) ≡ Some (behind k (more s j ss) ∷ fr, wanted alone)
+  opens : at_close_bracket fr c l ≡ Some (frame ∷ fr, operand_wanted alone)
+  first : (k : ℕ) (s : Slot) → at_semicolon k (frame ∷ fr) (Some s) ≡ Some (behind k (last s) ∷ fr, operand_wanted alone)
+  next : (k j : ℕ) (s : Slot) (ss : Slots) → at_semicolon k (behind j ss ∷ fr) (Some s) ≡ Some (behind k (more s j ss) ∷ fr, operand_wanted alone)
   closes : (b : ℕ) (s : Slots) → (m : Level) × (at_open_bracket b (frame_of frame behind s ∷ fr) (Some (first_slot s)) ≡ Some (fr, m)) × (as_wanted m ≡ Some (indexed w b s c))
 
-sliced_brackets : (fr : List Frame) (l : Level) (c : ℕ) (w : Wanted) → at_close_bracket fr c l ≡ Some (sliced c no_slots w ∷ fr, wanted alone) → Brackets fr l c w
+sliced_brackets : (fr : List Frame) (l : Level) (c : ℕ) (w : Wanted) → at_close_bracket fr c l ≡ Some (open_index c no_slots w ∷ fr, operand_wanted alone) → Brackets fr l c w
 sliced_brackets fr l c w h = record {
-  frame = sliced c no_slots w;
-  behind = λ k ss. sliced c (slots k ss) w;
+  frame = open_index c no_slots w;
+  behind = λ k ss. open_index c (slots k ss) w;
   opens = h;
   first = λ k s. refl;
   next = λ k j s ss. refl;
-  closes = λ b. elim [ last s ↦ (wanted (indexed w b (last s) c), refl, refl) | more s k ss ↦ (wanted (indexed w b (more s k ss) c), refl, refl) ];
+  closes = λ b. elim [ last s ↦ (operand_wanted (indexed w b (last s) c), refl, refl) | more s k ss ↦ (operand_wanted (indexed w b (more s k ss) c), refl, refl) ];
 }
 
-either_closes : (fr : List Frame) (e : Expr) (c : ℕ) (w : Wanted) → as_dyadic e ≡ Some w → (b : ℕ) (s : Slots) → (m : Level) × (at_open_bracket b (frame_of (either c e) (λ k ss. sliced c (slots k ss) w) s ∷ fr) (Some (first_slot s)) ≡ Some (fr, m)) × (as_wanted m ≡ Some (indexed w b s c))
-either_closes fr e c w h b (last nothing) = (wanted (indexed w b (last nothing) c), ap (λ o. wanted_by fr (with_index b (last nothing) c o)) h, refl)
-either_closes fr e c w h b (last (given x)) = (beside b x c e, refl, ap (with_index b (last (given x)) c) h)
-either_closes fr e c w h b (more s k ss) = (wanted (indexed w b (more s k ss) c), refl, refl)
+either_closes : (fr : List Frame) (e : Expr) (c : ℕ) (w : Wanted) → as_dyadic e ≡ Some w → (b : ℕ) (s : Slots) → (m : Level) × (at_open_bracket b (frame_of (open_axis_or_index c e) (λ k ss. open_index c (slots k ss) w) s ∷ fr) (Some (first_slot s)) ≡ Some (fr, m)) × (as_wanted m ≡ Some (indexed w b s c))
+either_closes fr e c w h b (last nothing) = (operand_wanted (indexed w b (last nothing) c), ap (λ o. wanted_by fr (with_index b (last nothing) c o)) h, refl)
+either_closes fr e c w h b (last (given x)) = (leading_brackets b x c e, refl, ap (with_index b (last (given x)) c) h)
+either_closes fr e c w h b (more s k ss) = (operand_wanted (indexed w b (more s k ss) c), refl, refl)
 
-either_brackets : (fr : List Frame) (e : Expr) (c : ℕ) (w : Wanted) → as_dyadic e ≡ Some w → Brackets fr (whole e) c w
+either_brackets : (fr : List Frame) (e : Expr) (c : ℕ) (w : Wanted) → as_dyadic e ≡ Some w → Brackets fr (expression e) c w
 either_brackets fr e c w h = record {
-  frame = either c e;
-  behind = λ k ss. sliced c (slots k ss) w;
+  frame = open_axis_or_index c e;
+  behind = λ k ss. open_index c (slots k ss) w;
   opens = refl;
   first = λ k s. ap (sliced_by fr k c s) h;
   next = λ k j s ss. refl;
@@ -130,73 +130,73 @@ either_brackets fr e c w h = record {
 }
 
 brackets : (fr : List Frame) (l : Level) (c : ℕ) (w : Wanted) → as_wanted l ≡ Some w → Brackets fr l c w
-brackets fr (wanted v) c w h = sliced_brackets fr (wanted v) c w (ap (at_slice fr c) h)
-brackets fr (whole e) c w h = either_brackets fr e c w h
-brackets fr (dotted d k g e) c w h = absurd cc
-brackets fr (arrowed r e) c w h = absurd cc
-brackets fr (beside l x r e) c w h = sliced_brackets fr (beside l x r e) c w (ap (at_slice fr c) h)
-brackets fr (named l s d r e) c w h = absurd cc
+brackets fr (operand_wanted v) c w h = sliced_brackets fr (operand_wanted v) c w (ap (at_slice fr c) h)
+brackets fr (expression e) c w h = either_brackets fr e c w h
+brackets fr (leading_dot d k g e) c w h = absurd cc
+brackets fr (leading_arrow r e) c w h = absurd cc
+brackets fr (leading_brackets l x r e) c w h = sliced_brackets fr (leading_brackets l x r e) c w (ap (at_slice fr c) h)
+brackets fr (leading_slots l s d r e) c w h = absurd cc
 
 mutual
-  pub run_from-spells : (e : Expr) → IsTree e → (fr : List Frame) → run_from (fr, wanted alone) (spells e) ≡ Some (fr, whole e)
-  run_from-spells (value o) h fr = run_from-operand o h fr (wanted alone) alone refl
+  pub run_from-spells : (e : Expr) → IsTree e → (fr : List Frame) → run_from (fr, operand_wanted alone) (spells e) ≡ Some (fr, expression e)
+  run_from-spells (value o) h fr = run_from-operand o h fr (operand_wanted alone) alone refl
   run_from-spells (dyadic o f a e) h fr =
-      run_from-parts (fr, wanted alone) (fr, level_for f a e) (fr, whole (dyadic o f a e)) (spells_operand o) (spells_form f ++ (spells_axis a ++ spells e))
-      (run_from-parts (fr, wanted alone) (fr, level_axis a e) (fr, level_for f a e) (spells_form f) (spells_axis a ++ spells e)
-      (run_from-parts (fr, wanted alone) (fr, whole e) (fr, level_axis a e) (spells_axis a) (spells e) (run_from-spells e h.3 fr) (run_from-axis a h.2 fr e))
+      run_from-parts (fr, operand_wanted alone) (fr, level_for f a e) (fr, expression (dyadic o f a e)) (spells_operand o) (spells_form f ++ (spells_axis a ++ spells e))
+      (run_from-parts (fr, operand_wanted alone) (fr, level_axis a e) (fr, level_for f a e) (spells_form f) (spells_axis a ++ spells e)
+      (run_from-parts (fr, operand_wanted alone) (fr, expression e) (fr, level_axis a e) (spells_axis a) (spells e) (run_from-spells e h.3 fr) (run_from-axis a h.2 fr e))
       (form2_read f a e fr h.1))
       (run_from-operand o h.0 fr (level_for f a e) (applied f a e) (wants_operand (may_be_monadic f (has_axis a)) f a e h.1))
   run_from-spells (monadic f a e) h fr =
-      run_from-parts (fr, wanted alone) (fr, level_axis a e) (fr, whole (monadic f a e)) (spells_form f) (spells_axis a ++ spells e)
-      (run_from-parts (fr, wanted alone) (fr, whole e) (fr, level_axis a e) (spells_axis a) (spells e) (run_from-spells e h.2 fr) (run_from-axis a h.1 fr e))
+      run_from-parts (fr, operand_wanted alone) (fr, level_axis a e) (fr, expression (monadic f a e)) (spells_form f) (spells_axis a ++ spells e)
+      (run_from-parts (fr, operand_wanted alone) (fr, expression e) (fr, level_axis a e) (spells_axis a) (spells e) (run_from-spells e h.2 fr) (run_from-axis a h.1 fr e))
       (form1_read f a e fr h.0)
   run_from-spells (assign c n r e) h fr = rw (run_from-spells e h fr) refl
   run_from-spells (assign_at c n l s d r e) h fr =
       ap (λ k. option_and_then (step (token_at c (lexeme.Name n))) (option_and_then (step (token_at l lexeme.OpenBracket)) k))
-      (run_from-parts (fr, wanted alone) (stored d no_slots r e ∷ fr, wanted alone) (frame_of (stored d no_slots r e) (λ k ss. stored d (slots k ss) r e) s ∷ fr, level_slot (first_slot s)) (spells_list s) (token_at d lexeme.CloseBracket ∷ token_at r lexeme.Arrow ∷ spells e)
+      (run_from-parts (fr, operand_wanted alone) (open_indexed_assignment d no_slots r e ∷ fr, operand_wanted alone) (frame_of (open_indexed_assignment d no_slots r e) (λ k ss. open_indexed_assignment d (slots k ss) r e) s ∷ fr, level_slot (first_slot s)) (spells_list s) (token_at d lexeme.CloseBracket ∷ token_at r lexeme.Arrow ∷ spells e)
       (ap (λ k. option_and_then (step (token_at d lexeme.CloseBracket)) (option_and_then (step (token_at r lexeme.Arrow)) k)) (run_from-spells e h.1 fr))
-      (run_from-list s h.0 fr (stored d no_slots r e) (λ k ss. stored d (slots k ss) r e) (λ k t. refl) (λ k j t ss. refl)))
+      (run_from-list s h.0 fr (open_indexed_assignment d no_slots r e) (λ k ss. open_indexed_assignment d (slots k ss) r e) (λ k t. refl) (λ k j t ss. refl)))
       ∙ stored_closes s
     where
-      stored_closes : (s : Slots) → option_and_then (step (token_at c (lexeme.Name n))) (at_open_bracket l (frame_of (stored d no_slots r e) (λ k ss. stored d (slots k ss) r e) s ∷ fr) (slot_of (level_slot (first_slot s)))) ≡ Some (fr, whole (assign_at c n l s d r e))
+      stored_closes : (s : Slots) → option_and_then (step (token_at c (lexeme.Name n))) (at_open_bracket l (frame_of (open_indexed_assignment d no_slots r e) (λ k ss. open_indexed_assignment d (slots k ss) r e) s ∷ fr) (slot_of (level_slot (first_slot s)))) ≡ Some (fr, expression (assign_at c n l s d r e))
       stored_closes (last nothing) = refl
       stored_closes (last (given x)) = refl
       stored_closes (more nothing k ss) = refl
       stored_closes (more (given x) k ss) = refl
 
-  pub run_from-operand : (o : Operand) → IsOperand o → (fr : List Frame) (l : Level) (w : Wanted) → as_wanted l ≡ Some w → run_from (fr, l) (spells_operand o) ≡ Some (fr, whole (fill w o))
+  pub run_from-operand : (o : Operand) → IsOperand o → (fr : List Frame) (l : Level) (w : Wanted) → as_wanted l ≡ Some w → run_from (fr, l) (spells_operand o) ≡ Some (fr, expression (fill w o))
   run_from-operand (constant c v) h fr l w at_l = ap (at_operand fr (constant c v)) at_l
   run_from-operand (name c n) h fr l w at_l = name_read fr c n l w at_l
   run_from-operand (group b e c) h fr l w at_l =
       ap (option_and_then (step (token_at b lexeme.OpenParen)))
-      (run_from-parts (fr, l) (grouped c w ∷ fr, wanted alone) (grouped c w ∷ fr, whole e) (spells e) (token_at c lexeme.CloseParen ∷ []) (ap (at_close fr c) at_l) (run_from-spells e h (grouped c w ∷ fr)))
+      (run_from-parts (fr, l) (open_group c w ∷ fr, operand_wanted alone) (open_group c w ∷ fr, expression e) (spells e) (token_at c lexeme.CloseParen ∷ []) (ap (at_close fr c) at_l) (run_from-spells e h (open_group c w ∷ fr)))
   run_from-operand (index x b s c) h fr l w at_l =
       let k = brackets fr l c w at_l in
       let closed = k.closes b s in
-      run_from-parts (fr, l) (fr, closed.0) (fr, whole (fill w (index x b s c))) (spells_operand x) (token_at b lexeme.OpenBracket ∷ (spells_list s ++ token_at c lexeme.CloseBracket ∷ []))
+      run_from-parts (fr, l) (fr, closed.0) (fr, expression (fill w (index x b s c))) (spells_operand x) (token_at b lexeme.OpenBracket ∷ (spells_list s ++ token_at c lexeme.CloseBracket ∷ []))
       (ap (option_and_then (step (token_at b lexeme.OpenBracket)))
-      (run_from-parts (fr, l) (k.frame ∷ fr, wanted alone) (frame_of k.frame k.behind s ∷ fr, level_slot (first_slot s)) (spells_list s) (token_at c lexeme.CloseBracket ∷ []) k.opens (run_from-list s h.1 fr k.frame k.behind k.first k.next))
+      (run_from-parts (fr, l) (k.frame ∷ fr, operand_wanted alone) (frame_of k.frame k.behind s ∷ fr, level_slot (first_slot s)) (spells_list s) (token_at c lexeme.CloseBracket ∷ []) k.opens (run_from-list s h.1 fr k.frame k.behind k.first k.next))
       ∙ ap (at_open_bracket b (frame_of k.frame k.behind s ∷ fr)) (slot_of_level (first_slot s)) ∙ closed.1)
       (run_from-operand x h.0 fr closed.0 (indexed w b s c) closed.2)
 
-  pub run_from-list : (s : Slots) → IsList s → (fr : List Frame) (f : Frame) (g : ℕ → Slots → Frame) → ((k : ℕ) (t : Slot) → at_semicolon k (f ∷ fr) (Some t) ≡ Some (g k (last t) ∷ fr, wanted alone)) → ((k j : ℕ) (t : Slot) (ss : Slots) → at_semicolon k (g j ss ∷ fr) (Some t) ≡ Some (g k (more t j ss) ∷ fr, wanted alone)) → run_from (f ∷ fr, wanted alone) (spells_list s) ≡ Some (frame_of f g s ∷ fr, level_slot (first_slot s))
+  pub run_from-list : (s : Slots) → IsList s → (fr : List Frame) (f : Frame) (g : ℕ → Slots → Frame) → ((k : ℕ) (t : Slot) → at_semicolon k (f ∷ fr) (Some t) ≡ Some (g k (last t) ∷ fr, operand_wanted alone)) → ((k j : ℕ) (t : Slot) (ss : Slots) → at_semicolon k (g j ss ∷ fr) (Some t) ≡ Some (g k (more t j ss) ∷ fr, operand_wanted alone)) → run_from (f ∷ fr, operand_wanted alone) (spells_list s) ≡ Some (frame_of f g s ∷ fr, level_slot (first_slot s))
   run_from-list (last s) h fr f g first next = run_from-slot s h (f ∷ fr)
   run_from-list (more s c ss) h fr f g first next =
-      run_from-parts (f ∷ fr, wanted alone) (g c ss ∷ fr, wanted alone) (g c ss ∷ fr, level_slot s) (spells_slot s) (token_at c lexeme.Semicolon ∷ spells_list ss)
+      run_from-parts (f ∷ fr, operand_wanted alone) (g c ss ∷ fr, operand_wanted alone) (g c ss ∷ fr, level_slot s) (spells_slot s) (token_at c lexeme.Semicolon ∷ spells_list ss)
       (ap (option_and_then (step (token_at c lexeme.Semicolon))) (run_from-list ss h.1 fr f g first next)
       ∙ ap (at_semicolon c (frame_of f g ss ∷ fr)) (slot_of_level (first_slot ss)) ∙ behind ss)
       (run_from-slot s h.0 (g c ss ∷ fr))
     where
-      behind : (ss : Slots) → at_semicolon c (frame_of f g ss ∷ fr) (Some (first_slot ss)) ≡ Some (g c ss ∷ fr, wanted alone)
+      behind : (ss : Slots) → at_semicolon c (frame_of f g ss ∷ fr) (Some (first_slot ss)) ≡ Some (g c ss ∷ fr, operand_wanted alone)
       behind (last t) = first c t
       behind (more t j ts) = next c j t ts
 
-  pub run_from-slot : (s : Slot) → IsSlot s → (fr : List Frame) → run_from (fr, wanted alone) (spells_slot s) ≡ Some (fr, level_slot s)
+  pub run_from-slot : (s : Slot) → IsSlot s → (fr : List Frame) → run_from (fr, operand_wanted alone) (spells_slot s) ≡ Some (fr, level_slot s)
   run_from-slot nothing h fr = refl
   run_from-slot (given e) h fr = run_from-spells e h fr
 
-  pub run_from-axis : (a : Axis) → IsAxis a → (fr : List Frame) (e : Expr) → run_from (fr, whole e) (spells_axis a) ≡ Some (fr, level_axis a e)
+  pub run_from-axis : (a : Axis) → IsAxis a → (fr : List Frame) (e : Expr) → run_from (fr, expression e) (spells_axis a) ≡ Some (fr, level_axis a e)
   run_from-axis none h fr e = refl
   run_from-axis (along b x c) h fr e =
       ap (option_and_then (step (token_at b lexeme.OpenBracket)))
-      (run_from-parts (fr, whole e) (either c e ∷ fr, wanted alone) (either c e ∷ fr, whole x) (spells x) (token_at c lexeme.CloseBracket ∷ []) refl (run_from-spells x h (either c e ∷ fr)))
+      (run_from-parts (fr, expression e) (open_axis_or_index c e ∷ fr, operand_wanted alone) (open_axis_or_index c e ∷ fr, expression x) (spells x) (token_at c lexeme.CloseBracket ∷ []) refl (run_from-spells x h (open_axis_or_index c e ∷ fr)))

@@ -9,7 +9,7 @@ use Rattle.apl_grammar.specs.declared.program.Form.TheVariants.{Plain}
 use Rattle.apl_array.specs.Array.{number_array}
 use Rattle.apl_grammar.specs.Tree.{Expr, value, dyadic, monadic, constant, name, index, last, given, none, along, token_at}
 use Rattle.apl_grammar.specs.Caret.{IsCaret}
-use Rattle.apl_grammar.proofs.Partial.{Frame, Level, whole, Config, run}
+use Rattle.apl_grammar.proofs.Partial.{Frame, Level, expression, Config, run}
 use Rattle.apl_grammar.proofs.Viable.{stuck-IsCaret, early-IsCaret}
 
 num : ℕ → ℕ → Token
@@ -33,7 +33,7 @@ row_close : IsCaret (num 0 1 ∷ token_at 1 lexeme.CloseParen ∷ []) 0
 unfolding num
 row_close = (early-IsCaret (num 0 1) (token_at 1 lexeme.CloseParen ∷ []) _ refl (λ e h. some_frames _ _ _ h)).0
   where
-    some_frames : (f : Frame) (l : Level) (e : Expr) → ◌≡◌ {A = Config} (f ∷ [], l) ([], whole e) → ⊥
+    some_frames : (f : Frame) (l : Level) (e : Expr) → ◌≡◌ {A = Config} (f ∷ [], l) ([], expression e) → ⊥
     some_frames f l e h = let frames : ◌≡◌ {A = List Frame} (f ∷ []) [] = ap (λ (m : Config). m.0) h in absurd cc
 
 -- `2+<3` has its caret at column 1
@@ -58,12 +58,12 @@ row_semicolon = (stuck-IsCaret (num 0 1 ∷ []) (token_at 1 lexeme.Semicolon) (n
 
 -- `A,[1]+B` is a catenation along an axis, of `+B`
 row_axis : run (nam 0 65 ∷ token_at 1 (lexeme.Function Comma) ∷ token_at 2 lexeme.OpenBracket ∷ num 3 1 ∷ token_at 4 lexeme.CloseBracket ∷ token_at 5 (lexeme.Function (Scalar Plus)) ∷ nam 6 66 ∷ [])
-    ≡ Some ([], whole (dyadic (name 0 (65 ∷ [])) (Plain 1 Comma) (along 2 (value (constant 3 (number_array [] (pos 1 ∷ [])))) 4) (monadic (Plain 5 (Scalar Plus)) none (value (name 6 (66 ∷ []))))))
+    ≡ Some ([], expression (dyadic (name 0 (65 ∷ [])) (Plain 1 Comma) (along 2 (value (constant 3 (number_array [] (pos 1 ∷ [])))) 4) (monadic (Plain 5 (Scalar Plus)) none (value (name 6 (66 ∷ []))))))
 unfolding num nam
 row_axis = refl
 
 -- `A[1]+B` is a sum of an index
 row_index : run (nam 0 65 ∷ token_at 1 lexeme.OpenBracket ∷ num 2 1 ∷ token_at 3 lexeme.CloseBracket ∷ token_at 4 (lexeme.Function (Scalar Plus)) ∷ nam 5 66 ∷ [])
-    ≡ Some ([], whole (dyadic (index (name 0 (65 ∷ [])) 1 (last (given (value (constant 2 (number_array [] (pos 1 ∷ [])))))) 3) (Plain 4 (Scalar Plus)) none (value (name 5 (66 ∷ [])))))
+    ≡ Some ([], expression (dyadic (index (name 0 (65 ∷ [])) 1 (last (given (value (constant 2 (number_array [] (pos 1 ∷ [])))))) 3) (Plain 4 (Scalar Plus)) none (value (name 5 (66 ∷ [])))))
 unfolding num nam
 row_index = refl

@@ -24,12 +24,12 @@ fill (indexed w l s r) o = fill w (index o l s r)
 
 -- what was read inside the innermost open bracket, seen from its left end
 pub data Level : Type 0 where
-  wanted : Wanted → Level  -- an operand is wanted
-  whole : Expr → Level  -- an expression; if monadic, it may still become dyadic
-  dotted : (dot column : ℕ) → Glyph → Expr → Level  -- . g expr
-  arrowed : (arrow : ℕ) → Expr → Level  -- ← expr
-  beside : (left : ℕ) → Expr → (right : ℕ) → Expr → Level  -- [ expr ] expr, an axis or an index
-  named : (left : ℕ) → Slots → (right arrow : ℕ) → Expr → Level  -- [ list ] ← expr
+  operand_wanted : Wanted → Level  -- an operand is wanted
+  expression : Expr → Level  -- an expression; if monadic, it may still become dyadic
+  leading_dot : (dot column : ℕ) → Glyph → Expr → Level  -- . g expr
+  leading_arrow : (arrow : ℕ) → Expr → Level  -- ← expr
+  leading_brackets : (left : ℕ) → Expr → (right : ℕ) → Expr → Level  -- [ expr ] expr, an axis or an index
+  leading_slots : (left : ℕ) → Slots → (right arrow : ℕ) → Expr → Level  -- [ list ] ← expr
 
 -- the slots behind the last semicolon read
 pub data Tail : Type 0 where
@@ -38,10 +38,10 @@ pub data Tail : Type 0 where
 
 -- an open bracket, and what stands on its right
 pub data Frame : Type 0 where
-  grouped : (right : ℕ) → Wanted → Frame
-  sliced : (right : ℕ) → Tail → Wanted → Frame
-  either : (right : ℕ) → Expr → Frame
-  stored : (right : ℕ) → Tail → (arrow : ℕ) → Expr → Frame
+  open_group : (right : ℕ) → Wanted → Frame
+  open_index : (right : ℕ) → Tail → Wanted → Frame
+  open_axis_or_index : (right : ℕ) → Expr → Frame
+  open_indexed_assignment : (right : ℕ) → Tail → (arrow : ℕ) → Expr → Frame
 
 abbrev pub Config : Type 0
 Config = List Frame × Level
@@ -64,39 +64,39 @@ with_index l s r None = None
 with_index l s r (Some w) = Some (indexed w l s r)
 
 abbrev pub as_wanted : Level → Option Wanted
-as_wanted (wanted w) = Some w
-as_wanted (whole e) = as_dyadic e
-as_wanted (beside l x r e) = with_index l (last (given x)) r (as_dyadic e)
+as_wanted (operand_wanted w) = Some w
+as_wanted (expression e) = as_dyadic e
+as_wanted (leading_brackets l x r e) = with_index l (last (given x)) r (as_dyadic e)
 as_wanted _ = None
 
 -- a function and its axis are read
 abbrev pub level_by : Bool → Form → Axis → Expr → Level
-level_by true f a e = whole (monadic f a e)
-level_by false f a e = wanted (applied f a e)
+level_by true f a e = expression (monadic f a e)
+level_by false f a e = operand_wanted (applied f a e)
 
 abbrev pub level_for : Form → Axis → Expr → Level
 level_for f a e = level_by (may_be_monadic f (has_axis a)) f a e
 
 abbrev pub at_operand : List Frame → Operand → Option Wanted → Option Config
 at_operand fr o None = None
-at_operand fr o (Some w) = Some (fr, whole (fill w o))
+at_operand fr o (Some w) = Some (fr, expression (fill w o))
 
 abbrev pub at_name : List Frame → ℕ → List ℕ → Level → Option Config
-at_name fr c n (arrowed r e) = Some (fr, whole (assign c n r e))
-at_name fr c n (named l s d r e) = Some (fr, whole (assign_at c n l s d r e))
+at_name fr c n (leading_arrow r e) = Some (fr, expression (assign c n r e))
+at_name fr c n (leading_slots l s d r e) = Some (fr, expression (assign_at c n l s d r e))
 at_name fr c n l = at_operand fr (name c n) (as_wanted l)
 
 abbrev pub at_close : List Frame → ℕ → Option Wanted → Option Config
 at_close fr c None = None
-at_close fr c (Some w) = Some (grouped c w ∷ fr, wanted alone)
+at_close fr c (Some w) = Some (open_group c w ∷ fr, operand_wanted alone)
 
 abbrev pub at_slice : List Frame → ℕ → Option Wanted → Option Config
 at_slice fr c None = None
-at_slice fr c (Some w) = Some (sliced c no_slots w ∷ fr, wanted alone)
+at_slice fr c (Some w) = Some (open_index c no_slots w ∷ fr, operand_wanted alone)
 
 abbrev pub at_close_bracket : List Frame → ℕ → Level → Option Config
-at_close_bracket fr c (whole e) = Some (either c e ∷ fr, wanted alone)
-at_close_bracket fr c (arrowed r e) = Some (stored c no_slots r e ∷ fr, wanted alone)
+at_close_bracket fr c (expression e) = Some (open_axis_or_index c e ∷ fr, operand_wanted alone)
+at_close_bracket fr c (leading_arrow r e) = Some (open_indexed_assignment c no_slots r e ∷ fr, operand_wanted alone)
 at_close_bracket fr c l = at_slice fr c (as_wanted l)
 
 abbrev pub only : Bool → List Frame → Level → Option Config
@@ -104,53 +104,53 @@ only true fr l = Some (fr, l)
 only false fr l = None
 
 abbrev pub at_function : List Frame → ℕ → Glyph → Level → Option Config
-at_function fr c g (whole e) = Some (fr, level_for (Plain c g) none e)
-at_function fr c g (beside l x r e) = only (takes_axis (class_of g)) fr (level_for (Plain c g) (along l x r) e)
-at_function fr c g (dotted d k h e) = only (is_dyadic_scalar (class_of g)) fr (wanted (applied (Inner c g d k h) none e))
-at_function fr c g (wanted (applied (Plain s h) a e)) = only (is_dyadic_scalar (class_of g) && reduces (class_of h)) fr (whole (monadic (Reduce c g s h) a e))
+at_function fr c g (expression e) = Some (fr, level_for (Plain c g) none e)
+at_function fr c g (leading_brackets l x r e) = only (takes_axis (class_of g)) fr (level_for (Plain c g) (along l x r) e)
+at_function fr c g (leading_dot d k h e) = only (is_dyadic_scalar (class_of g)) fr (operand_wanted (applied (Inner c g d k h) none e))
+at_function fr c g (operand_wanted (applied (Plain s h) a e)) = only (is_dyadic_scalar (class_of g) && reduces (class_of h)) fr (expression (monadic (Reduce c g s h) a e))
 at_function fr c g _ = None
 
 abbrev pub at_dot : List Frame → ℕ → Level → Option Config
-at_dot fr d (whole (monadic (Plain c g) none e)) = only (is_dyadic_scalar (class_of g)) fr (dotted d c g e)
-at_dot fr d (wanted (applied (Plain c g) none e)) = only (is_dyadic_scalar (class_of g)) fr (dotted d c g e)
+at_dot fr d (expression (monadic (Plain c g) none e)) = only (is_dyadic_scalar (class_of g)) fr (leading_dot d c g e)
+at_dot fr d (operand_wanted (applied (Plain c g) none e)) = only (is_dyadic_scalar (class_of g)) fr (leading_dot d c g e)
 at_dot fr d _ = None
 
 abbrev pub at_jot : List Frame → ℕ → Level → Option Config
-at_jot fr j (dotted d c g e) = Some (fr, wanted (applied (Outer j d c g) none e))
+at_jot fr j (leading_dot d c g e) = Some (fr, operand_wanted (applied (Outer j d c g) none e))
 at_jot fr j _ = None
 
 abbrev pub at_arrow : List Frame → ℕ → Level → Option Config
-at_arrow fr r (whole e) = Some (fr, arrowed r e)
+at_arrow fr r (expression e) = Some (fr, leading_arrow r e)
 at_arrow fr r _ = None
 
 abbrev pub at_open : ℕ → List Frame → Level → Option Config
-at_open l (grouped r w ∷ fr) (whole e) = Some (fr, whole (fill w (group l e r)))
+at_open l (open_group r w ∷ fr) (expression e) = Some (fr, expression (fill w (group l e r)))
 at_open l _ _ = None
 
 abbrev pub slot_of : Level → Option Slot
-slot_of (whole e) = Some (given e)
-slot_of (wanted alone) = Some nothing
+slot_of (expression e) = Some (given e)
+slot_of (operand_wanted alone) = Some nothing
 slot_of _ = None
 
 abbrev pub sliced_by : List Frame → ℕ → ℕ → Slot → Option Wanted → Option Config
 sliced_by fr k c s None = None
-sliced_by fr k c s (Some w) = Some (sliced c (slots k (last s)) w ∷ fr, wanted alone)
+sliced_by fr k c s (Some w) = Some (open_index c (slots k (last s)) w ∷ fr, operand_wanted alone)
 
 abbrev pub at_semicolon : ℕ → List Frame → Option Slot → Option Config
-at_semicolon k (sliced c tail w ∷ fr) (Some s) = Some (sliced c (slots k (join tail s)) w ∷ fr, wanted alone)
-at_semicolon k (either c e ∷ fr) (Some s) = sliced_by fr k c s (as_dyadic e)
-at_semicolon k (stored c tail r e ∷ fr) (Some s) = Some (stored c (slots k (join tail s)) r e ∷ fr, wanted alone)
+at_semicolon k (open_index c tail w ∷ fr) (Some s) = Some (open_index c (slots k (join tail s)) w ∷ fr, operand_wanted alone)
+at_semicolon k (open_axis_or_index c e ∷ fr) (Some s) = sliced_by fr k c s (as_dyadic e)
+at_semicolon k (open_indexed_assignment c tail r e ∷ fr) (Some s) = Some (open_indexed_assignment c (slots k (join tail s)) r e ∷ fr, operand_wanted alone)
 at_semicolon k _ _ = None
 
 abbrev pub wanted_by : List Frame → Option Wanted → Option Config
 wanted_by fr None = None
-wanted_by fr (Some w) = Some (fr, wanted w)
+wanted_by fr (Some w) = Some (fr, operand_wanted w)
 
 abbrev pub at_open_bracket : ℕ → List Frame → Option Slot → Option Config
-at_open_bracket l (sliced c tail w ∷ fr) (Some s) = Some (fr, wanted (indexed w l (join tail s) c))
-at_open_bracket l (either c e ∷ fr) (Some (given x)) = Some (fr, beside l x c e)
-at_open_bracket l (either c e ∷ fr) (Some nothing) = wanted_by fr (with_index l (last nothing) c (as_dyadic e))
-at_open_bracket l (stored c tail r e ∷ fr) (Some s) = Some (fr, named l (join tail s) c r e)
+at_open_bracket l (open_index c tail w ∷ fr) (Some s) = Some (fr, operand_wanted (indexed w l (join tail s) c))
+at_open_bracket l (open_axis_or_index c e ∷ fr) (Some (given x)) = Some (fr, leading_brackets l x c e)
+at_open_bracket l (open_axis_or_index c e ∷ fr) (Some nothing) = wanted_by fr (with_index l (last nothing) c (as_dyadic e))
+at_open_bracket l (open_indexed_assignment c tail r e ∷ fr) (Some s) = Some (fr, leading_slots l (join tail s) c r e)
 at_open_bracket l _ _ = None
 
 abbrev pub step_lexeme : ℕ → Lexeme → List Frame → Level → Option Config
@@ -174,7 +174,7 @@ run_from k [] = Some k
 run_from k (t ∷ ts) = option_and_then (step t) (run_from k ts)
 
 abbrev pub run : List Token → Option Config
-run ts = run_from ([], wanted alone) ts
+run ts = run_from ([], operand_wanted alone) ts
 
 -- a part at the right end is read first
 pub run_from-append : (k : Config) (a b : List Token) → run_from k (a ++ b) ≡ option_and_then (λ m. run_from m a) (run_from k b)

@@ -14,7 +14,7 @@ use Rattle.apl_tokens.specs.Symbols.{class_of}
 use Rattle.apl_grammar.specs.declared.program.Form.TheVariants.{Plain, Reduce, Inner, Outer}
 use Rattle.apl_grammar.specs.Functions.{is_dyadic_scalar, is_monadic, is_dyadic, takes_axis, is_rotation, reduces, may_be_monadic, may_be_dyadic}
 use Rattle.apl_grammar.specs.Tree.{Expr, value, dyadic, monadic, assign, assign_at, Operand, constant, name, group, index, Slots, last, Slot, nothing, given, Axis, none, along, has_axis, IsTree, IsOperand, IsList, IsSlot, IsAxis, token_at, spells, spells_operand, spells_list, spells_slot, spells_axis, spells_form}
-use Rattle.apl_grammar.proofs.Partial.{Wanted, alone, applied, indexed, fill, Level, wanted, whole, dotted, arrowed, beside, named, Tail, no_slots, slots, Frame, grouped, sliced, either, stored, Config, join, when, as_dyadic, with_index, as_wanted, level_by, level_for, at_operand, at_name, at_close, at_slice, at_close_bracket, only, at_function, at_dot, at_jot, at_arrow, at_open, slot_of, sliced_by, at_semicolon, wanted_by, at_open_bracket, step_lexeme, step, run}
+use Rattle.apl_grammar.proofs.Partial.{Wanted, alone, applied, indexed, fill, Level, operand_wanted, expression, leading_dot, leading_arrow, leading_brackets, leading_slots, Tail, no_slots, slots, Frame, open_group, open_index, open_axis_or_index, open_indexed_assignment, Config, join, when, as_dyadic, with_index, as_wanted, level_by, level_for, at_operand, at_name, at_close, at_slice, at_close_bracket, only, at_function, at_dot, at_jot, at_arrow, at_open, slot_of, sliced_by, at_semicolon, wanted_by, at_open_bracket, step_lexeme, step, run}
 use Rattle.std.specs.Prelude.{IfSome}
 use Rattle.std.proofs.lemmas.List.{append-nil}
 
@@ -24,12 +24,12 @@ spelled_wanted (applied f a e) = spells_form f ++ (spells_axis a ++ spells e)
 spelled_wanted (indexed w l s r) = token_at l lexeme.OpenBracket ∷ (spells_list s ++ token_at r lexeme.CloseBracket ∷ spelled_wanted w)
 
 abbrev pub spelled_level : Level → List Token
-spelled_level (wanted w) = spelled_wanted w
-spelled_level (whole e) = spells e
-spelled_level (dotted d c g e) = token_at d lexeme.Dot ∷ token_at c (lexeme.Function g) ∷ spells e
-spelled_level (arrowed r e) = token_at r lexeme.Arrow ∷ spells e
-spelled_level (beside l x r e) = token_at l lexeme.OpenBracket ∷ (spells x ++ token_at r lexeme.CloseBracket ∷ spells e)
-spelled_level (named l s d r e) = token_at l lexeme.OpenBracket ∷ (spells_list s ++ token_at d lexeme.CloseBracket ∷ token_at r lexeme.Arrow ∷ spells e)
+spelled_level (operand_wanted w) = spelled_wanted w
+spelled_level (expression e) = spells e
+spelled_level (leading_dot d c g e) = token_at d lexeme.Dot ∷ token_at c (lexeme.Function g) ∷ spells e
+spelled_level (leading_arrow r e) = token_at r lexeme.Arrow ∷ spells e
+spelled_level (leading_brackets l x r e) = token_at l lexeme.OpenBracket ∷ (spells x ++ token_at r lexeme.CloseBracket ∷ spells e)
+spelled_level (leading_slots l s d r e) = token_at l lexeme.OpenBracket ∷ (spells_list s ++ token_at d lexeme.CloseBracket ∷ token_at r lexeme.Arrow ∷ spells e)
 
 abbrev pub spelled_tail : Tail → List Token
 spelled_tail no_slots = []
@@ -37,10 +37,10 @@ spelled_tail (slots k ss) = token_at k lexeme.Semicolon ∷ spells_list ss
 
 abbrev pub spelled_frames : List Frame → List Token
 spelled_frames [] = []
-spelled_frames (grouped r w ∷ fr) = token_at r lexeme.CloseParen ∷ (spelled_wanted w ++ spelled_frames fr)
-spelled_frames (sliced r t w ∷ fr) = spelled_tail t ++ token_at r lexeme.CloseBracket ∷ (spelled_wanted w ++ spelled_frames fr)
-spelled_frames (either r e ∷ fr) = token_at r lexeme.CloseBracket ∷ (spells e ++ spelled_frames fr)
-spelled_frames (stored r t a e ∷ fr) = spelled_tail t ++ token_at r lexeme.CloseBracket ∷ token_at a lexeme.Arrow ∷ (spells e ++ spelled_frames fr)
+spelled_frames (open_group r w ∷ fr) = token_at r lexeme.CloseParen ∷ (spelled_wanted w ++ spelled_frames fr)
+spelled_frames (open_index r t w ∷ fr) = spelled_tail t ++ token_at r lexeme.CloseBracket ∷ (spelled_wanted w ++ spelled_frames fr)
+spelled_frames (open_axis_or_index r e ∷ fr) = token_at r lexeme.CloseBracket ∷ (spells e ++ spelled_frames fr)
+spelled_frames (open_indexed_assignment r t a e ∷ fr) = spelled_tail t ++ token_at r lexeme.CloseBracket ∷ token_at a lexeme.Arrow ∷ (spells e ++ spelled_frames fr)
 
 abbrev pub spelled : List Frame → Level → List Token
 spelled fr l = spelled_level l ++ spelled_frames fr
@@ -51,12 +51,12 @@ IsWanted (applied f a e) = IsTrue (may_be_dyadic f (has_axis a)) × IsAxis a × 
 IsWanted (indexed w l s r) = IsWanted w × IsList s
 
 abbrev pub IsLevel : Level → Type 0
-IsLevel (wanted w) = IsWanted w
-IsLevel (whole e) = IsTree e
-IsLevel (dotted d c g e) = IsTrue (is_dyadic_scalar (class_of g)) × IsTree e
-IsLevel (arrowed r e) = IsTree e
-IsLevel (beside l x r e) = IsTree x × IsTree e
-IsLevel (named l s d r e) = IsList s × IsTree e
+IsLevel (operand_wanted w) = IsWanted w
+IsLevel (expression e) = IsTree e
+IsLevel (leading_dot d c g e) = IsTrue (is_dyadic_scalar (class_of g)) × IsTree e
+IsLevel (leading_arrow r e) = IsTree e
+IsLevel (leading_brackets l x r e) = IsTree x × IsTree e
+IsLevel (leading_slots l s d r e) = IsList s × IsTree e
 
 abbrev pub IsTail : Tail → Type 0
 IsTail no_slots = Unit {0}
@@ -64,10 +64,10 @@ IsTail (slots k ss) = IsList ss
 
 abbrev pub AreFrames : List Frame → Type 0
 AreFrames [] = Unit {0}
-AreFrames (grouped r w ∷ fr) = IsWanted w × AreFrames fr
-AreFrames (sliced r t w ∷ fr) = IsTail t × IsWanted w × AreFrames fr
-AreFrames (either r e ∷ fr) = IsTree e × AreFrames fr
-AreFrames (stored r t a e ∷ fr) = IsTail t × IsTree e × AreFrames fr
+AreFrames (open_group r w ∷ fr) = IsWanted w × AreFrames fr
+AreFrames (open_index r t w ∷ fr) = IsTail t × IsWanted w × AreFrames fr
+AreFrames (open_axis_or_index r e ∷ fr) = IsTree e × AreFrames fr
+AreFrames (open_indexed_assignment r t a e ∷ fr) = IsTail t × IsTree e × AreFrames fr
 
 -- after one more token: partial trees of the grammar, which spell it in front of the rest
 pub record Reads (t : Token) (ts : List Token) (m : Config) : Type 0 where
@@ -108,22 +108,22 @@ indexed_some l s r None w h = absurd cc
 indexed_some l s r (Some v) w h = (v, refl, cc)
 
 wanted_of : (l : Level) (w : Wanted) → IsLevel l → as_wanted l ≡ Some w → WantedOf l w
-wanted_of (wanted v) w t h =
+wanted_of (operand_wanted v) w t h =
     let e : v ≡ w = cc in
     record { fits = subst IsWanted e t; same = ap spelled_wanted (sym e) }
-wanted_of (whole e) w t h =
+wanted_of (expression e) w t h =
     let d : IsWanted w × (spelled_wanted w ≡ spells e) = dyadic_of e w t h in
     record { fits = d.0; same = d.1 }
-wanted_of (dotted d c g e) w t h = absurd cc
-wanted_of (arrowed r e) w t h = absurd cc
-wanted_of (beside l x r e) w t h =
+wanted_of (leading_dot d c g e) w t h = absurd cc
+wanted_of (leading_arrow r e) w t h = absurd cc
+wanted_of (leading_brackets l x r e) w t h =
     let i : (v : Wanted) × (as_dyadic e ≡ Some v) × (indexed v l (last (given x)) r ≡ w) = indexed_some l (last (given x)) r (as_dyadic e) w h in
     let d : IsWanted i.0 × (spelled_wanted i.0 ≡ spells e) = dyadic_of e i.0 t.1 i.1 in
     record {
       fits = subst IsWanted i.2 (d.0, t.0);
       same = ap spelled_wanted (sym i.2) ∙ ap (λ x'. token_at l lexeme.OpenBracket ∷ (spells x ++ token_at r lexeme.CloseBracket ∷ x')) d.1;
     }
-wanted_of (named l s d r e) w t h = absurd cc
+wanted_of (leading_slots l s d r e) w t h = absurd cc
 
 operand_sound : (c : ℕ) (k : Lexeme) (o : Operand) → IsOperand o → spells_operand o ≡ token_at c k ∷ [] → (fr : List Frame) (l : Level) → AreFrames fr → IsLevel l → IfSome (at_operand fr o (as_wanted l)) (Reads (token_at c k) (spelled fr l))
 operand_sound c k o ho eo fr l hf hl = by_wanted (as_wanted l) refl
@@ -139,12 +139,12 @@ operand_sound c k o ho eo fr l hf hl = by_wanted (as_wanted l) refl
         }
 
 name_sound : (c : ℕ) (n : List ℕ) (fr : List Frame) (l : Level) → AreFrames fr → IsLevel l → IfSome (at_name fr c n l) (Reads (token_at c (lexeme.Name n)) (spelled fr l))
-name_sound c n fr (arrowed r e) hf hl = record { frames = hf; level = hl; spelled_so = refl }
-name_sound c n fr (named l s d r e) hf hl = record { frames = hf; level = hl; spelled_so = refl }
-name_sound c n fr (wanted w) hf hl = operand_sound c (lexeme.Name n) (name c n) tt refl fr (wanted w) hf hl
-name_sound c n fr (whole e) hf hl = operand_sound c (lexeme.Name n) (name c n) tt refl fr (whole e) hf hl
-name_sound c n fr (dotted d k g e) hf hl = tt
-name_sound c n fr (beside l x r e) hf hl = operand_sound c (lexeme.Name n) (name c n) tt refl fr (beside l x r e) hf hl
+name_sound c n fr (leading_arrow r e) hf hl = record { frames = hf; level = hl; spelled_so = refl }
+name_sound c n fr (leading_slots l s d r e) hf hl = record { frames = hf; level = hl; spelled_so = refl }
+name_sound c n fr (operand_wanted w) hf hl = operand_sound c (lexeme.Name n) (name c n) tt refl fr (operand_wanted w) hf hl
+name_sound c n fr (expression e) hf hl = operand_sound c (lexeme.Name n) (name c n) tt refl fr (expression e) hf hl
+name_sound c n fr (leading_dot d k g e) hf hl = tt
+name_sound c n fr (leading_brackets l x r e) hf hl = operand_sound c (lexeme.Name n) (name c n) tt refl fr (leading_brackets l x r e) hf hl
 
 close_sound : (c : ℕ) (fr : List Frame) (l : Level) → AreFrames fr → IsLevel l → IfSome (at_close fr c (as_wanted l)) (Reads (token_at c lexeme.CloseParen) (spelled fr l))
 close_sound c fr l hf hl = by_wanted (as_wanted l) refl
@@ -165,12 +165,12 @@ slice_sound c fr l hf hl = by_wanted (as_wanted l) refl
         record { frames = (tt, f.fits, hf); level = tt; spelled_so = ap (λ x. token_at c lexeme.CloseBracket ∷ (x ++ spelled_frames fr)) f.same }
 
 close_bracket_sound : (c : ℕ) (fr : List Frame) (l : Level) → AreFrames fr → IsLevel l → IfSome (at_close_bracket fr c l) (Reads (token_at c lexeme.CloseBracket) (spelled fr l))
-close_bracket_sound c fr (whole e) hf hl = record { frames = (hl, hf); level = tt; spelled_so = refl }
-close_bracket_sound c fr (arrowed r e) hf hl = record { frames = (tt, hl, hf); level = tt; spelled_so = refl }
-close_bracket_sound c fr (wanted w) hf hl = slice_sound c fr (wanted w) hf hl
-close_bracket_sound c fr (dotted d k g e) hf hl = tt
-close_bracket_sound c fr (beside l x r e) hf hl = slice_sound c fr (beside l x r e) hf hl
-close_bracket_sound c fr (named l s d r e) hf hl = tt
+close_bracket_sound c fr (expression e) hf hl = record { frames = (hl, hf); level = tt; spelled_so = refl }
+close_bracket_sound c fr (leading_arrow r e) hf hl = record { frames = (tt, hl, hf); level = tt; spelled_so = refl }
+close_bracket_sound c fr (operand_wanted w) hf hl = slice_sound c fr (operand_wanted w) hf hl
+close_bracket_sound c fr (leading_dot d k g e) hf hl = tt
+close_bracket_sound c fr (leading_brackets l x r e) hf hl = slice_sound c fr (leading_brackets l x r e) hf hl
+close_bracket_sound c fr (leading_slots l s d r e) hf hl = tt
 
 scalar_dyadic : (f : ScalarFunction) → has_monadic f ≡ false → IsTrue (has_dyadic f)
 scalar_dyadic Tilde h = absurd cc
@@ -193,43 +193,43 @@ only_sound true fr l t ts h = h refl
 only_sound false fr l t ts h = tt
 
 function_sound : (c : ℕ) (g : Glyph) (fr : List Frame) (l : Level) → AreFrames fr → IsLevel l → IfSome (at_function fr c g l) (Reads (token_at c (lexeme.Function g)) (spelled fr l))
-function_sound c g fr (whole e) hf hl = level_sound c g none e fr (spelled fr (whole e)) (is_monadic (class_of g)) refl (plain_dyadic (class_of g)) hf tt hl refl
-function_sound c g fr (beside l x r e) hf hl =
-    only_sound (takes_axis (class_of g)) fr (level_for (Plain c g) (along l x r) e) (token_at c (lexeme.Function g)) (spelled fr (beside l x r e))
-    (λ h. level_sound c g (along l x r) e fr (spelled fr (beside l x r e)) (is_rotation (class_of g)) refl (λ _. h) hf hl.0 hl.1 (simp append_assoc))
-function_sound c g fr (dotted d k h e) hf hl =
-    only_sound (is_dyadic_scalar (class_of g)) fr (wanted (applied (Inner c g d k h) none e)) (token_at c (lexeme.Function g)) (spelled fr (dotted d k h e))
+function_sound c g fr (expression e) hf hl = level_sound c g none e fr (spelled fr (expression e)) (is_monadic (class_of g)) refl (plain_dyadic (class_of g)) hf tt hl refl
+function_sound c g fr (leading_brackets l x r e) hf hl =
+    only_sound (takes_axis (class_of g)) fr (level_for (Plain c g) (along l x r) e) (token_at c (lexeme.Function g)) (spelled fr (leading_brackets l x r e))
+    (λ h. level_sound c g (along l x r) e fr (spelled fr (leading_brackets l x r e)) (is_rotation (class_of g)) refl (λ _. h) hf hl.0 hl.1 (simp append_assoc))
+function_sound c g fr (leading_dot d k h e) hf hl =
+    only_sound (is_dyadic_scalar (class_of g)) fr (operand_wanted (applied (Inner c g d k h) none e)) (token_at c (lexeme.Function g)) (spelled fr (leading_dot d k h e))
     (λ i. record { frames = hf; level = (rw (i, hl.0) refl, tt, hl.1); spelled_so = refl })
-function_sound c g fr (wanted (applied (Plain s h) a e)) hf hl =
-    only_sound (is_dyadic_scalar (class_of g) && reduces (class_of h)) fr (whole (monadic (Reduce c g s h) a e)) (token_at c (lexeme.Function g)) (spelled fr (wanted (applied (Plain s h) a e)))
+function_sound c g fr (operand_wanted (applied (Plain s h) a e)) hf hl =
+    only_sound (is_dyadic_scalar (class_of g) && reduces (class_of h)) fr (expression (monadic (Reduce c g s h) a e)) (token_at c (lexeme.Function g)) (spelled fr (operand_wanted (applied (Plain s h) a e)))
     (λ i. record { frames = hf; level = (i, hl.1, hl.2); spelled_so = refl })
-function_sound c g fr (wanted alone) hf hl = tt
-function_sound c g fr (wanted (indexed w l s r)) hf hl = tt
-function_sound c g fr (wanted (applied (Reduce d f s h) a e)) hf hl = tt
-function_sound c g fr (wanted (applied (Inner d f s k h) a e)) hf hl = tt
-function_sound c g fr (wanted (applied (Outer d f s h) a e)) hf hl = tt
-function_sound c g fr (arrowed r e) hf hl = tt
-function_sound c g fr (named l s d r e) hf hl = tt
+function_sound c g fr (operand_wanted alone) hf hl = tt
+function_sound c g fr (operand_wanted (indexed w l s r)) hf hl = tt
+function_sound c g fr (operand_wanted (applied (Reduce d f s h) a e)) hf hl = tt
+function_sound c g fr (operand_wanted (applied (Inner d f s k h) a e)) hf hl = tt
+function_sound c g fr (operand_wanted (applied (Outer d f s h) a e)) hf hl = tt
+function_sound c g fr (leading_arrow r e) hf hl = tt
+function_sound c g fr (leading_slots l s d r e) hf hl = tt
 
 dot_sound : (d : ℕ) (fr : List Frame) (l : Level) → AreFrames fr → IsLevel l → IfSome (at_dot fr d l) (Reads (token_at d lexeme.Dot) (spelled fr l))
-dot_sound d fr (whole (monadic (Plain c g) none e)) hf hl =
-    only_sound (is_dyadic_scalar (class_of g)) fr (dotted d c g e) (token_at d lexeme.Dot) (spelled fr (whole (monadic (Plain c g) none e)))
+dot_sound d fr (expression (monadic (Plain c g) none e)) hf hl =
+    only_sound (is_dyadic_scalar (class_of g)) fr (leading_dot d c g e) (token_at d lexeme.Dot) (spelled fr (expression (monadic (Plain c g) none e)))
     (λ i. record { frames = hf; level = (i, hl.2); spelled_so = refl })
-dot_sound d fr (wanted (applied (Plain c g) none e)) hf hl =
-    only_sound (is_dyadic_scalar (class_of g)) fr (dotted d c g e) (token_at d lexeme.Dot) (spelled fr (wanted (applied (Plain c g) none e)))
+dot_sound d fr (operand_wanted (applied (Plain c g) none e)) hf hl =
+    only_sound (is_dyadic_scalar (class_of g)) fr (leading_dot d c g e) (token_at d lexeme.Dot) (spelled fr (operand_wanted (applied (Plain c g) none e)))
     (λ i. record { frames = hf; level = (i, hl.2); spelled_so = refl })
 dot_sound d fr _ hf hl = tt
 
 jot_sound : (j : ℕ) (fr : List Frame) (l : Level) → AreFrames fr → IsLevel l → IfSome (at_jot fr j l) (Reads (token_at j lexeme.Jot) (spelled fr l))
-jot_sound j fr (dotted d c g e) hf hl = record { frames = hf; level = (hl.0, tt, hl.1); spelled_so = refl }
+jot_sound j fr (leading_dot d c g e) hf hl = record { frames = hf; level = (hl.0, tt, hl.1); spelled_so = refl }
 jot_sound j fr _ hf hl = tt
 
 arrow_sound : (r : ℕ) (fr : List Frame) (l : Level) → AreFrames fr → IsLevel l → IfSome (at_arrow fr r l) (Reads (token_at r lexeme.Arrow) (spelled fr l))
-arrow_sound r fr (whole e) hf hl = record { frames = hf; level = hl; spelled_so = refl }
+arrow_sound r fr (expression e) hf hl = record { frames = hf; level = hl; spelled_so = refl }
 arrow_sound r fr _ hf hl = tt
 
 open_sound : (b : ℕ) (fr : List Frame) (l : Level) → AreFrames fr → IsLevel l → IfSome (at_open b fr l) (Reads (token_at b lexeme.OpenParen) (spelled fr l))
-open_sound b (grouped r w ∷ fr) (whole e) hf hl = record {
+open_sound b (open_group r w ∷ fr) (expression e) hf hl = record {
   frames = hf.1;
   level = fill_tree w (group b e r) hl hf.0;
   spelled_so = ap (λ x. x ++ spelled_frames fr) (fill-spells w (group b e r)) ∙ simp append_assoc;
@@ -237,10 +237,10 @@ open_sound b (grouped r w ∷ fr) (whole e) hf hl = record {
 open_sound b _ _ hf hl = tt
 
 slot_sound : (l : Level) (s : Slot) → IsLevel l → slot_of l ≡ Some s → IsSlot s × (spells_slot s ≡ spelled_level l)
-slot_sound (whole e) (given x) hl h =
+slot_sound (expression e) (given x) hl h =
     let same : e ≡ x = cc in
     (subst IsTree same hl, ap spells (sym same))
-slot_sound (wanted alone) nothing hl h = (tt, refl)
+slot_sound (operand_wanted alone) nothing hl h = (tt, refl)
 slot_sound _ _ hl h = absurd cc
 
 pub join-spells : (t : Tail) (s : Slot) → spells_list (join t s) ≡ spells_slot s ++ spelled_tail t
@@ -253,49 +253,49 @@ join_list (slots k ss) s ht hs = (hs, ht)
 
 semicolon_sound : (k : ℕ) (fr : List Frame) (l : Level) (s : Slot) → AreFrames fr → IsSlot s → spells_slot s ≡ spelled_level l → IfSome (at_semicolon k fr (Some s)) (Reads (token_at k lexeme.Semicolon) (spelled fr l))
 semicolon_sound k [] l s hf hs es = tt
-semicolon_sound k (grouped r w ∷ fr) l s hf hs es = tt
-semicolon_sound k (sliced c t w ∷ fr) l s hf hs es =
+semicolon_sound k (open_group r w ∷ fr) l s hf hs es = tt
+semicolon_sound k (open_index c t w ∷ fr) l s hf hs es =
     record { frames = (join_list t s hf.0 hs, hf.1, hf.2); level = tt; spelled_so = ap (λ x. token_at k lexeme.Semicolon ∷ (x ++ token_at c lexeme.CloseBracket ∷ (spelled_wanted w ++ spelled_frames fr))) (join-spells t s) ∙ ap (λ x. token_at k lexeme.Semicolon ∷ ((x ++ spelled_tail t) ++ token_at c lexeme.CloseBracket ∷ (spelled_wanted w ++ spelled_frames fr))) es ∙ simp append_assoc }
-semicolon_sound k (either c e ∷ fr) l s hf hs es = by_wanted (as_dyadic e) refl
+semicolon_sound k (open_axis_or_index c e ∷ fr) l s hf hs es = by_wanted (as_dyadic e) refl
   where
-    by_wanted : (w : Option Wanted) → as_dyadic e ≡ w → IfSome (sliced_by fr k c s w) (Reads (token_at k lexeme.Semicolon) (spelled (either c e ∷ fr) l))
+    by_wanted : (w : Option Wanted) → as_dyadic e ≡ w → IfSome (sliced_by fr k c s w) (Reads (token_at k lexeme.Semicolon) (spelled (open_axis_or_index c e ∷ fr) l))
     by_wanted None h = tt
     by_wanted (Some w) h =
         let d : IsWanted w × (spelled_wanted w ≡ spells e) = dyadic_of e w hf.0 h in
         record { frames = (hs, d.0, hf.1); level = tt; spelled_so = ap (λ x. token_at k lexeme.Semicolon ∷ (x ++ token_at c lexeme.CloseBracket ∷ (spelled_wanted w ++ spelled_frames fr))) es ∙ ap (λ x. token_at k lexeme.Semicolon ∷ (spelled_level l ++ token_at c lexeme.CloseBracket ∷ (x ++ spelled_frames fr))) d.1 }
-semicolon_sound k (stored c t r e ∷ fr) l s hf hs es =
+semicolon_sound k (open_indexed_assignment c t r e ∷ fr) l s hf hs es =
     record { frames = (join_list t s hf.0 hs, hf.1, hf.2); level = tt; spelled_so = ap (λ x. token_at k lexeme.Semicolon ∷ (x ++ token_at c lexeme.CloseBracket ∷ token_at r lexeme.Arrow ∷ (spells e ++ spelled_frames fr))) (join-spells t s) ∙ ap (λ x. token_at k lexeme.Semicolon ∷ ((x ++ spelled_tail t) ++ token_at c lexeme.CloseBracket ∷ token_at r lexeme.Arrow ∷ (spells e ++ spelled_frames fr))) es ∙ simp append_assoc }
 
 open_bracket_sound : (b : ℕ) (fr : List Frame) (l : Level) (s : Slot) → AreFrames fr → IsSlot s → spells_slot s ≡ spelled_level l → IfSome (at_open_bracket b fr (Some s)) (Reads (token_at b lexeme.OpenBracket) (spelled fr l))
 open_bracket_sound b [] l s hf hs es = tt
-open_bracket_sound b (grouped r w ∷ fr) l s hf hs es = tt
-open_bracket_sound b (sliced c t w ∷ fr) l s hf hs es =
+open_bracket_sound b (open_group r w ∷ fr) l s hf hs es = tt
+open_bracket_sound b (open_index c t w ∷ fr) l s hf hs es =
     record { frames = hf.2; level = (hf.1, join_list t s hf.0 hs); spelled_so = ap (λ x. token_at b lexeme.OpenBracket ∷ ((x ++ token_at c lexeme.CloseBracket ∷ spelled_wanted w) ++ spelled_frames fr)) (join-spells t s) ∙ ap (λ x. token_at b lexeme.OpenBracket ∷ (((x ++ spelled_tail t) ++ token_at c lexeme.CloseBracket ∷ spelled_wanted w) ++ spelled_frames fr)) es ∙ simp append_assoc }
-open_bracket_sound b (either c e ∷ fr) l (given x) hf hs es =
+open_bracket_sound b (open_axis_or_index c e ∷ fr) l (given x) hf hs es =
     record { frames = hf.1; level = (hs, hf.0); spelled_so = ap (λ y. token_at b lexeme.OpenBracket ∷ ((y ++ token_at c lexeme.CloseBracket ∷ spells e) ++ spelled_frames fr)) es ∙ simp append_assoc }
-open_bracket_sound b (either c e ∷ fr) l nothing hf hs es = by_wanted (as_dyadic e) refl
+open_bracket_sound b (open_axis_or_index c e ∷ fr) l nothing hf hs es = by_wanted (as_dyadic e) refl
   where
-    by_wanted : (w : Option Wanted) → as_dyadic e ≡ w → IfSome (wanted_by fr (with_index b (last nothing) c w)) (Reads (token_at b lexeme.OpenBracket) (spelled (either c e ∷ fr) l))
+    by_wanted : (w : Option Wanted) → as_dyadic e ≡ w → IfSome (wanted_by fr (with_index b (last nothing) c w)) (Reads (token_at b lexeme.OpenBracket) (spelled (open_axis_or_index c e ∷ fr) l))
     by_wanted None h = tt
     by_wanted (Some w) h =
         let d : IsWanted w × (spelled_wanted w ≡ spells e) = dyadic_of e w hf.0 h in
         record { frames = hf.1; level = (d.0, tt); spelled_so = ap (λ y. token_at b lexeme.OpenBracket ∷ ((y ++ token_at c lexeme.CloseBracket ∷ spelled_wanted w) ++ spelled_frames fr)) es ∙ ap (λ y. token_at b lexeme.OpenBracket ∷ ((spelled_level l ++ token_at c lexeme.CloseBracket ∷ y) ++ spelled_frames fr)) d.1 ∙ simp append_assoc }
-open_bracket_sound b (stored c t r e ∷ fr) l s hf hs es =
+open_bracket_sound b (open_indexed_assignment c t r e ∷ fr) l s hf hs es =
     record { frames = hf.2; level = (join_list t s hf.0 hs, hf.1); spelled_so = ap (λ x. token_at b lexeme.OpenBracket ∷ ((x ++ token_at c lexeme.CloseBracket ∷ token_at r lexeme.Arrow ∷ spells e) ++ spelled_frames fr)) (join-spells t s) ∙ ap (λ x. token_at b lexeme.OpenBracket ∷ (((x ++ spelled_tail t) ++ token_at c lexeme.CloseBracket ∷ token_at r lexeme.Arrow ∷ spells e) ++ spelled_frames fr)) es ∙ simp append_assoc }
 
 pub no_slot_semicolon : (k : ℕ) (fr : List Frame) → at_semicolon k fr None ≡ None
 no_slot_semicolon k [] = refl
-no_slot_semicolon k (grouped r w ∷ fr) = refl
-no_slot_semicolon k (sliced c t w ∷ fr) = refl
-no_slot_semicolon k (either c e ∷ fr) = refl
-no_slot_semicolon k (stored c t r e ∷ fr) = refl
+no_slot_semicolon k (open_group r w ∷ fr) = refl
+no_slot_semicolon k (open_index c t w ∷ fr) = refl
+no_slot_semicolon k (open_axis_or_index c e ∷ fr) = refl
+no_slot_semicolon k (open_indexed_assignment c t r e ∷ fr) = refl
 
 pub no_slot_open : (b : ℕ) (fr : List Frame) → at_open_bracket b fr None ≡ None
 no_slot_open b [] = refl
-no_slot_open b (grouped r w ∷ fr) = refl
-no_slot_open b (sliced c t w ∷ fr) = refl
-no_slot_open b (either c e ∷ fr) = refl
-no_slot_open b (stored c t r e ∷ fr) = refl
+no_slot_open b (open_group r w ∷ fr) = refl
+no_slot_open b (open_index c t w ∷ fr) = refl
+no_slot_open b (open_axis_or_index c e ∷ fr) = refl
+no_slot_open b (open_indexed_assignment c t r e ∷ fr) = refl
 
 lexeme_sound : (c : ℕ) (k : Lexeme) (fr : List Frame) (l : Level) → AreFrames fr → IsLevel l → IfSome (step_lexeme c k fr l) (Reads (token_at c k) (spelled fr l))
 lexeme_sound c (lexeme.Constant v) fr l hf hl = operand_sound c (lexeme.Constant v) (constant c v) tt refl fr l hf hl

@@ -4,7 +4,7 @@ use Rattle.std.specs.Prelude.{ℕ, option_and_then}
 use Rattle.apl_tokens.specs.declared.token.Token.{Token}
 use Rattle.apl_grammar.specs.Tree.{Expr, IsTree, spells}
 use Rattle.apl_grammar.specs.Caret.{IsCaret, HasNoTree}
-use Rattle.apl_grammar.proofs.Partial.{Frame, Level, wanted, whole, dotted, arrowed, beside, named, Config, step, run}
+use Rattle.apl_grammar.proofs.Partial.{Frame, Level, operand_wanted, expression, leading_dot, leading_arrow, leading_brackets, leading_slots, Config, step, run}
 use Rattle.apl_grammar.proofs.Viable.{run-tree, stuck-IsCaret, early-IsCaret}
 
 abbrev pub Answer : List Token → Type 0
@@ -35,15 +35,15 @@ stuck_caret ts s = subst (λ (x : List Token). IsCaret x s.t.column × HasNoTree
 
 -- whether this is an expression outside all brackets
 abbrev is_end : List Frame → Level → Bool
-is_end [] (whole x) = true
-is_end [] (wanted w) = false
-is_end [] (dotted d c g x) = false
-is_end [] (arrowed q x) = false
-is_end [] (beside b a q x) = false
-is_end [] (named b s d q x) = false
+is_end [] (expression x) = true
+is_end [] (operand_wanted w) = false
+is_end [] (leading_dot d c g x) = false
+is_end [] (leading_arrow q x) = false
+is_end [] (leading_brackets b a q x) = false
+is_end [] (leading_slots b s d q x) = false
 is_end (f ∷ fr) l = false
 
-not_end : (fr : List Frame) (l : Level) (x : Expr) → is_end fr l ≡ false → ◌≡◌ {A = Config} (fr, l) ([], whole x) → ⊥
+not_end : (fr : List Frame) (l : Level) (x : Expr) → is_end fr l ≡ false → ◌≡◌ {A = Config} (fr, l) ([], expression x) → ⊥
 not_end fr l x not same = let yes : is_end fr l ≡ true = ap (λ (k : Config). is_end k.0 k.1) same in absurd cc
 
 module _ (t : Token) (ts : List Token) where
@@ -53,12 +53,12 @@ module _ (t : Token) (ts : List Token) where
       inr (t.column, caret.0, caret.1)
 
   by_end : (fr : List Frame) (l : Level) → run (t ∷ ts) ≡ Some (fr, l) → Answer (t ∷ ts)
-  by_end [] (whole x) e = let tree = run-tree (t ∷ ts) x e in inl (x, tree.0, tree.1)
-  by_end [] (wanted w) e = too_early [] (wanted w) refl e
-  by_end [] (dotted d c g x) e = too_early [] (dotted d c g x) refl e
-  by_end [] (arrowed q x) e = too_early [] (arrowed q x) refl e
-  by_end [] (beside b a q x) e = too_early [] (beside b a q x) refl e
-  by_end [] (named b s d q x) e = too_early [] (named b s d q x) refl e
+  by_end [] (expression x) e = let tree = run-tree (t ∷ ts) x e in inl (x, tree.0, tree.1)
+  by_end [] (operand_wanted w) e = too_early [] (operand_wanted w) refl e
+  by_end [] (leading_dot d c g x) e = too_early [] (leading_dot d c g x) refl e
+  by_end [] (leading_arrow q x) e = too_early [] (leading_arrow q x) refl e
+  by_end [] (leading_brackets b a q x) e = too_early [] (leading_brackets b a q x) refl e
+  by_end [] (leading_slots b s d q x) e = too_early [] (leading_slots b s d q x) refl e
   by_end (f ∷ fr) l e = too_early (f ∷ fr) l refl e
 
   by_run : (r : Option Config) → run (t ∷ ts) ≡ r → Answer (t ∷ ts)

@@ -5,7 +5,7 @@ use Rattle.apl_tokens.specs.declared.token.Token.{Token}
 use Rattle.apl_tokens.specs.declared.token.Lexeme.TheVariants as lexeme
 use Rattle.apl_grammar.specs.declared.program.Form.TheVariants.{Plain, Inner}
 use Rattle.apl_grammar.specs.Tree.{Expr, dyadic, assign, assign_at, Operand, name, group, index, given, none, along, IsTree, token_at, spells}
-use Rattle.apl_grammar.proofs.Partial.{fill, Level, wanted, whole, dotted, arrowed, beside, named, Frame, grouped, sliced, either, stored, Config, join, step, run}
+use Rattle.apl_grammar.proofs.Partial.{fill, Level, operand_wanted, expression, leading_dot, leading_arrow, leading_brackets, leading_slots, Frame, open_group, open_index, open_axis_or_index, open_indexed_assignment, Config, join, step, run}
 use Rattle.std.proofs.lemmas.List.{append-nil}
 use Rattle.apl_array.specs.declared.function.ScalarFunction.TheVariants.{Plus}
 use Rattle.apl_tokens.specs.declared.token.Glyph.TheVariants.{Scalar, Comma}
@@ -28,12 +28,12 @@ some_operand = name 0 some_name
 
 level_ends : (l : Level) → IsLevel l → Ends (spelled_level l)
 unfolding some_operand
-level_ends (wanted w) h = record { tree = fill w some_operand; front = token_at 0 (lexeme.Name some_name) ∷ []; fits = fill_tree w some_operand tt h; same = fill-spells w some_operand }
-level_ends (whole e) h = record { tree = e; front = []; fits = h; same = refl }
-level_ends (dotted d c g e) h = record { tree = dyadic some_operand (Inner 0 (Scalar Plus) d c g) none e; front = token_at 0 (lexeme.Name some_name) ∷ token_at 0 (lexeme.Function (Scalar Plus)) ∷ []; fits = (tt, h.0, tt, h.1); same = refl }
-level_ends (arrowed r e) h = record { tree = assign 0 some_name r e; front = token_at 0 (lexeme.Name some_name) ∷ []; fits = h; same = refl }
-level_ends (beside l x r e) h = record { tree = dyadic some_operand (Plain 0 Comma) (along l x r) e; front = token_at 0 (lexeme.Name some_name) ∷ token_at 0 (lexeme.Function Comma) ∷ []; fits = (tt, refl, h.0, h.1); same = simp append_assoc }
-level_ends (named l s d r e) h = record { tree = assign_at 0 some_name l s d r e; front = token_at 0 (lexeme.Name some_name) ∷ []; fits = h; same = refl }
+level_ends (operand_wanted w) h = record { tree = fill w some_operand; front = token_at 0 (lexeme.Name some_name) ∷ []; fits = fill_tree w some_operand tt h; same = fill-spells w some_operand }
+level_ends (expression e) h = record { tree = e; front = []; fits = h; same = refl }
+level_ends (leading_dot d c g e) h = record { tree = dyadic some_operand (Inner 0 (Scalar Plus) d c g) none e; front = token_at 0 (lexeme.Name some_name) ∷ token_at 0 (lexeme.Function (Scalar Plus)) ∷ []; fits = (tt, h.0, tt, h.1); same = refl }
+level_ends (leading_arrow r e) h = record { tree = assign 0 some_name r e; front = token_at 0 (lexeme.Name some_name) ∷ []; fits = h; same = refl }
+level_ends (leading_brackets l x r e) h = record { tree = dyadic some_operand (Plain 0 Comma) (along l x r) e; front = token_at 0 (lexeme.Name some_name) ∷ token_at 0 (lexeme.Function Comma) ∷ []; fits = (tt, refl, h.0, h.1); same = simp append_assoc }
+level_ends (leading_slots l s d r e) h = record { tree = assign_at 0 some_name l s d r e; front = token_at 0 (lexeme.Name some_name) ∷ []; fits = h; same = refl }
 
 -- an operand for what is wanted, in front of which other tokens stand
 record Closed (front ts : List Token) : Type 0 where
@@ -44,14 +44,14 @@ record Closed (front ts : List Token) : Type 0 where
 -- the innermost bracket is closed round an expression
 frame_closed : (f : Frame) (fr : List Frame) (e : Expr) → AreFrames (f ∷ fr) → IsTree e → (front : List Token) × (tree : Expr) × IsTree tree × AreFrames fr × (spells tree ++ spelled_frames fr ≡ front ++ (spells e ++ spelled_frames (f ∷ fr)))
 unfolding some_operand
-frame_closed (grouped r w) fr e hf he = (
+frame_closed (open_group r w) fr e hf he = (
   token_at 0 lexeme.OpenParen ∷ [],
   fill w (group 0 e r),
   fill_tree w (group 0 e r) he hf.0,
   hf.1,
   ap (λ x. x ++ spelled_frames fr) (fill-spells w (group 0 e r)) ∙ simp append_assoc,
 )
-frame_closed (sliced r t w) fr e hf he =
+frame_closed (open_index r t w) fr e hf he =
     let x : Operand = index some_operand 0 (join t (given e)) r in (
       token_at 0 (lexeme.Name some_name) ∷ token_at 0 lexeme.OpenBracket ∷ [],
       fill w x,
@@ -59,9 +59,9 @@ frame_closed (sliced r t w) fr e hf he =
       hf.2,
       ap (λ y. y ++ spelled_frames fr) (fill-spells w x) ∙ ap (λ y. (token_at 0 (lexeme.Name some_name) ∷ token_at 0 lexeme.OpenBracket ∷ (y ++ token_at r lexeme.CloseBracket ∷ []) ++ spelled_wanted w) ++ spelled_frames fr) (join-spells t (given e)) ∙ simp append_assoc,
     )
-frame_closed (either r e') fr e hf he =
+frame_closed (open_axis_or_index r e') fr e hf he =
     (token_at 0 (lexeme.Name some_name) ∷ token_at 0 (lexeme.Function Comma) ∷ token_at 0 lexeme.OpenBracket ∷ [], dyadic some_operand (Plain 0 Comma) (along 0 e r) e', (tt, refl, he, hf.0), hf.1, simp append_assoc)
-frame_closed (stored r t a e') fr e hf he = (
+frame_closed (open_indexed_assignment r t a e') fr e hf he = (
   token_at 0 (lexeme.Name some_name) ∷ token_at 0 lexeme.OpenBracket ∷ [],
   assign_at 0 some_name 0 (join t (given e)) r a e',
   (join_list t (given e) hf.0 he, hf.1),
@@ -92,9 +92,9 @@ run-IsViableSuffix ts m e =
     let k = Spelled-of ts m e in
     subst IsViableSuffix k.same (config_viable m.0 m.1 k.frames k.level)
 
-pub run-tree : (ts : List Token) (e : Expr) → run ts ≡ Some ([], whole e) → IsTree e × (spells e ≡ ts)
+pub run-tree : (ts : List Token) (e : Expr) → run ts ≡ Some ([], expression e) → IsTree e × (spells e ≡ ts)
 run-tree ts e h =
-    let k = Spelled-of ts ([], whole e) h in
+    let k = Spelled-of ts ([], expression e) h in
     (k.level, sym (append-nil (spells e)) ∙ k.same)
 
 run-stuck : (front ts : List Token) → run ts ≡ None → run (front ++ ts) ≡ None
@@ -103,16 +103,16 @@ run-stuck (t ∷ front) ts e = ap (option_and_then (step t)) (run-stuck front ts
 
 pub not_viable : (ts : List Token) → run ts ≡ None → IsViableSuffix ts → ⊥
 not_viable ts e (tree, front, fits, same) =
-    let runs : run (front ++ ts) ≡ Some ([], whole tree) = ap run (sym same) ∙ run_from-spells tree fits [] in
+    let runs : run (front ++ ts) ≡ Some ([], expression tree) = ap run (sym same) ∙ run_from-spells tree fits [] in
     let stuck : run (front ++ ts) ≡ None = run-stuck front ts e in
     absurd cc
 
 -- no two trees spell one list
 pub spells-injective : (e f : Expr) → IsTree e → IsTree f → spells e ≡ spells f → e ≡ f
 spells-injective e f he hf same =
-    let runs : ◌≡◌ {A = Option Config} (Some ([], whole e)) (Some ([], whole f)) = sym (run_from-spells e he []) ∙ ap run same ∙ run_from-spells f hf [] in
-    let pair : ◌≡◌ {A = Config} ([], whole e) ([], whole f) = cc in
-    let level : whole e ≡ whole f = ap (λ (m : Config). m.1) pair in
+    let runs : ◌≡◌ {A = Option Config} (Some ([], expression e)) (Some ([], expression f)) = sym (run_from-spells e he []) ∙ ap run same ∙ run_from-spells f hf [] in
+    let pair : ◌≡◌ {A = Config} ([], expression e) ([], expression f) = cc in
+    let level : expression e ≡ expression f = ap (λ (m : Config). m.1) pair in
     cc
 
 caret_at : (ts before after : List Token) (t : Token) → ts ≡ before ++ t ∷ after → IsViableSuffix after → (IsViableSuffix (t ∷ after) → ⊥) → IsCaret ts t.column
@@ -132,10 +132,10 @@ stuck-IsCaret before t after m ran fails =
     )
 
 -- the caret where the tokens end too early
-pub early-IsCaret : (t : Token) (ts : List Token) (m : Config) → run (t ∷ ts) ≡ Some m → ((e : Expr) → m ≡ ([], whole e) → ⊥) → IsCaret (t ∷ ts) t.column × HasNoTree (t ∷ ts)
+pub early-IsCaret : (t : Token) (ts : List Token) (m : Config) → run (t ∷ ts) ≡ Some m → ((e : Expr) → m ≡ ([], expression e) → ⊥) → IsCaret (t ∷ ts) t.column × HasNoTree (t ∷ ts)
 early-IsCaret t ts m ran not = (
   inr (run-IsViableSuffix (t ∷ ts) m ran, refl),
-  λ e he same. not e (some_same m ([], whole e) (sym ran ∙ ap run (sym same) ∙ run_from-spells e he [])),
+  λ e he same. not e (some_same m ([], expression e) (sym ran ∙ ap run (sym same) ∙ run_from-spells e he [])),
 )
   where
     some_same : (m n : Config) → ◌≡◌ {A = Option Config} (Some m) (Some n) → m ≡ n

@@ -2,5 +2,5 @@ pub mod Functions
 pub mod Tree
 pub mod Caret
 pub mod Stops
-pub mod Held
+pub mod Storage
 pub mod Automaton

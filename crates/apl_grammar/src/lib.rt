@@ -8,6 +8,6 @@ mod reader;
 mod statement;
 
 pub use program::{
-    Axis, Brackets, Columns, Form, Function, IndexedName, Operation, Program, Target,
+    Axis, BoxedIndexedName, Brackets, Columns, Form, Function, IndexedName, Operation, Program,
 };
 pub use statement::{GrammarStop, one_caret, one_reading, one_tree, program_of, tree_or_caret};

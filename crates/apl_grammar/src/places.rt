@@ -1,7 +1,7 @@
 //! The places of a program under way.
 ghost use Rattle.std.specs.Prelude.{◌≡◌, ◌++◌, ◌∷◌, [], Some, None, length, map, slice_set, IfOk, OnOk};
-ghost use Rattle.apl_grammar.specs.Held.{held_places};
-ghost use Rattle.apl_grammar.specs.Automaton.{emitted};
+ghost use Rattle.apl_grammar.specs.Storage.{places_of};
+ghost use Rattle.apl_grammar.specs.Automaton.{without_empty_places};
 
 use super::program::Operation;
 use std::alloc::{AllocError, Global};
@@ -10,15 +10,15 @@ use std::mem;
 
 /// Most statements keep no place empty. Their operations take less room, and are not copied at the end.
 #[derive(Drop)]
-enum HeldPlaces {
-    Full(Vec<Operation>),
-    Parted(Vec<Option<Operation>>),
+enum PlaceStorage {
+    Dense(Vec<Operation>),
+    Sparse(Vec<Option<Operation>>),
 }
 
 /// Operations in the order of evaluation, with empty places among them.
 #[derive(Drop)]
 pub(crate) struct Places {
-    held: HeldPlaces,
+    storage: PlaceStorage,
 }
 
 impl Model for Places {
@@ -27,9 +27,9 @@ impl Model for Places {
 
     ghost Value = { List (Option Operation) };
 
-    ghost use Rattle.apl_grammar.specs.Held.{held_places};
+    ghost use Rattle.apl_grammar.specs.Storage.{places_of};
 
-    ghost view = { λ p. held_places p.held };
+    ghost view = { λ p. places_of p.storage };
 }
 
 impl Places {
@@ -39,7 +39,7 @@ impl Places {
     {
         let operations = Vec::with_capacity(alloc, capacity)?;
         Ok(Places {
-            held: HeldPlaces::Full(operations),
+            storage: PlaceStorage::Dense(operations),
         })
     }
 
@@ -48,9 +48,9 @@ impl Places {
     pub(crate) fn push(&mut self, operation: Operation) -> Result<(), AllocError>
         ensures { OnOk result (self.new ≡ self.old ++ Some operation ∷ []) }
     {
-        match &mut self.held {
-            HeldPlaces::Full(operations) => Ok(operations.push(operation)?),
-            HeldPlaces::Parted(places) => Ok(places.push(Some(operation))?),
+        match &mut self.storage {
+            PlaceStorage::Dense(operations) => Ok(operations.push(operation)?),
+            PlaceStorage::Sparse(places) => Ok(places.push(Some(operation))?),
         }
     }
 
@@ -59,11 +59,11 @@ impl Places {
         ensures place { IfOk result (λ place. place ≡ length self.old) }
         ensures kept { OnOk result (self.new ≡ self.old ++ None ∷ []) }
     {
-        let held = mem::replace(&mut self.held, HeldPlaces::Parted(Vec::new(alloc)));
-        let mut places = parted(alloc, held)?;
+        let storage = mem::replace(&mut self.storage, PlaceStorage::Sparse(Vec::new(alloc)));
+        let mut places = into_sparse(alloc, storage)?;
         let place = places.len();
         places.push(None)?;
-        self.held = HeldPlaces::Parted(places);
+        self.storage = PlaceStorage::Sparse(places);
         Ok(place)
     }
 
@@ -72,21 +72,21 @@ impl Places {
     pub(crate) fn fill(&mut self, place: usize, operation: Operation)
         ensures { self.new ≡ slice_set self.old place (Some operation) }
     {
-        match &mut self.held {
-            HeldPlaces::Full(operations) => put(operations, place, operation),
-            HeldPlaces::Parted(places) => put(places, place, Some(operation)),
+        match &mut self.storage {
+            PlaceStorage::Dense(operations) => put(operations, place, operation),
+            PlaceStorage::Sparse(places) => put(places, place, Some(operation)),
         }
     }
 
     /// The operations without the empty places.
     #[tactic(auto, using(crate::proofs::Full::emitted_full))]
     pub(crate) fn into_operations(self, alloc: Global) -> Result<Vec<Operation>, AllocError>
-        ensures { IfOk result (λ operations. operations.items ≡ emitted self) }
+        ensures { IfOk result (λ operations. operations.items ≡ without_empty_places self) }
     {
-        let Places { held } = self;
-        match held {
-            HeldPlaces::Full(operations) => Ok(operations),
-            HeldPlaces::Parted(places) => without_empty(alloc, places),
+        let Places { storage } = self;
+        match storage {
+            PlaceStorage::Dense(operations) => Ok(operations),
+            PlaceStorage::Sparse(places) => without_empty(alloc, places),
         }
     }
 }
@@ -95,18 +95,18 @@ impl Places {
 fn put<T: Drop>(items: &mut Vec<T>, place: usize, item: T)
     ensures { items.new.items ≡ slice_set items.old.items place item }
 {
-    if let Some(held) = items.get_mut(place) {
-        *held = item;
+    if let Some(kept) = items.get_mut(place) {
+        *kept = item;
     }
 }
 
 /// The places one by one.
-fn parted(alloc: Global, held: HeldPlaces) -> Result<Vec<Option<Operation>>, AllocError>
-    ensures { IfOk result (λ places. places.items ≡ held_places held) }
+fn into_sparse(alloc: Global, storage: PlaceStorage) -> Result<Vec<Option<Operation>>, AllocError>
+    ensures { IfOk result (λ places. places.items ≡ places_of storage) }
 {
-    match held {
-        HeldPlaces::Full(operations) => filled_places(alloc, operations),
-        HeldPlaces::Parted(places) => Ok(places),
+    match storage {
+        PlaceStorage::Dense(operations) => filled_places(alloc, operations),
+        PlaceStorage::Sparse(places) => Ok(places),
     }
 }
 
@@ -129,7 +129,7 @@ fn without_empty(
     alloc: Global,
     places: Vec<Option<Operation>>,
 ) -> Result<Vec<Operation>, AllocError>
-    ensures { IfOk result (λ operations. operations.items ≡ emitted places.items) }
+    ensures { IfOk result (λ operations. operations.items ≡ without_empty_places places.items) }
 {
     let mut operations = Vec::with_capacity(alloc, places.len())?;
     for place in places {

@@ -60,15 +60,15 @@ pub enum Form {
 
 /// One symbol takes no memory.
 #[derive(Drop)]
-enum HeldForm {
+enum CompactForm {
     Plain(Glyph, usize),
     Compound(Box<Form>),
 }
 
-/// A form, held in little room.
+/// A form, in little room.
 #[derive(Drop)]
 pub struct Function {
-    held: HeldForm,
+    compact: CompactForm,
 }
 
 impl Model for Function {
@@ -76,9 +76,9 @@ impl Model for Function {
 
     ghost Value = { Form };
 
-    ghost use Rattle.apl_grammar.specs.Held.{held_form};
+    ghost use Rattle.apl_grammar.specs.Storage.{form_of};
 
-    ghost view = { λ f. held_form f.held };
+    ghost view = { λ f. form_of f.compact };
 }
 
 impl Function {
@@ -89,7 +89,7 @@ impl Function {
         ensures { result ≡ Plain column glyph }
     {
         Function {
-            held: HeldForm::Plain(glyph, column),
+            compact: CompactForm::Plain(glyph, column),
         }
     }
 
@@ -97,31 +97,31 @@ impl Function {
     pub(crate) fn new(alloc: Global, form: Form) -> Result<Function, AllocError>
         ensures { IfOk result (λ function. function ≡ form) }
     {
-        let held = match form {
-            Form::Plain { column, glyph } => HeldForm::Plain(glyph, column),
-            _ => HeldForm::Compound(Box::new(alloc, form)?),
+        let compact = match form {
+            Form::Plain { column, glyph } => CompactForm::Plain(glyph, column),
+            _ => CompactForm::Compound(Box::new(alloc, form)?),
         };
-        Ok(Function { held })
+        Ok(Function { compact })
     }
 
     /// Its form.
     pub fn form(&self) -> Form
         ensures { result ≡ self.now }
     {
-        match &self.held {
-            HeldForm::Plain(glyph, column) => Form::Plain {
+        match &self.compact {
+            CompactForm::Plain(glyph, column) => Form::Plain {
                 column: *column,
                 glyph: *glyph,
             },
-            HeldForm::Compound(form) => **form,
+            CompactForm::Compound(form) => **form,
         }
     }
 }
 
-/// The brackets of an axis, if there is one, held in little room.
+/// The brackets of an axis, if there is one, in little room.
 #[derive(Drop)]
 pub struct Axis {
-    held: Option<Box<Brackets>>,
+    brackets: Option<Box<Brackets>>,
 }
 
 impl Model for Axis {
@@ -130,7 +130,7 @@ impl Model for Axis {
 
     ghost Value = { Option Brackets };
 
-    ghost view = { λ a. option_map (λ b. b.value) a.held };
+    ghost view = { λ a. option_map (λ b. b.value) a.brackets };
 }
 
 impl Axis {
@@ -140,36 +140,38 @@ impl Axis {
     pub(crate) fn none() -> Axis
         ensures { result ≡ None }
     {
-        Axis { held: None }
+        Axis { brackets: None }
     }
 
     /// The axis of these brackets.
     pub(crate) fn new(alloc: Global, brackets: Brackets) -> Result<Axis, AllocError>
         ensures { IfOk result (λ axis. axis ≡ Some brackets) }
     {
-        let held = Box::new(alloc, brackets)?;
-        Ok(Axis { held: Some(held) })
+        let boxed = Box::new(alloc, brackets)?;
+        Ok(Axis {
+            brackets: Some(boxed),
+        })
     }
 
     /// Whether there is one.
     pub(crate) fn is_some(&self) -> bool
         ensures { result ≡ is_some self.now }
     {
-        self.held.is_some()
+        self.brackets.is_some()
     }
 
     /// Its brackets.
     pub fn brackets(&self) -> Option<Brackets>
         ensures { result ≡ self.now }
     {
-        match &self.held {
+        match &self.brackets {
             Some(brackets) => Some(**brackets),
             None => None,
         }
     }
 }
 
-/// A name, the columns of its index and the column of the arrow.
+/// What an indexed assignment is made to: a name, the columns of its index and the column of the arrow.
 #[derive(Drop)]
 pub struct IndexedName {
     pub column: usize,
@@ -179,33 +181,33 @@ pub struct IndexedName {
     pub arrow: usize,
 }
 
-/// What an indexed assignment is made to, held in little room.
+/// An indexed name, in little room.
 #[derive(Drop)]
-pub struct Target {
-    held: Box<IndexedName>,
+pub struct BoxedIndexedName {
+    boxed: Box<IndexedName>,
 }
 
-impl Model for Target {
+impl Model for BoxedIndexedName {
     ghost use Rattle.apl_grammar.specs.declared.program.IndexedName.{IndexedName};
 
     ghost Value = { IndexedName };
 
-    ghost view = { λ t. t.held.value };
+    ghost view = { λ n. n.boxed.value };
 }
 
-impl Target {
-    pub(crate) fn new(alloc: Global, indexed: IndexedName) -> Result<Target, AllocError>
-        ensures { IfOk result (λ target. target ≡ indexed) }
+impl BoxedIndexedName {
+    pub(crate) fn new(alloc: Global, indexed: IndexedName) -> Result<BoxedIndexedName, AllocError>
+        ensures { IfOk result (λ boxed. boxed ≡ indexed) }
     {
-        let held = Box::new(alloc, indexed)?;
-        Ok(Target { held })
+        let boxed = Box::new(alloc, indexed)?;
+        Ok(BoxedIndexedName { boxed })
     }
 
     /// The name and the columns.
     pub fn indexed_name(&self) -> &IndexedName
         ensures { result.now ≡ self.now }
     {
-        &self.held
+        &self.boxed
     }
 }
 
@@ -225,7 +227,7 @@ pub enum Operation {
     /// The name at the first column gets the value; the arrow stands at the second.
     Assign(usize, Name, usize),
     /// The chosen elements of a name's array get the value.
-    AssignAt(Target),
+    AssignAt(BoxedIndexedName),
     /// The function of one argument, perhaps along an axis.
     Monadic(Function, Axis),
     /// The function of two arguments, perhaps along an axis.

@@ -1,65 +1,69 @@
 //! From tokens to operations, in one pass from the right.
 ghost use Rattle.std.specs.Prelude.{◌≡◌, ◌<◌, ◌++◌, ◌∷◌, [], List, Option, Some, None, reverse, IfOk, IfErr, IfSome, OnOk, option_and_then, vec_len};
-ghost use Rattle.apl_grammar.specs.Automaton.{Machine, machine, completed, with_dyadic, with_index, waiting, with_operand, with_name, settled, applied, filled, with_function, dotted, with_dot, with_jot, with_arrow, closed_group, with_open_paren, with_close_paren, with_close_bracket, with_slot, parted, with_semicolon, closed_list, with_open_bracket, step, emitted, finished, run, IsRefusedBy, stack_of, held};
+ghost use Rattle.apl_grammar.specs.Automaton.{Machine, machine, after_operand, with_dyadic, with_index, stack_for_operand, with_operand, with_name, expression_operations, with_leading_function, with_monadic, with_function, leading_dot, with_dot, with_jot, with_arrow, closed_group, with_open_paren, with_close_paren, with_close_bracket, with_slot, with_next_slot, with_semicolon, closed_list, with_open_bracket, step, without_empty_places, statement_operations, run, IsRefusedBy, stack_of, machine_of};
 ghost use Rattle.apl_grammar.specs.declared.program.Form.TheVariants.{Plain};
 ghost use Rattle.apl_grammar.specs.declared.program.Operation.{Operation};
-ghost use Rattle.apl_grammar.specs.declared.reader.State.TheVariants.{Whole, Wanted};
+ghost use Rattle.apl_grammar.specs.declared.reader.State.TheVariants.{Expression, OperandWanted};
 
 use super::functions::{is_dyadic_scalar, may_be_dyadic, may_be_monadic, reduces, takes_axis};
 use super::places::Places;
-use super::program::{Axis, Brackets, Columns, Form, Function, IndexedName, Operation, Target};
+use super::program::{
+    Axis, BoxedIndexedName, Brackets, Columns, Form, Function, IndexedName, Operation,
+};
 use super::statement::GrammarStop;
 use apl_tokens::{Glyph, Lexeme, Name, Token};
 use std::alloc::{AllocError, AllocFailed, Global};
 use std::marker::Model;
 use std::mem;
 
-/// A monadic function before a bracket: its operation has a place if the bracket holds an axis, and if it holds an index
-/// the function is dyadic.
+/// A function before a bracket whose valence isn't known yet: if the bracket holds an axis the function is monadic, and its
+/// operation has a place; if it holds an index the function is dyadic.
 #[derive(Drop)]
-pub(crate) struct Pending {
-    form: Function,
+pub(crate) struct UndecidedFunction {
+    function: Function,
     axis: Axis,
     place: usize,
 }
 
-/// A function that is pending, if there is one, held in little room.
+/// An undecided function, if there is one, in little room.
 #[derive(Drop)]
-pub(crate) struct MaybePending {
-    held: Option<Box<Pending>>,
+pub(crate) struct MaybeUndecided {
+    function: Option<Box<UndecidedFunction>>,
 }
 
-impl Model for MaybePending {
+impl Model for MaybeUndecided {
     ghost use Rattle.std.specs.Prelude.{Option, option_map};
-    ghost use Rattle.apl_grammar.specs.declared.reader.Pending.{Pending};
+    ghost use Rattle.apl_grammar.specs.declared.reader.UndecidedFunction.{UndecidedFunction};
 
-    ghost Value = { Option Pending };
+    ghost Value = { Option UndecidedFunction };
 
-    ghost view = { λ d. option_map (λ b. b.value) d.held };
+    ghost view = { λ u. option_map (λ b. b.value) u.function };
 }
 
-impl MaybePending {
-    /// No function is pending.
-    fn none() -> MaybePending
+impl MaybeUndecided {
+    /// No function is undecided.
+    fn none() -> MaybeUndecided
         ensures { result ≡ None }
     {
-        MaybePending { held: None }
+        MaybeUndecided { function: None }
     }
 
-    /// This function is pending.
-    fn new(alloc: Global, pending: Pending) -> Result<MaybePending, AllocError>
-        ensures { IfOk result (λ held. held ≡ Some pending) }
+    /// This function is undecided.
+    fn new(alloc: Global, function: UndecidedFunction) -> Result<MaybeUndecided, AllocError>
+        ensures { IfOk result (λ undecided. undecided ≡ Some function) }
     {
-        let held = Box::new(alloc, pending)?;
-        Ok(MaybePending { held: Some(held) })
+        let boxed = Box::new(alloc, function)?;
+        Ok(MaybeUndecided {
+            function: Some(boxed),
+        })
     }
 
-    /// The function that is pending.
-    fn into_pending(self) -> Option<Pending>
+    /// The function that is undecided.
+    fn into_option(self) -> Option<UndecidedFunction>
         ensures { result ≡ self }
     {
-        match self.held {
-            Some(pending) => Some(Box::into_inner(pending)),
+        match self.function {
+            Some(function) => Some(Box::into_inner(function)),
             None => None,
         }
     }
@@ -69,34 +73,34 @@ impl MaybePending {
 #[derive(Drop)]
 pub(crate) enum State {
     /// An operand is wanted, or nothing was read.
-    Wanted,
+    OperandWanted,
     /// An expression.
-    Whole,
+    Expression,
     /// An expression that begins with a function. Its operation is not emitted yet: it may still be dyadic.
-    Monadic(Function, Axis),
+    LeadingFunction(Function, Axis),
     /// A dot and a function, with their columns, before an expression.
-    Dotted(usize, usize, Glyph),
+    LeadingDot(usize, usize, Glyph),
     /// An arrow before an expression.
-    Arrowed(usize),
+    LeadingArrow(usize),
     /// An axis or an index before an expression.
-    Beside(Brackets, MaybePending),
+    LeadingBrackets(Brackets, MaybeUndecided),
     /// The slots of an indexed assignment and its arrow before an expression.
-    Named(Columns, Brackets, usize),
+    LeadingSlots(Columns, Brackets, usize),
 }
 
 /// What the reader comes back to.
 #[derive(Drop)]
-pub(crate) enum Entry {
+pub(crate) enum Pending {
     /// An operation that waits for its operand.
-    Waiting(Operation),
+    Operation(Operation),
     /// The parenthesis on the right of an operand.
     Group(usize),
     /// The bracket on the right of an index, and the semicolons so far.
-    Slice(usize, Columns),
+    Index(usize, Columns),
     /// The bracket on the right of an axis or an index.
-    Either(usize, MaybePending),
+    AxisOrIndex(usize, MaybeUndecided),
     /// The bracket on the right of an indexed assignment's slots, the semicolons so far, and the arrow.
-    Store(usize, Columns, usize),
+    IndexedAssignment(usize, Columns, usize),
 }
 
 /// Why a token is not taken.
@@ -128,7 +132,7 @@ impl<T: Drop> From<AllocFailed<T>> for Refusal {
     }
 }
 
-/// Room for so many entries is taken at once where there are as many tokens.
+/// Room for so many pending items is taken at once where there are as many tokens.
 const SHORT: usize = 12;
 
 /// The operations emitted so far, with places kept among them, what waits to the left of what was read, and what was read.
@@ -136,7 +140,7 @@ const SHORT: usize = 12;
 pub(crate) struct Reader {
     alloc: Global,
     operations: Places,
-    entries: Vec<Entry>,
+    stack: Vec<Pending>,
     state: State,
 }
 
@@ -144,16 +148,16 @@ impl Reader {
     /// A reader that has read nothing of so many tokens.
     fn new(alloc: Global, count: usize) -> Result<Reader, AllocError>
         ensures operations { IfOk result (λ r. r.operations ≡ []) }
-        ensures entries { IfOk result (λ r. stack_of r ≡ []) }
-        ensures state { IfOk result (λ r. r.state ≡ Wanted) }
+        ensures stack { IfOk result (λ r. stack_of r ≡ []) }
+        ensures state { IfOk result (λ r. r.state ≡ OperandWanted) }
     {
         let operations = Places::with_capacity(alloc, count)?;
-        let entries = Vec::with_capacity(alloc, count.min(SHORT))?;
+        let stack = Vec::with_capacity(alloc, count.min(SHORT))?;
         Ok(Reader {
             alloc,
             operations,
-            entries,
-            state: State::Wanted,
+            stack,
+            state: State::OperandWanted,
         })
     }
 
@@ -161,7 +165,7 @@ impl Reader {
     #[inline]
     fn emit(&mut self, operation: Operation) -> Result<(), Refusal>
         ensures ok { OnOk result (self.new.operations ≡ self.old.operations ++ Some operation ∷ []) }
-        ensures entries { self.new.entries ≡ self.old.entries }
+        ensures stack { self.new.stack ≡ self.old.stack }
         ensures err { result ≡ Err Refusal.Syntax → ⊥ }
     {
         self.operations.push(operation)?;
@@ -169,14 +173,14 @@ impl Reader {
     }
 
     /// The operation that waits for the operand which has just ended.
-    fn pop_waiting(&mut self) -> Option<Operation>
-        ensures some { IfSome result (λ o. stack_of self.old ≡ Entry.Waiting o ∷ stack_of self.new) }
-        ensures none { result ≡ None → (os : List (Option Operation)) → completed os (stack_of self.old) ≡ machine os (stack_of self.new) Whole }
+    fn pop_operation(&mut self) -> Option<Operation>
+        ensures some { IfSome result (λ o. stack_of self.old ≡ Pending.Operation o ∷ stack_of self.new) }
+        ensures none { result ≡ None → (os : List (Option Operation)) → after_operand os (stack_of self.old) ≡ machine os (stack_of self.new) Expression }
         ensures operations { self.new.operations ≡ self.old.operations }
     {
-        match self.entries.last() {
-            Some(Entry::Waiting(_)) => match self.entries.pop() {
-                Some(Entry::Waiting(operation)) => Some(operation),
+        match self.stack.last() {
+            Some(Pending::Operation(_)) => match self.stack.pop() {
+                Some(Pending::Operation(operation)) => Some(operation),
                 _ => None,
             },
             _ => None,
@@ -185,13 +189,13 @@ impl Reader {
 
     /// The operations that waited for the operand which has just ended.
     fn complete(&mut self) -> Result<(), Refusal>
-        ensures ok { OnOk result (completed self.old.operations (stack_of self.old) ≡ held self.new) }
+        ensures ok { OnOk result (after_operand self.old.operations (stack_of self.old) ≡ machine_of self.new) }
         ensures err { result ≡ Err Refusal.Syntax → ⊥ }
     {
-        while let Some(waiting) = self.pop_waiting() {
+        while let Some(waiting) = self.pop_operation() {
             self.emit(waiting)?;
         }
-        self.state = State::Whole;
+        self.state = State::Expression;
         Ok(())
     }
 
@@ -204,19 +208,19 @@ impl Reader {
         if !may_be_dyadic(function.form(), axis.is_some()) {
             return Err(Refusal::Syntax);
         }
-        self.entries
-            .push(Entry::Waiting(Operation::Dyadic(function, axis)))?;
+        self.stack
+            .push(Pending::Operation(Operation::Dyadic(function, axis)))?;
         Ok(())
     }
 
     /// The function before the index is dyadic: it waits for its left argument.
-    fn push_pending(&mut self, pending: MaybePending) -> Result<(), Refusal>
-        ensures ok { OnOk result (option_and_then (λ p. with_dyadic p.form p.axis (stack_of self.old)) pending ≡ Some (stack_of self.new)) }
-        ensures err { result ≡ Err Refusal.Syntax → option_and_then (λ p. with_dyadic p.form p.axis (stack_of self.old)) pending ≡ None }
+    fn push_undecided(&mut self, undecided: MaybeUndecided) -> Result<(), Refusal>
+        ensures ok { OnOk result (option_and_then (λ p. with_dyadic p.function p.axis (stack_of self.old)) undecided ≡ Some (stack_of self.new)) }
+        ensures err { result ≡ Err Refusal.Syntax → option_and_then (λ p. with_dyadic p.function p.axis (stack_of self.old)) undecided ≡ None }
         ensures operations { self.new.operations ≡ self.old.operations }
     {
-        match pending.into_pending() {
-            Some(pending) => self.push_dyadic(pending.form, pending.axis),
+        match undecided.into_option() {
+            Some(undecided) => self.push_dyadic(undecided.function, undecided.axis),
             None => Err(Refusal::Syntax),
         }
     }
@@ -228,22 +232,22 @@ impl Reader {
         ensures operations { self.new.operations ≡ self.old.operations }
     {
         let semicolons = Columns::new(self.alloc);
-        self.entries
-            .push(Entry::Waiting(Operation::Index(semicolons, brackets)))?;
+        self.stack
+            .push(Pending::Operation(Operation::Index(semicolons, brackets)))?;
         Ok(())
     }
 
     /// An operand ends here: what wants it waits for it.
     fn want_operand(&mut self, state: State) -> Result<(), Refusal>
-        ensures ok { OnOk result (waiting state (stack_of self.old) ≡ Some (stack_of self.new)) }
-        ensures err { result ≡ Err Refusal.Syntax → waiting state (stack_of self.old) ≡ None }
+        ensures ok { OnOk result (stack_for_operand state (stack_of self.old) ≡ Some (stack_of self.new)) }
+        ensures err { result ≡ Err Refusal.Syntax → stack_for_operand state (stack_of self.old) ≡ None }
         ensures operations { self.new.operations ≡ self.old.operations }
     {
         match state {
-            State::Wanted => Ok(()),
-            State::Monadic(function, axis) => self.push_dyadic(function, axis),
-            State::Beside(brackets, pending) => {
-                self.push_pending(pending)?;
+            State::OperandWanted => Ok(()),
+            State::LeadingFunction(function, axis) => self.push_dyadic(function, axis),
+            State::LeadingBrackets(brackets, undecided) => {
+                self.push_undecided(undecided)?;
                 self.push_index(brackets)
             }
             _ => Err(Refusal::Syntax),
@@ -252,7 +256,7 @@ impl Reader {
 
     #[inline(always)]
     fn take_operand(&mut self, state: State, operand: Operation) -> Result<(), Refusal>
-        ensures ok { OnOk result (with_operand self.old.operations (stack_of self.old) state operand ≡ Some (held self.new)) }
+        ensures ok { OnOk result (with_operand self.old.operations (stack_of self.old) state operand ≡ Some (machine_of self.new)) }
         ensures err { result ≡ Err Refusal.Syntax → with_operand self.old.operations (stack_of self.old) state operand ≡ None }
     {
         self.want_operand(state)?;
@@ -261,12 +265,12 @@ impl Reader {
     }
 
     fn take_name(&mut self, state: State, column: usize, name: Name) -> Result<(), Refusal>
-        ensures ok { OnOk result (with_name self.old.operations (stack_of self.old) state column name ≡ Some (held self.new)) }
+        ensures ok { OnOk result (with_name self.old.operations (stack_of self.old) state column name ≡ Some (machine_of self.new)) }
         ensures err { result ≡ Err Refusal.Syntax → with_name self.old.operations (stack_of self.old) state column name ≡ None }
     {
         match state {
-            State::Arrowed(arrow) => self.emit(Operation::Assign(column, name, arrow))?,
-            State::Named(semicolons, brackets, arrow) => {
+            State::LeadingArrow(arrow) => self.emit(Operation::Assign(column, name, arrow))?,
+            State::LeadingSlots(semicolons, brackets, arrow) => {
                 let indexed = IndexedName {
                     column,
                     name,
@@ -274,79 +278,84 @@ impl Reader {
                     brackets,
                     arrow,
                 };
-                self.emit(Operation::AssignAt(Target::new(self.alloc, indexed)?))?
+                self.emit(Operation::AssignAt(BoxedIndexedName::new(self.alloc, indexed)?))?
             }
             _ => return self.take_operand(state, Operation::Name(column, name)),
         }
-        self.state = State::Whole;
+        self.state = State::Expression;
         Ok(())
     }
 
     /// An expression ends here: a function that begins it is monadic.
-    fn settle(&mut self, state: State) -> Result<(), Refusal>
-        ensures ok { OnOk result (settled self.old.operations state ≡ Some self.new.operations) }
-        ensures err { result ≡ Err Refusal.Syntax → settled self.old.operations state ≡ None }
-        ensures entries { self.new.entries ≡ self.old.entries }
+    fn end_expression(&mut self, state: State) -> Result<(), Refusal>
+        ensures ok { OnOk result (expression_operations self.old.operations state ≡ Some self.new.operations) }
+        ensures err { result ≡ Err Refusal.Syntax → expression_operations self.old.operations state ≡ None }
+        ensures stack { self.new.stack ≡ self.old.stack }
     {
         match state {
-            State::Whole => Ok(()),
-            State::Monadic(function, axis) => self.emit(Operation::Monadic(function, axis)),
+            State::Expression => Ok(()),
+            State::LeadingFunction(function, axis) => self.emit(Operation::Monadic(function, axis)),
             _ => Err(Refusal::Syntax),
         }
     }
 
     /// A function before an expression.
-    fn apply(&mut self, column: usize, glyph: Glyph, axis: Axis) -> Result<(), Refusal>
-        ensures ok { OnOk result (applied (Plain column glyph) axis self.old.operations (stack_of self.old) ≡ held self.new) }
+    fn set_leading_function(
+        &mut self,
+        column: usize,
+        glyph: Glyph,
+        axis: Axis,
+    ) -> Result<(), Refusal>
+        ensures ok { OnOk result (with_leading_function (Plain column glyph) axis self.old.operations (stack_of self.old) ≡ machine_of self.new) }
         ensures err { result ≡ Err Refusal.Syntax → ⊥ }
     {
         let function = Function::plain(column, glyph);
         if may_be_monadic(Form::Plain { column, glyph }, axis.is_some()) {
-            self.state = State::Monadic(function, axis);
+            self.state = State::LeadingFunction(function, axis);
             return Ok(());
         }
-        self.push_entry(Entry::Waiting(Operation::Dyadic(function, axis)))
+        self.push_pending(Pending::Operation(Operation::Dyadic(function, axis)))
     }
 
     /// The function before the axis is monadic.
-    fn fill(&mut self, pending: MaybePending)
-        ensures operations { self.new.operations ≡ filled self.old.operations pending }
-        ensures entries { self.new.entries ≡ self.old.entries }
+    fn fill(&mut self, undecided: MaybeUndecided)
+        ensures operations { self.new.operations ≡ with_monadic self.old.operations undecided }
+        ensures stack { self.new.stack ≡ self.old.stack }
     {
-        if let Some(pending) = pending.into_pending() {
-            let operation = Operation::Monadic(pending.form, pending.axis);
-            self.operations.fill(pending.place, operation);
+        if let Some(undecided) = undecided.into_option() {
+            let operation = Operation::Monadic(undecided.function, undecided.axis);
+            self.operations.fill(undecided.place, operation);
         }
     }
 
-    /// Pushes an entry to whose left an operand is wanted.
+    /// Pushes what is pending. To its left an operand is wanted.
     #[inline(always)]
-    fn push_entry(&mut self, entry: Entry) -> Result<(), Refusal>
-        ensures ok { OnOk result ((self.new.state ≡ Wanted) × (stack_of self.new ≡ entry ∷ stack_of self.old)) }
+    fn push_pending(&mut self, pending: Pending) -> Result<(), Refusal>
+        ensures ok { OnOk result ((self.new.state ≡ OperandWanted) × (stack_of self.new ≡ pending ∷ stack_of self.old)) }
         ensures err { result ≡ Err Refusal.Syntax → ⊥ }
         ensures operations { self.new.operations ≡ self.old.operations }
     {
-        self.entries.push(entry)?;
-        self.state = State::Wanted;
+        self.stack.push(pending)?;
+        self.state = State::OperandWanted;
         Ok(())
     }
 
     /// Makes a product wait for its left argument.
     fn push_product(&mut self, form: Form) -> Result<(), Refusal>
-        ensures ok { OnOk result ((self.new.state ≡ Wanted) × (stack_of self.new ≡ Entry.Waiting (Operation.Dyadic form None) ∷ stack_of self.old)) }
+        ensures ok { OnOk result ((self.new.state ≡ OperandWanted) × (stack_of self.new ≡ Pending.Operation (Operation.Dyadic form None) ∷ stack_of self.old)) }
         ensures err { result ≡ Err Refusal.Syntax → ⊥ }
         ensures operations { self.new.operations ≡ self.old.operations }
     {
         let function = Function::new(self.alloc, form)?;
-        self.push_entry(Entry::Waiting(Operation::Dyadic(function, Axis::none())))
+        self.push_pending(Pending::Operation(Operation::Dyadic(function, Axis::none())))
     }
 
     /// A function on the left of a slash that waits for its operand.
     fn take_reduced(&mut self, column: usize, glyph: Glyph) -> Result<(), Refusal>
-        ensures ok { OnOk result (with_function self.old.operations (stack_of self.old) Wanted column glyph ≡ Some (held self.new)) }
-        ensures err { result ≡ Err Refusal.Syntax → with_function self.old.operations (stack_of self.old) Wanted column glyph ≡ None }
+        ensures ok { OnOk result (with_function self.old.operations (stack_of self.old) OperandWanted column glyph ≡ Some (machine_of self.new)) }
+        ensures err { result ≡ Err Refusal.Syntax → with_function self.old.operations (stack_of self.old) OperandWanted column glyph ≡ None }
     {
-        let Some(Entry::Waiting(Operation::Dyadic(function, axis))) = self.entries.pop() else {
+        let Some(Pending::Operation(Operation::Dyadic(function, axis))) = self.stack.pop() else {
             return Err(Refusal::Syntax);
         };
         match function.form() {
@@ -360,7 +369,7 @@ impl Reader {
                     slash_column,
                     slash,
                 };
-                self.state = State::Monadic(Function::new(self.alloc, form)?, axis);
+                self.state = State::LeadingFunction(Function::new(self.alloc, form)?, axis);
                 Ok(())
             }
             _ => Err(Refusal::Syntax),
@@ -368,19 +377,19 @@ impl Reader {
     }
 
     fn take_function(&mut self, state: State, column: usize, glyph: Glyph) -> Result<(), Refusal>
-        ensures ok { OnOk result (with_function self.old.operations (stack_of self.old) state column glyph ≡ Some (held self.new)) }
+        ensures ok { OnOk result (with_function self.old.operations (stack_of self.old) state column glyph ≡ Some (machine_of self.new)) }
         ensures err { result ≡ Err Refusal.Syntax → with_function self.old.operations (stack_of self.old) state column glyph ≡ None }
     {
         match state {
-            State::Beside(brackets, pending) => {
+            State::LeadingBrackets(brackets, undecided) => {
                 if !takes_axis(glyph) {
                     return Err(Refusal::Syntax);
                 }
-                self.fill(pending);
+                self.fill(undecided);
                 let axis = Axis::new(self.alloc, brackets)?;
-                self.apply(column, glyph, axis)
+                self.set_leading_function(column, glyph, axis)
             }
-            State::Dotted(dot, right_column, right) => {
+            State::LeadingDot(dot, right_column, right) => {
                 if !is_dyadic_scalar(glyph) {
                     return Err(Refusal::Syntax);
                 }
@@ -393,24 +402,24 @@ impl Reader {
                 };
                 self.push_product(form)
             }
-            State::Wanted => self.take_reduced(column, glyph),
+            State::OperandWanted => self.take_reduced(column, glyph),
             _ => {
-                self.settle(state)?;
-                self.apply(column, glyph, Axis::none())
+                self.end_expression(state)?;
+                self.set_leading_function(column, glyph, Axis::none())
             }
         }
     }
 
     /// A dot on the left of the function.
-    fn set_dotted(&mut self, dot: usize, function: Function, axis: Axis) -> Result<(), Refusal>
-        ensures ok { OnOk result (dotted dot function axis ≡ Some self.new.state) }
-        ensures err { result ≡ Err Refusal.Syntax → dotted dot function axis ≡ None }
+    fn set_leading_dot(&mut self, dot: usize, function: Function, axis: Axis) -> Result<(), Refusal>
+        ensures ok { OnOk result (leading_dot dot function axis ≡ Some self.new.state) }
+        ensures err { result ≡ Err Refusal.Syntax → leading_dot dot function axis ≡ None }
         ensures operations { self.new.operations ≡ self.old.operations }
-        ensures entries { self.new.entries ≡ self.old.entries }
+        ensures stack { self.new.stack ≡ self.old.stack }
     {
         match function.form() {
             Form::Plain { column, glyph } if is_dyadic_scalar(glyph) && !axis.is_some() => {
-                self.state = State::Dotted(dot, column, glyph);
+                self.state = State::LeadingDot(dot, column, glyph);
                 Ok(())
             }
             _ => Err(Refusal::Syntax),
@@ -418,14 +427,14 @@ impl Reader {
     }
 
     fn take_dot(&mut self, state: State, dot: usize) -> Result<(), Refusal>
-        ensures ok { OnOk result (with_dot self.old.operations (stack_of self.old) state dot ≡ Some (held self.new)) }
+        ensures ok { OnOk result (with_dot self.old.operations (stack_of self.old) state dot ≡ Some (machine_of self.new)) }
         ensures err { result ≡ Err Refusal.Syntax → with_dot self.old.operations (stack_of self.old) state dot ≡ None }
     {
         match state {
-            State::Monadic(function, axis) => self.set_dotted(dot, function, axis),
-            State::Wanted => match self.entries.pop() {
-                Some(Entry::Waiting(Operation::Dyadic(function, axis))) => {
-                    self.set_dotted(dot, function, axis)
+            State::LeadingFunction(function, axis) => self.set_leading_dot(dot, function, axis),
+            State::OperandWanted => match self.stack.pop() {
+                Some(Pending::Operation(Operation::Dyadic(function, axis))) => {
+                    self.set_leading_dot(dot, function, axis)
                 }
                 _ => Err(Refusal::Syntax),
             },
@@ -434,11 +443,11 @@ impl Reader {
     }
 
     fn take_jot(&mut self, state: State, jot: usize) -> Result<(), Refusal>
-        ensures ok { OnOk result (with_jot self.old.operations (stack_of self.old) state jot ≡ Some (held self.new)) }
+        ensures ok { OnOk result (with_jot self.old.operations (stack_of self.old) state jot ≡ Some (machine_of self.new)) }
         ensures err { result ≡ Err Refusal.Syntax → with_jot self.old.operations (stack_of self.old) state jot ≡ None }
     {
         match state {
-            State::Dotted(dot, column, function) => {
+            State::LeadingDot(dot, column, function) => {
                 let form = Form::Outer {
                     jot,
                     dot,
@@ -452,21 +461,21 @@ impl Reader {
     }
 
     fn take_arrow(&mut self, state: State, arrow: usize) -> Result<(), Refusal>
-        ensures ok { OnOk result (with_arrow self.old.operations (stack_of self.old) state arrow ≡ Some (held self.new)) }
+        ensures ok { OnOk result (with_arrow self.old.operations (stack_of self.old) state arrow ≡ Some (machine_of self.new)) }
         ensures err { result ≡ Err Refusal.Syntax → with_arrow self.old.operations (stack_of self.old) state arrow ≡ None }
     {
-        self.settle(state)?;
-        self.state = State::Arrowed(arrow);
+        self.end_expression(state)?;
+        self.state = State::LeadingArrow(arrow);
         Ok(())
     }
 
     fn take_open_paren(&mut self, state: State, left: usize) -> Result<(), Refusal>
-        ensures ok { OnOk result (with_open_paren self.old.operations (stack_of self.old) state left ≡ Some (held self.new)) }
+        ensures ok { OnOk result (with_open_paren self.old.operations (stack_of self.old) state left ≡ Some (machine_of self.new)) }
         ensures err { result ≡ Err Refusal.Syntax → with_open_paren self.old.operations (stack_of self.old) state left ≡ None }
     {
-        self.settle(state)?;
-        match self.entries.pop() {
-            Some(Entry::Group(right)) => {
+        self.end_expression(state)?;
+        match self.stack.pop() {
+            Some(Pending::Group(right)) => {
                 self.emit(Operation::Group(Brackets { left, right }))?;
                 self.complete()
             }
@@ -475,32 +484,42 @@ impl Reader {
     }
 
     fn take_close_paren(&mut self, state: State, right: usize) -> Result<(), Refusal>
-        ensures ok { OnOk result (with_close_paren self.old.operations (stack_of self.old) state right ≡ Some (held self.new)) }
+        ensures ok { OnOk result (with_close_paren self.old.operations (stack_of self.old) state right ≡ Some (machine_of self.new)) }
         ensures err { result ≡ Err Refusal.Syntax → with_close_paren self.old.operations (stack_of self.old) state right ≡ None }
     {
         self.want_operand(state)?;
-        self.push_entry(Entry::Group(right))
+        self.push_pending(Pending::Group(right))
     }
 
     fn take_close_bracket(&mut self, state: State, right: usize) -> Result<(), Refusal>
-        ensures ok { OnOk result (with_close_bracket self.old.operations (stack_of self.old) state right ≡ Some (held self.new)) }
+        ensures ok { OnOk result (with_close_bracket self.old.operations (stack_of self.old) state right ≡ Some (machine_of self.new)) }
         ensures err { result ≡ Err Refusal.Syntax → with_close_bracket self.old.operations (stack_of self.old) state right ≡ None }
     {
         match state {
-            State::Whole => self.push_entry(Entry::Either(right, MaybePending::none())),
-            State::Monadic(form, axis) => {
+            State::Expression => self.push_pending(Pending::AxisOrIndex(
+                right,
+                MaybeUndecided::none(),
+            )),
+            State::LeadingFunction(function, axis) => {
                 let place = self.operations.keep_place(self.alloc)?;
-                let pending = MaybePending::new(self.alloc, Pending { form, axis, place })?;
-                self.push_entry(Entry::Either(right, pending))
+                let undecided = MaybeUndecided::new(
+                    self.alloc,
+                    UndecidedFunction {
+                        function,
+                        axis,
+                        place,
+                    },
+                )?;
+                self.push_pending(Pending::AxisOrIndex(right, undecided))
             }
-            State::Arrowed(arrow) => {
+            State::LeadingArrow(arrow) => {
                 let semicolons = Columns::new(self.alloc);
-                self.push_entry(Entry::Store(right, semicolons, arrow))
+                self.push_pending(Pending::IndexedAssignment(right, semicolons, arrow))
             }
             _ => {
                 self.want_operand(state)?;
                 let semicolons = Columns::new(self.alloc);
-                self.push_entry(Entry::Slice(right, semicolons))
+                self.push_pending(Pending::Index(right, semicolons))
             }
         }
     }
@@ -509,68 +528,68 @@ impl Reader {
     fn end_slot(&mut self, state: State) -> Result<(), Refusal>
         ensures ok { OnOk result (with_slot self.old.operations state ≡ Some self.new.operations) }
         ensures err { result ≡ Err Refusal.Syntax → with_slot self.old.operations state ≡ None }
-        ensures entries { self.new.entries ≡ self.old.entries }
+        ensures stack { self.new.stack ≡ self.old.stack }
     {
         match state {
-            State::Wanted => self.emit(Operation::EmptySlot),
-            _ => self.settle(state),
+            State::OperandWanted => self.emit(Operation::EmptySlot),
+            _ => self.end_expression(state),
         }
     }
 
     /// One more semicolon of the list in the innermost brackets.
-    fn part_slots(&mut self, column: usize) -> Result<(), Refusal>
-        ensures ok { OnOk result (parted column self.old.operations (stack_of self.old) ≡ Some (held self.new)) }
-        ensures err { result ≡ Err Refusal.Syntax → parted column self.old.operations (stack_of self.old) ≡ None }
+    fn begin_slot(&mut self, column: usize) -> Result<(), Refusal>
+        ensures ok { OnOk result (with_next_slot column self.old.operations (stack_of self.old) ≡ Some (machine_of self.new)) }
+        ensures err { result ≡ Err Refusal.Syntax → with_next_slot column self.old.operations (stack_of self.old) ≡ None }
     {
-        match self.entries.pop() {
-            Some(Entry::Slice(right, mut semicolons)) => {
+        match self.stack.pop() {
+            Some(Pending::Index(right, mut semicolons)) => {
                 semicolons.push(column)?;
-                self.push_entry(Entry::Slice(right, semicolons))
+                self.push_pending(Pending::Index(right, semicolons))
             }
-            Some(Entry::Store(right, mut semicolons, arrow)) => {
+            Some(Pending::IndexedAssignment(right, mut semicolons, arrow)) => {
                 semicolons.push(column)?;
-                self.push_entry(Entry::Store(right, semicolons, arrow))
+                self.push_pending(Pending::IndexedAssignment(right, semicolons, arrow))
             }
-            Some(Entry::Either(right, pending)) => {
-                self.push_pending(pending)?;
+            Some(Pending::AxisOrIndex(right, undecided)) => {
+                self.push_undecided(undecided)?;
                 let mut semicolons = Columns::new(self.alloc);
                 semicolons.push(column)?;
-                self.push_entry(Entry::Slice(right, semicolons))
+                self.push_pending(Pending::Index(right, semicolons))
             }
             _ => Err(Refusal::Syntax),
         }
     }
 
     fn take_semicolon(&mut self, state: State, column: usize) -> Result<(), Refusal>
-        ensures ok { OnOk result (with_semicolon self.old.operations (stack_of self.old) state column ≡ Some (held self.new)) }
+        ensures ok { OnOk result (with_semicolon self.old.operations (stack_of self.old) state column ≡ Some (machine_of self.new)) }
         ensures err { result ≡ Err Refusal.Syntax → with_semicolon self.old.operations (stack_of self.old) state column ≡ None }
     {
         self.end_slot(state)?;
-        self.part_slots(column)
+        self.begin_slot(column)
     }
 
     /// The bracket on the left of the innermost list; whether its first slot is empty.
     fn close_list(&mut self, is_empty: bool, left: usize) -> Result<(), Refusal>
-        ensures ok { OnOk result (closed_list is_empty left self.old.operations (stack_of self.old) ≡ Some (held self.new)) }
+        ensures ok { OnOk result (closed_list is_empty left self.old.operations (stack_of self.old) ≡ Some (machine_of self.new)) }
         ensures err { result ≡ Err Refusal.Syntax → closed_list is_empty left self.old.operations (stack_of self.old) ≡ None }
     {
-        match self.entries.pop() {
-            Some(Entry::Slice(right, semicolons)) => {
+        match self.stack.pop() {
+            Some(Pending::Index(right, semicolons)) => {
                 let brackets = Brackets { left, right };
-                self.push_entry(Entry::Waiting(Operation::Index(semicolons, brackets)))
+                self.push_pending(Pending::Operation(Operation::Index(semicolons, brackets)))
             }
-            Some(Entry::Store(right, semicolons, arrow)) => {
-                self.state = State::Named(semicolons, Brackets { left, right }, arrow);
+            Some(Pending::IndexedAssignment(right, semicolons, arrow)) => {
+                self.state = State::LeadingSlots(semicolons, Brackets { left, right }, arrow);
                 Ok(())
             }
-            Some(Entry::Either(right, pending)) if !is_empty => {
-                self.state = State::Beside(Brackets { left, right }, pending);
+            Some(Pending::AxisOrIndex(right, undecided)) if !is_empty => {
+                self.state = State::LeadingBrackets(Brackets { left, right }, undecided);
                 Ok(())
             }
-            Some(Entry::Either(right, pending)) => {
-                self.push_pending(pending)?;
+            Some(Pending::AxisOrIndex(right, undecided)) => {
+                self.push_undecided(undecided)?;
                 self.push_index(Brackets { left, right })?;
-                self.state = State::Wanted;
+                self.state = State::OperandWanted;
                 Ok(())
             }
             _ => Err(Refusal::Syntax),
@@ -578,20 +597,20 @@ impl Reader {
     }
 
     fn take_open_bracket(&mut self, state: State, left: usize) -> Result<(), Refusal>
-        ensures ok { OnOk result (with_open_bracket self.old.operations (stack_of self.old) state left ≡ Some (held self.new)) }
+        ensures ok { OnOk result (with_open_bracket self.old.operations (stack_of self.old) state left ≡ Some (machine_of self.new)) }
         ensures err { result ≡ Err Refusal.Syntax → with_open_bracket self.old.operations (stack_of self.old) state left ≡ None }
     {
-        let is_empty = matches!(state, State::Wanted);
+        let is_empty = matches!(state, State::OperandWanted);
         self.end_slot(state)?;
         self.close_list(is_empty, left)
     }
 
     #[inline(always)]
     fn take(&mut self, token: Token) -> Result<(), Refusal>
-        ensures ok { OnOk result (step token (held self.old) ≡ Some (held self.new)) }
-        ensures err { result ≡ Err Refusal.Syntax → step token (held self.old) ≡ None }
+        ensures ok { OnOk result (step token (machine_of self.old) ≡ Some (machine_of self.new)) }
+        ensures err { result ≡ Err Refusal.Syntax → step token (machine_of self.old) ≡ None }
     {
-        let state = mem::replace(&mut self.state, State::Wanted);
+        let state = mem::replace(&mut self.state, State::OperandWanted);
         let column = token.column;
         match token.lexeme {
             Lexeme::Constant(value) => self.take_operand(state, Operation::Constant(column, value)),
@@ -610,12 +629,12 @@ impl Reader {
 
     /// The operations of a whole statement.
     fn finish(mut self) -> Result<Vec<Operation>, Refusal>
-        ensures ok { IfOk result (λ operations. finished (held self) ≡ Some operations.items) }
-        ensures err { result ≡ Err Refusal.Syntax → finished (held self) ≡ None }
+        ensures ok { IfOk result (λ operations. statement_operations (machine_of self) ≡ Some operations.items) }
+        ensures err { result ≡ Err Refusal.Syntax → statement_operations (machine_of self) ≡ None }
     {
-        let state = mem::replace(&mut self.state, State::Wanted);
-        self.settle(state)?;
-        if !self.entries.is_empty() {
+        let state = mem::replace(&mut self.state, State::OperandWanted);
+        self.end_expression(state)?;
+        if !self.stack.is_empty() {
             return Err(Refusal::Syntax);
         }
         let operations = self.operations.into_operations(self.alloc)?;
@@ -626,7 +645,7 @@ impl Reader {
 /// The operations of the tokens, or why they are no statement.
 pub(crate) fn parse(alloc: Global, tokens: Vec<Token>) -> Result<Vec<Operation>, GrammarStop>
     requires { 0 < vec_len tokens }
-    ensures ok { IfOk result (λ operations. option_and_then finished (run tokens.items) ≡ Some operations.items) }
+    ensures ok { IfOk result (λ operations. option_and_then statement_operations (run tokens.items) ≡ Some operations.items) }
     ensures err { IfErr result (IsRefusedBy tokens.items) }
 {
     let mut rest = tokens;

@@ -4,7 +4,7 @@ use lib.Utf8.{encode}
 use Rattle.std.proofs.lemmas.List.{take-replicate, replicate-append-replicate}
 use Rattle.apl_print.specs.declared.reports.Report.{Report}
 use Rattle.apl_print.specs.Text.{blank, blanks, line_feed, caret}
-use Rattle.apl_print.specs.Reported.{caret_line, report_name, reported}
+use Rattle.apl_print.specs.Reported.{caret_line, report_name, report_text}
 
 -- one more slice of a run of blanks
 pub blanks_more : (count rest n : ℕ) → n ≤ 256 → n ≤ rest → rest ≤ count → blanks (count - rest) ++ take n (blanks 256) ≡ blanks (count - (rest - n))
@@ -31,7 +31,7 @@ caret_pieces column =
     ap (λ bytes. codes "\n      " ++ (blanks column ++ (bytes ++ line_feed ∷ []))) (sym caret_bytes)
     ∙ ap (λ text. codes "\n      " ++ text) (sym (append_assoc (blanks column) (encode caret) (line_feed ∷ [])))
 
-pub reported_pieces : (report : Report) (line : List ℕ) (column : Option ℕ) → (report_name report ++ codes "\n      ") ++ (line ++ line_feed ∷ caret_line column) ≡ reported report line column
+pub reported_pieces : (report : Report) (line : List ℕ) (column : Option ℕ) → (report_name report ++ codes "\n      ") ++ (line ++ line_feed ∷ caret_line column) ≡ report_text report line column
 reported_pieces report line column = simp append_assoc
 
 -- a text, the end of its line, and the line with the caret

@@ -5,8 +5,8 @@ use Rattle.std.proofs.lemmas.Bool.{le-leb, lt-leb, cases_lt}
 use Rattle.std.proofs.lemmas.List.{length-replicate}
 use Rattle.std.proofs.lemmas.List.Elements.{All-head, All-tail}
 use Rattle.apl_print.specs.Text.{line_feed, blank, blanks, indent, ended}
-use Rattle.apl_print.specs.Row.{joined, IsFull, IsLaid, text_of_lines, IsRow}
-use Rattle.apl_print.specs.Layout.{laid}
+use Rattle.apl_print.specs.Row.{joined, IsFull, AreFullLines, text_of_lines, IsRow}
+use Rattle.apl_print.specs.Layout.{rest_of_row}
 
 -- further fields of a line, each behind its gap
 abbrev pub gapped : ℕ → List (List ℕ) → List ℕ
@@ -48,18 +48,18 @@ IsFullAt-back width gap column f fs (next ∷ lines) full = omega (arith, length
 
 module _ (width gap : ℕ) where
   pub laid_fits : (column : ℕ) (f : List ℕ) (fs : List (List ℕ)) → column + gap + length f ≤ width
-      → laid width gap (Some column) (f ∷ fs) ≡ blanks gap ++ (f ++ laid width gap (Some (column + gap + length f)) fs)
+      → rest_of_row width gap (Some column) (f ∷ fs) ≡ blanks gap ++ (f ++ rest_of_row width gap (Some (column + gap + length f)) fs)
   laid_fits column f fs fits = rw (le-leb (column + gap + length f) width fits)
 
   pub laid_breaks : (column : ℕ) (f : List ℕ) (fs : List (List ℕ)) → width < column + gap + length f
-      → laid width gap (Some column) (f ∷ fs) ≡ line_feed ∷ (blanks indent ++ (f ++ laid width gap (Some (indent + length f)) fs))
+      → rest_of_row width gap (Some column) (f ∷ fs) ≡ line_feed ∷ (blanks indent ++ (f ++ rest_of_row width gap (Some (indent + length f)) fs))
   laid_breaks column f fs breaks = rw (lt-leb (column + gap + length f) width breaks)
 
   -- along the open line, where what follows it is known
   laid_along : (fs : List (List ℕ)) (lines : List (List (List ℕ))) (column : ℕ)
-      → ((c : ℕ) → IsFullAt width gap c [] lines → laid width gap (Some c) (flat lines) ≡ line_feed ∷ continued gap lines)
+      → ((c : ℕ) → IsFullAt width gap c [] lines → rest_of_row width gap (Some c) (flat lines) ≡ line_feed ∷ continued gap lines)
       → column + length (gapped gap fs) ≤ width → IsFullAt width gap column fs lines
-      → laid width gap (Some column) (fs ++ flat lines) ≡ gapped gap fs ++ (line_feed ∷ continued gap lines)
+      → rest_of_row width gap (Some column) (fs ++ flat lines) ≡ gapped gap fs ++ (line_feed ∷ continued gap lines)
   laid_along [] lines column at_end fits full = at_end column full
   laid_along (f ∷ fs) lines column at_end fits full =
       laid_fits column f (fs ++ flat lines) (omega (arith, length-gapped gap f fs))
@@ -68,8 +68,8 @@ module _ (width gap : ℕ) where
       ∙ simp append_assoc
 
   -- at the end of a line that is full
-  laid_at_end : (lines : List (List (List ℕ))) → IsLaid width gap indent lines → (column : ℕ) → IsFullAt width gap column [] lines
-      → laid width gap (Some column) (flat lines) ≡ line_feed ∷ continued gap lines
+  laid_at_end : (lines : List (List (List ℕ))) → AreFullLines width gap indent lines → (column : ℕ) → IsFullAt width gap column [] lines
+      → rest_of_row width gap (Some column) (flat lines) ≡ line_feed ∷ continued gap lines
   laid_at_end [] on_lines column full = refl
   laid_at_end ([] ∷ lines) on_lines column full = absurd (omega (arith, on_lines.0))
   laid_at_end ((f ∷ fs) ∷ lines) on_lines column full =
@@ -78,7 +78,7 @@ module _ (width gap : ℕ) where
       (laid_along fs lines (indent + length f) (laid_at_end lines on_lines.3) (omega (arith, on_lines.1, length-append f (gapped gap fs))) (IsFullAt-from width gap indent f fs lines on_lines.2))
       ∙ simp append_assoc
 
-  lines_are_laid : (lines : List (List (List ℕ))) → IsLaid width gap 0 lines → laid width gap None (flat lines) ≡ text_of_lines gap lines
+  lines_are_laid : (lines : List (List (List ℕ))) → AreFullLines width gap 0 lines → rest_of_row width gap None (flat lines) ≡ text_of_lines gap lines
   lines_are_laid [] on_lines = refl
   lines_are_laid ([] ∷ lines) on_lines = absurd (omega (arith, on_lines.0))
   lines_are_laid ((f ∷ fs) ∷ lines) on_lines =
@@ -87,9 +87,9 @@ module _ (width gap : ℕ) where
       ∙ simp append_assoc
 
   -- a row has one text
-  pub row_is_laid : (fields : List (List ℕ)) (text : List ℕ) → IsRow width gap fields text → text ≡ laid width gap None fields
+  pub row_is_laid : (fields : List (List ℕ)) (text : List ℕ) → IsRow width gap fields text → text ≡ rest_of_row width gap None fields
   row_is_laid fields text row =
-      row.is_text ∙ sym (lines_are_laid row.lines row.laid) ∙ ap (laid width gap None) row.whole
+      row.is_text ∙ sym (lines_are_laid row.lines row.laid) ∙ ap (rest_of_row width gap None) row.whole
 
   -- fields that follow on the open line, and further lines
   record Lines (column : ℕ) (fields : List (List ℕ)) : Type 0 where
@@ -98,7 +98,7 @@ module _ (width gap : ℕ) where
     whole : open_line ++ flat lines ≡ fields
     fits : column + length (gapped gap open_line) ≤ width
     full : IsFullAt width gap column open_line lines
-    laid : IsLaid width gap indent lines
+    laid : AreFullLines width gap indent lines
 
   -- there are such lines wherever each field fits on a continuation line
   lines_of : (fields : List (List ℕ)) (column : ℕ) → column ≤ width → All (λ f. indent + length f ≤ width) fields → Lines column fields
@@ -122,7 +122,7 @@ module _ (width gap : ℕ) where
       })
       (cases_lt width (column + gap + length f))
 
-  lines_of_row : (fields : List (List ℕ)) → All (λ f. indent + length f ≤ width) fields → (lines : List (List (List ℕ))) × (flat lines ≡ fields) × IsLaid width gap 0 lines
+  lines_of_row : (fields : List (List ℕ)) → All (λ f. indent + length f ≤ width) fields → (lines : List (List (List ℕ))) × (flat lines ≡ fields) × AreFullLines width gap 0 lines
   lines_of_row [] short = ([], refl, tt)
   lines_of_row (f ∷ fs) short =
       let short_field : indent + length f ≤ width = All-head (λ f. indent + length f ≤ width) f fs short in
@@ -133,11 +133,11 @@ module _ (width gap : ℕ) where
       )
 
   -- and the layout is such a text
-  pub IsRow-laid : (fields : List (List ℕ)) → All (λ f. indent + length f ≤ width) fields → IsRow width gap fields (laid width gap None fields)
+  pub IsRow-laid : (fields : List (List ℕ)) → All (λ f. indent + length f ≤ width) fields → IsRow width gap fields (rest_of_row width gap None fields)
   IsRow-laid fields short =
       let on = lines_of_row fields short in record {
         lines = on.0;
         whole = on.1;
         laid = on.2;
-        is_text = ap (laid width gap None) (sym on.1) ∙ lines_are_laid on.0 on.2;
+        is_text = ap (rest_of_row width gap None) (sym on.1) ∙ lines_are_laid on.0 on.2;
       }

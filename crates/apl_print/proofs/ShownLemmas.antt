@@ -13,31 +13,32 @@ use Rattle.apl_array.specs.Array.{ArrayValue}
 use Rattle.apl_array.specs.Range.{IsElementInRange, HasNumbersInRange}
 use Rattle.apl_print.specs.Text.{line_feed, blank, blanks, indent}
 use Rattle.apl_print.specs.Shown.{field_of, gap_of, row_count, row_length, rows_of, column_width, padded, aligned, empty_lines, AreRows, IsText, IsShown}
-use Rattle.apl_print.specs.Layout.{laid, rows_laid}
+use Rattle.apl_print.specs.Layout.{rest_of_row, rest_of_rows}
+use Rattle.apl_print.specs.Width.{least_width}
 use Rattle.apl_print.proofs.RowLemmas.{row_is_laid, IsRow-laid}
 
 -- the layout of a table of so many rows and columns
 abbrev pub laid_rows : ℕ → ℕ → List ℕ → ℕ → ℕ → List (List ℕ) → List ℕ
 laid_rows width gap shape rows columns fields =
     let table = rows_of rows columns fields in
-    rows_laid width gap shape 0 (map (aligned (column_width table) 0) table)
+    rest_of_rows width gap shape 0 (map (aligned (column_width table) 0) table)
 
 abbrev pub laid_table : ℕ → ℕ → List ℕ → List (List ℕ) → List ℕ
 laid_table width gap shape fields = laid_rows width gap shape (row_count shape) (row_length shape) fields
 
 -- the layout of an array
 abbrev pub laid_text : ℕ → ℕ → List ℕ → List (List ℕ) → List ℕ
-laid_text width gap [] fields = laid width gap None fields
-laid_text width gap (n ∷ []) fields = laid width gap None fields
+laid_text width gap [] fields = rest_of_row width gap None fields
+laid_text width gap (n ∷ []) fields = rest_of_row width gap None fields
 laid_text width gap (n ∷ m ∷ shape) [] = []
 laid_text width gap (n ∷ m ∷ shape) (field ∷ fields) = laid_table width gap (n ∷ m ∷ shape) (field ∷ fields)
 
 module _ (width gap : ℕ) where
-  rows_are_laid : (shape : List ℕ) (rows : List (List (List ℕ))) (r : ℕ) (text : List ℕ) → AreRows width gap shape r rows text → text ≡ rows_laid width gap shape r rows
+  rows_are_laid : (shape : List ℕ) (rows : List (List (List ℕ))) (r : ℕ) (text : List ℕ) → AreRows width gap shape r rows text → text ≡ rest_of_rows width gap shape r rows
   rows_are_laid shape [] r text are = are
   rows_are_laid shape (row ∷ rows) r text are =
       are.4 ∙ ap (λ first. replicate (empty_lines shape r) line_feed ++ (first ++ are.1)) (row_is_laid width gap row are.0 are.2)
-      ∙ ap (λ rest. replicate (empty_lines shape r) line_feed ++ (laid width gap None row ++ rest)) (rows_are_laid shape rows (r + 1) are.1 are.3)
+      ∙ ap (λ rest. replicate (empty_lines shape r) line_feed ++ (rest_of_row width gap None row ++ rest)) (rows_are_laid shape rows (r + 1) are.1 are.3)
 
   pub text_is_laid : (shape : List ℕ) (fields : List (List ℕ)) (text : List ℕ) → IsText width gap shape fields text → text ≡ laid_text width gap shape fields
   text_is_laid [] fields text is = row_is_laid width gap fields text is
@@ -45,11 +46,11 @@ module _ (width gap : ℕ) where
   text_is_laid (n ∷ m ∷ shape) [] text is = is
   text_is_laid (n ∷ m ∷ shape) (field ∷ fields) text is = rows_are_laid (n ∷ m ∷ shape) _ 0 text is
 
-  AreRows-laid : (shape : List ℕ) (rows : List (List (List ℕ))) (r : ℕ) → All (All (λ f. indent + length f ≤ width)) rows → AreRows width gap shape r rows (rows_laid width gap shape r rows)
+  AreRows-laid : (shape : List ℕ) (rows : List (List (List ℕ))) (r : ℕ) → All (All (λ f. indent + length f ≤ width)) rows → AreRows width gap shape r rows (rest_of_rows width gap shape r rows)
   AreRows-laid shape [] r short = refl
   AreRows-laid shape (row ∷ rows) r short = (
-    laid width gap None row,
-    rows_laid width gap shape (r + 1) rows,
+    rest_of_row width gap None row,
+    rest_of_rows width gap shape (r + 1) rows,
     IsRow-laid width gap row (All-head (All (λ f. indent + length f ≤ width)) row rows short),
     AreRows-laid shape rows (r + 1) (All-tail (All (λ f. indent + length f ≤ width)) row rows short),
     refl,
@@ -123,7 +124,7 @@ IsText-laid width gap (m ∷ l ∷ shape) (field ∷ fields) n fits short =
     (all_aligned-short (column_width rows) n rows (λ k. column_width_le rows k n all_short) all_short))
 
 -- the three cases of the layout
-pub laid_text-row : (width gap : ℕ) (shape : List ℕ) (fields : List (List ℕ)) → length shape ≤ 1 → laid_text width gap shape fields ≡ laid width gap None fields
+pub laid_text-row : (width gap : ℕ) (shape : List ℕ) (fields : List (List ℕ)) → length shape ≤ 1 → laid_text width gap shape fields ≡ rest_of_row width gap None fields
 laid_text-row width gap [] fields rank = refl
 laid_text-row width gap (n ∷ []) fields rank = refl
 laid_text-row width gap (n ∷ m ∷ shape) fields rank = absurd (omega arith)
@@ -141,7 +142,7 @@ laid_text-empty width gap (n ∷ m ∷ shape) [] rank none = refl
 laid_text-empty width gap (n ∷ m ∷ shape) (field ∷ fields) rank none = absurd (omega arith)
 
 -- the bytes of the layout are those of a text that the definition allows
-pub shown_by_layout : (a : ArrayValue) (width gap : ℕ) (bytes : List ℕ) → 30 ≤ width → gap ≡ gap_of a.kind → All (λ f. length f ≤ 21) (map field_of a.ravel)
+pub shown_by_layout : (a : ArrayValue) (width gap : ℕ) (bytes : List ℕ) → least_width ≤ width → gap ≡ gap_of a.kind → All (λ f. length f ≤ 21) (map field_of a.ravel)
     → bytes ≡ encode_utf8_all (laid_text width gap a.shape (map field_of a.ravel)) → (text : List ℕ) × IsShown a width text × (bytes ≡ encode_utf8_all text)
 shown_by_layout a width gap bytes wide is_gap short is_text = (
   laid_text width gap a.shape (map field_of a.ravel),
@@ -156,7 +157,7 @@ field_of-short (Int (pos n)) fits = let greatest = fits.greatest in omega (arith
 field_of-short (Int (negsuc n)) fits = let least = fits.least in omega (arith, length-decimal-le 20 (suc n) (omega arith) (omega (arith, ints)) (omega (arith, ints)))
 field_of-short (Chr c) fits = omega arith
 
-pub shown_always : (a : ArrayValue) (width : ℕ) → HasNumbersInRange a → 30 ≤ width → (text : List ℕ) × IsShown a width text
+pub shown_always : (a : ArrayValue) (width : ℕ) → HasNumbersInRange a → least_width ≤ width → (text : List ℕ) × IsShown a width text
 shown_always a width in_range wide = (
   laid_text width (gap_of a.kind) a.shape (map field_of a.ravel),
   IsText-laid width (gap_of a.kind) a.shape (map field_of a.ravel) 21 (omega arith)

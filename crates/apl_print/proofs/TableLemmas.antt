@@ -11,7 +11,7 @@ use Rattle.apl_array.specs.Shape.{count_of}
 use Rattle.apl_array.specs.Array.{ArrayValue, element_in}
 use Rattle.apl_print.specs.Text.{line_feed, blanks}
 use Rattle.apl_print.specs.Shown.{field_of, row_count, row_length, rows_of, column_width, padded, aligned, plane_starts, empty_lines}
-use Rattle.apl_print.specs.Layout.{lead, column_after, laid, rows_laid, fields_between}
+use Rattle.apl_print.specs.Layout.{lead, column_after, rest_of_row, rest_of_rows, fields_between}
 use Rattle.apl_print.proofs.TextLemmas.{encodes_after}
 
 -- one more field of a row: the bytes so far, and the layout of the rest
@@ -19,22 +19,22 @@ pub row_more : (width gap : ℕ) (column : Option ℕ) (next : ℕ) (widths : �
     → k < length fields → get_or fields k [] ≡ field → w ≡ widths k
     → new ≡ old ++ encode_utf8_all (lead width gap column (length (padded w field)) ++ padded w field)
     → next ≡ column_after width gap column (length (padded w field))
-    → old ++ encode_utf8_all (laid width gap column (aligned widths k (drop k fields))) ≡ start
-    → new ++ encode_utf8_all (laid width gap (Some next) (aligned widths (k + 1) (drop (k + 1) fields))) ≡ start
+    → old ++ encode_utf8_all (rest_of_row width gap column (aligned widths k (drop k fields))) ≡ start
+    → new ++ encode_utf8_all (rest_of_row width gap (Some next) (aligned widths (k + 1) (drop (k + 1) fields))) ≡ start
 row_more width gap column next widths k fields old new start field w within is_field is_width pushed is_next before =
     let cell = padded w field in
     let rest = aligned widths (k + 1) (drop (k + 1) fields) in
-    ap (λ bytes. bytes ++ encode_utf8_all (laid width gap (Some next) rest)) pushed
-    ∙ encodes_after old (lead width gap column (length cell) ++ cell) (laid width gap (Some next) rest)
-    ∙ ap (λ text. old ++ encode_utf8_all text) (append_assoc (lead width gap column (length cell)) cell (laid width gap (Some next) rest))
-    ∙ ap (λ c. old ++ encode_utf8_all (lead width gap column (length cell) ++ (cell ++ laid width gap (Some c) rest))) is_next
-    ∙ ap (λ v. old ++ encode_utf8_all (laid width gap column (padded v field ∷ rest))) is_width
-    ∙ ap (λ fields. old ++ encode_utf8_all (laid width gap column (aligned widths k fields))) (sym (drop_more fields k [] within ∙ ap (λ f. f ∷ drop (k + 1) fields) is_field))
+    ap (λ bytes. bytes ++ encode_utf8_all (rest_of_row width gap (Some next) rest)) pushed
+    ∙ encodes_after old (lead width gap column (length cell) ++ cell) (rest_of_row width gap (Some next) rest)
+    ∙ ap (λ text. old ++ encode_utf8_all text) (append_assoc (lead width gap column (length cell)) cell (rest_of_row width gap (Some next) rest))
+    ∙ ap (λ c. old ++ encode_utf8_all (lead width gap column (length cell) ++ (cell ++ rest_of_row width gap (Some c) rest))) is_next
+    ∙ ap (λ v. old ++ encode_utf8_all (rest_of_row width gap column (padded v field ∷ rest))) is_width
+    ∙ ap (λ fields. old ++ encode_utf8_all (rest_of_row width gap column (aligned widths k fields))) (sym (drop_more fields k [] within ∙ ap (λ f. f ∷ drop (k + 1) fields) is_field))
     ∙ before
 
 -- the layout of a row that has ended
-pub row_ends : (width gap : ℕ) (column : Option ℕ) (widths : ℕ → ℕ) (k : ℕ) (fields : List (List ℕ)) → length fields ≤ k → laid width gap column (aligned widths k (drop k fields)) ≡ line_feed ∷ []
-row_ends width gap column widths k fields past = ap (λ rest. laid width gap column (aligned widths k rest)) (drop_all k fields past)
+pub row_ends : (width gap : ℕ) (column : Option ℕ) (widths : ℕ → ℕ) (k : ℕ) (fields : List (List ℕ)) → length fields ≤ k → rest_of_row width gap column (aligned widths k (drop k fields)) ≡ line_feed ∷ []
+row_ends width gap column widths k fields past = ap (λ rest. rest_of_row width gap column (aligned widths k rest)) (drop_all k fields past)
 
 -- no widths are no padding
 pub aligned_none : (widths : ℕ → ℕ) (k : ℕ) (fields : List (List ℕ)) → ((k : ℕ) → widths k ≡ 0) → aligned widths k fields ≡ fields
@@ -170,21 +170,21 @@ table_row a rows columns r widths row same =
 pub rows_more : (width gap : ℕ) (shape : List ℕ) (r : ℕ) (table : List (List (List ℕ))) (old mid new start : List ℕ) (row : List (List ℕ))
     → r < length table → get_or table r [] ≡ row
     → mid ≡ old ++ encode_utf8_all (replicate (empty_lines shape r) line_feed)
-    → new ≡ mid ++ encode_utf8_all (laid width gap None row)
-    → old ++ encode_utf8_all (rows_laid width gap shape r (drop r table)) ≡ start
-    → new ++ encode_utf8_all (rows_laid width gap shape (r + 1) (drop (r + 1) table)) ≡ start
+    → new ≡ mid ++ encode_utf8_all (rest_of_row width gap None row)
+    → old ++ encode_utf8_all (rest_of_rows width gap shape r (drop r table)) ≡ start
+    → new ++ encode_utf8_all (rest_of_rows width gap shape (r + 1) (drop (r + 1) table)) ≡ start
 rows_more width gap shape r table old mid new start row within is_row feeds pushed before =
     let lines = replicate (empty_lines shape r) line_feed in
-    let rest = rows_laid width gap shape (r + 1) (drop (r + 1) table) in
-    ap (λ bytes. bytes ++ encode_utf8_all rest) (pushed ∙ ap (λ bytes. bytes ++ encode_utf8_all (laid width gap None row)) feeds)
-    ∙ ap (λ bytes. bytes ++ encode_utf8_all rest) (encodes_after old lines (laid width gap None row))
-    ∙ encodes_after old (lines ++ laid width gap None row) rest
-    ∙ ap (λ text. old ++ encode_utf8_all text) (append_assoc lines (laid width gap None row) rest)
-    ∙ ap (λ rows. old ++ encode_utf8_all (rows_laid width gap shape r rows)) (sym (drop_more table r [] within ∙ ap (λ first. first ∷ drop (r + 1) table) is_row))
+    let rest = rest_of_rows width gap shape (r + 1) (drop (r + 1) table) in
+    ap (λ bytes. bytes ++ encode_utf8_all rest) (pushed ∙ ap (λ bytes. bytes ++ encode_utf8_all (rest_of_row width gap None row)) feeds)
+    ∙ ap (λ bytes. bytes ++ encode_utf8_all rest) (encodes_after old lines (rest_of_row width gap None row))
+    ∙ encodes_after old (lines ++ rest_of_row width gap None row) rest
+    ∙ ap (λ text. old ++ encode_utf8_all text) (append_assoc lines (rest_of_row width gap None row) rest)
+    ∙ ap (λ rows. old ++ encode_utf8_all (rest_of_rows width gap shape r rows)) (sym (drop_more table r [] within ∙ ap (λ first. first ∷ drop (r + 1) table) is_row))
     ∙ before
 
-pub rows_end : (width gap : ℕ) (shape : List ℕ) (r : ℕ) (table : List (List (List ℕ))) → length table ≤ r → rows_laid width gap shape r (drop r table) ≡ []
-rows_end width gap shape r table past = ap (rows_laid width gap shape r) (drop_all r table past)
+pub rows_end : (width gap : ℕ) (shape : List ℕ) (r : ℕ) (table : List (List (List ℕ))) → length table ≤ r → rest_of_rows width gap shape r (drop r table) ≡ []
+rows_end width gap shape r table past = ap (rest_of_rows width gap shape r) (drop_all r table past)
 
 -- rows are as long as the last axis, and each element lies in one
 pub row_length_pos : (shape : List ℕ) → 0 < count_of shape → 0 < row_length shape

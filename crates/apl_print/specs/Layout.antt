@@ -17,15 +17,15 @@ column_after width gap None n = n
 column_after width gap (Some column) n = if nat_le (column + gap + n) width then column + gap + n else indent + n
 
 -- the rest of a row, where the open line has so many characters, or the row has not begun
-abbrev pub laid : ℕ → ℕ → Option ℕ → List (List ℕ) → List ℕ
-laid width gap column [] = line_feed ∷ []
-laid width gap column (field ∷ fields) = lead width gap column (length field)
-    ++ (field ++ laid width gap (Some (column_after width gap column (length field))) fields)
+abbrev pub rest_of_row : ℕ → ℕ → Option ℕ → List (List ℕ) → List ℕ
+rest_of_row width gap column [] = line_feed ∷ []
+rest_of_row width gap column (field ∷ fields) = lead width gap column (length field)
+    ++ (field ++ rest_of_row width gap (Some (column_after width gap column (length field))) fields)
 
 -- the rows from row r on
-abbrev pub rows_laid : ℕ → ℕ → List ℕ → ℕ → List (List (List ℕ)) → List ℕ
-rows_laid width gap shape r [] = []
-rows_laid width gap shape r (row ∷ rows) = replicate (empty_lines shape r) line_feed ++ (laid width gap None row ++ rows_laid width gap shape (r + 1) rows)
+abbrev pub rest_of_rows : ℕ → ℕ → List ℕ → ℕ → List (List (List ℕ)) → List ℕ
+rest_of_rows width gap shape r [] = []
+rest_of_rows width gap shape r (row ∷ rows) = replicate (empty_lines shape r) line_feed ++ (rest_of_row width gap None row ++ rest_of_rows width gap shape (r + 1) rows)
 
 -- the fields of the elements from one place up to another
 abbrev pub fields_between : ArrayValue → ℕ → ℕ → List (List ℕ)

@@ -8,3 +8,4 @@ pub mod Row
 pub mod Shown
 pub mod SinkValues
 pub mod Text
+pub mod Width

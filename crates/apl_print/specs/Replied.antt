@@ -4,7 +4,7 @@ use Rattle.apl_print.specs.declared.replies.Reply.{Reply}
 use Rattle.apl_print.specs.declared.replies.Reply.TheVariants.{Was, Clear, Incorrect}
 use Rattle.apl_print.specs.Text.{ended}
 
-abbrev pub replied : Reply → List ℕ
-replied (Was setting) = ended (codes "WAS " ++ decimal setting)
-replied Clear = ended (codes "CLEAR WS")
-replied Incorrect = ended (codes "INCORRECT COMMAND")
+abbrev pub reply_text : Reply → List ℕ
+reply_text (Was setting) = ended (codes "WAS " ++ decimal setting)
+reply_text Clear = ended (codes "CLEAR WS")
+reply_text Incorrect = ended (codes "INCORRECT COMMAND")

@@ -20,5 +20,5 @@ abbrev pub caret_line : Option ℕ → List ℕ
 caret_line None = []
 caret_line (Some column) = ended (blanks indent ++ blanks column ++ encode_utf8 caret)
 
-abbrev pub reported : Report → List ℕ → Option ℕ → List ℕ
-reported report line column = ended (report_name report) ++ ended (blanks indent ++ line) ++ caret_line column
+abbrev pub report_text : Report → List ℕ → Option ℕ → List ℕ
+report_text report line column = ended (report_name report) ++ ended (blanks indent ++ line) ++ caret_line column

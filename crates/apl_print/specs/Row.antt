@@ -13,10 +13,10 @@ IsFull width gap before line [] = Unit {0}
 IsFull width gap before line (next ∷ lines) = width < before + length (joined gap (line ++ take 1 next))
 
 -- each line has fields, fits after the blanks before it, and is full
-abbrev pub IsLaid : ℕ → ℕ → ℕ → List (List (List ℕ)) → Type 0
-IsLaid width gap before [] = Unit {0}
-IsLaid width gap before (line ∷ lines) = (0 < length line) × (before + length (joined gap line) ≤ width)
-    × IsFull width gap before line lines × IsLaid width gap indent lines
+abbrev pub AreFullLines : ℕ → ℕ → ℕ → List (List (List ℕ)) → Type 0
+AreFullLines width gap before [] = Unit {0}
+AreFullLines width gap before (line ∷ lines) = (0 < length line) × (before + length (joined gap line) ≤ width)
+    × IsFull width gap before line lines × AreFullLines width gap indent lines
 
 -- the text of a row on these lines; a row without fields is an empty line
 abbrev pub text_of_lines : ℕ → List (List (List ℕ)) → List ℕ
@@ -27,5 +27,5 @@ text_of_lines gap (line ∷ lines) = ended (joined gap line) ++ flat_map (λ lin
 pub record IsRow (width gap : ℕ) (fields : List (List ℕ)) (text : List ℕ) : Type 0 where
   pub lines : List (List (List ℕ))
   pub whole : flat_map (λ line. line) lines ≡ fields
-  pub laid : IsLaid width gap 0 lines
+  pub laid : AreFullLines width gap 0 lines
   pub is_text : text ≡ text_of_lines gap lines

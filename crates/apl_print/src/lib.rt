@@ -18,4 +18,4 @@ pub use reporting::{reply, report};
 pub use reports::Report;
 pub use sinks::{Sink, SinkFault, put_all};
 pub use streams::Out;
-pub use values::{numerals, print, shown_always, shown_once};
+pub use values::{LEAST_WIDTH, MOST_WIDTH, numerals, print, shown_always, shown_once};

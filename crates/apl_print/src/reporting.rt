@@ -2,8 +2,8 @@
 ghost use Rattle.std.specs.Prelude.{◌≡◌, ℕ, ◌∷◌, ◌++◌, Some, IfOk, OnOk};
 ghost use Rattle.apl_print.specs.Failures.{CountsFailure};
 ghost use Rattle.apl_print.specs.Put.{Writes};
-ghost use Rattle.apl_print.specs.Reported.{reported, caret_line};
-ghost use Rattle.apl_print.specs.Replied.{replied};
+ghost use Rattle.apl_print.specs.Reported.{report_text, caret_line};
+ghost use Rattle.apl_print.specs.Replied.{reply_text};
 ghost use Rattle.apl_print.specs.declared.replies.Reply.TheVariants.{Was};
 ghost use Rattle.apl_print.specs.Text.{blanks, line_feed};
 
@@ -27,7 +27,7 @@ pub fn report<S: Sink>(
     line: &[u8],
     column: Option<usize>,
 ) -> Result<(), SinkFault>
-    ensures writes { Writes (S.taken sink.old) (S.taken sink.new) (reported report line.now column) result }
+    ensures writes { Writes (S.taken sink.old) (S.taken sink.new) (report_text report line.now column) result }
     ensures failures { CountsFailure (S.failures sink.old) (S.failures sink.new) result }
 {
     match short_report(report, line, column) {
@@ -42,7 +42,7 @@ fn short_report(
     line: &[u8],
     column: Option<usize>,
 ) -> Result<ArrayVec<u8, AT_ONCE>, CapacityError>
-    ensures { IfOk result (λ text. text.items ≡ reported report line.now column) }
+    ensures { IfOk result (λ text. text.items ≡ report_text report line.now column) }
 {
     let mut text = ArrayVec::new();
     text.try_extend_from_slice(report.heading())?;
@@ -73,7 +73,7 @@ fn put_report<S: Sink>(
     line: &[u8],
     column: Option<usize>,
 ) -> Result<(), SinkFault>
-    ensures writes { Writes (S.taken sink.old) (S.taken sink.new) (reported report line.now column) result }
+    ensures writes { Writes (S.taken sink.old) (S.taken sink.new) (report_text report line.now column) result }
     ensures failures { CountsFailure (S.failures sink.old) (S.failures sink.new) result }
 {
     put_all(sink, report.heading())?;
@@ -110,7 +110,7 @@ fn put_blanks<S: Sink>(sink: &mut S, count: usize) -> Result<(), SinkFault>
 
 /// Puts a reply, as a line. It takes no memory. After a fault the sink has taken a beginning of the line.
 pub fn reply<S: Sink>(sink: &mut S, reply: Reply) -> Result<(), SinkFault>
-    ensures writes { Writes (S.taken sink.old) (S.taken sink.new) (replied reply) result }
+    ensures writes { Writes (S.taken sink.old) (S.taken sink.new) (reply_text reply) result }
     ensures failures { CountsFailure (S.failures sink.old) (S.failures sink.new) result }
 {
     match reply {
@@ -122,7 +122,7 @@ pub fn reply<S: Sink>(sink: &mut S, reply: Reply) -> Result<(), SinkFault>
 
 /// Puts what a setting was.
 fn put_was<S: Sink>(sink: &mut S, setting: u8) -> Result<(), SinkFault>
-    ensures writes { Writes (S.taken sink.old) (S.taken sink.new) (replied (Was setting)) result }
+    ensures writes { Writes (S.taken sink.old) (S.taken sink.new) (reply_text (Was setting)) result }
     ensures failures { CountsFailure (S.failures sink.old) (S.failures sink.new) result }
 {
     put_all(sink, b"WAS ")?;

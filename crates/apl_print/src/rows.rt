@@ -1,9 +1,9 @@
 //! Rows of fields, and the lines that they stand on.
-ghost use Rattle.std.specs.Prelude.{◌≡◌, ℕ, ◌+◌, ◌-◌, ◌*◌, ◌^◌, ◌<◌, ◌≤◌, ◌++◌, All, IfSome, IfOk, OnOk, length, take, map, max, replicate, slice_index, string_bytes, encode_utf8_all, None};
-ghost use Rattle.apl_array.specs.Shape.{count_of};
+ghost use Rattle.std.specs.Prelude.{◌≡◌, ℕ, ◌+◌, ◌-◌, ◌*◌, ◌<◌, ◌≤◌, ◌++◌, All, IfSome, IfOk, OnOk, length, take, map, max, replicate, slice_index, string_bytes, encode_utf8_all, None};
+ghost use Rattle.apl_array.specs.Shape.{count_of, most_elements};
 ghost use Rattle.apl_array.specs.Array.{IsArray, element_in};
 ghost use Rattle.apl_print.specs.Shown.{field_of, gap_of, row_length, row_count, rows_of, column_width, padded, aligned, plane_starts, empty_lines};
-ghost use Rattle.apl_print.specs.Layout.{lead, column_after, laid, rows_laid, fields_between};
+ghost use Rattle.apl_print.specs.Layout.{lead, column_after, rest_of_row, rest_of_rows, fields_between};
 
 use apl_array::{Array, Elem, Kind};
 use itoa::Buffer;
@@ -30,7 +30,7 @@ impl Layout {
 
     /// How many bytes the text of so many elements has at least.
     pub(crate) fn least_length(self, count: usize) -> usize
-        requires { count ≤ 2 ^ 30 }
+        requires { count ≤ most_elements }
     {
         count * (1 + usize::from(self.gap))
     }
@@ -49,7 +49,7 @@ impl Layout {
         requires within { end ≤ count_of array.now.shape }
         ensures laid { OnOk result (
             let row = aligned (slice_index widths.now) 0 (fields_between array.now start end) in
-            string_bytes text.new ≡ string_bytes text.old ++ encode_utf8_all (laid self.width self.gap None row)) }
+            string_bytes text.new ≡ string_bytes text.old ++ encode_utf8_all (rest_of_row self.width self.gap None row)) }
         ensures short { OnOk result (All (λ field. length field ≤ 21) (fields_between array.now start end)) }
     {
         let mut column = None;
@@ -132,7 +132,7 @@ pub(crate) fn put_rows(
         let shape = array.now.shape in
         let rows = rows_of (row_count shape) (row_length shape) (map field_of array.now.ravel) in
         string_bytes text.new ≡ string_bytes text.old
-        ++ encode_utf8_all (rows_laid layout.width layout.gap shape 0 (map (aligned (column_width rows) 0) rows))) }
+        ++ encode_utf8_all (rest_of_rows layout.width layout.gap shape 0 (map (aligned (column_width rows) 0) rows))) }
     ensures short { OnOk result (All (λ field. length field ≤ 21) (map field_of array.now.ravel)) }
 {
     let lengths = array.shape().lengths();
@@ -155,7 +155,7 @@ pub(crate) fn put_rows(
 /// How many empty lines stand before a row.
 fn empty_lines(lengths: &[usize], row: usize) -> usize
     requires some { 0 < count_of lengths.now }
-    requires most { count_of lengths.now ≤ 2 ^ 30 }
+    requires most { count_of lengths.now ≤ most_elements }
     ensures { result ≡ empty_lines lengths.now row }
 {
     if row == 0 {
@@ -168,7 +168,7 @@ fn empty_lines(lengths: &[usize], row: usize) -> usize
 /// Along how many axes but the last two a plane begins at this row.
 fn plane_starts(lengths: &[usize], row: usize) -> usize
     requires some { 0 < count_of lengths.now }
-    requires most { count_of lengths.now ≤ 2 ^ 30 }
+    requires most { count_of lengths.now ≤ most_elements }
     ensures starts { result ≡ plane_starts lengths.now row }
     ensures few { result ≤ length lengths.now }
 {
@@ -183,7 +183,7 @@ fn plane_starts(lengths: &[usize], row: usize) -> usize
 /// How many rows an array of these lengths has.
 fn row_count(lengths: &[usize]) -> usize
     requires some { 0 < count_of lengths.now }
-    requires most { count_of lengths.now ≤ 2 ^ 30 }
+    requires most { count_of lengths.now ≤ most_elements }
     ensures rows { result ≡ row_count lengths.now }
     ensures some { 0 < result }
     ensures most { result ≤ count_of lengths.now }

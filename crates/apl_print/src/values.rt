@@ -9,6 +9,12 @@ use super::rows::{Layout, put_rows};
 use apl_array::Array;
 use std::alloc::{AllocError, Global};
 
+/// The least width of lines, in characters.
+pub const LEAST_WIDTH: u8 = 30;
+
+/// The greatest width of lines, in characters.
+pub const MOST_WIDTH: u8 = 130;
+
 /// The text of an array on lines of at most `width` characters, each ended by a line feed.
 ///
 /// A scalar or a vector is one row of fields, and a vector without elements is an empty line. A field
@@ -20,8 +26,8 @@ use std::alloc::{AllocError, Global};
 ///
 /// Memory is taken for the text, and for a byte for each column of an array of rank 2 and above.
 pub fn print(alloc: Global, array: &Array, width: u8) -> Result<String, AllocError>
-    requires low { 30 ≤ width }
-    requires high { width ≤ 130 }
+    requires low { LEAST_WIDTH ≤ width }
+    requires high { width ≤ MOST_WIDTH }
     ensures shown { IfOk result (λ text. (characters : List ℕ) × IsShown array.now width characters
         × (string_bytes text ≡ encode_utf8_all characters)) }
 {
@@ -44,7 +50,7 @@ pub fn shown_once()
 
 /// The law that an array has some text at each width that lines may have.
 pub fn shown_always()
-    ensures { (a : ArrayValue) (width : ℕ) → HasNumbersInRange a → 30 ≤ width
+    ensures { (a : ArrayValue) (width : ℕ) → HasNumbersInRange a → LEAST_WIDTH ≤ width
         → (text : List ℕ) × IsShown a width text }
 {}
 

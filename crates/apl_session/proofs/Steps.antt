@@ -9,7 +9,7 @@ use Rattle.apl_grammar.specs.declared.program.Operation.{Operation}
 use Rattle.apl_print.specs.Shown.{IsShown}
 use Rattle.apl_print.specs.Put.{Writes}
 use Rattle.apl_print.specs.Failures.{CountsFailure}
-use Rattle.apl_print.specs.Reported.{reported}
+use Rattle.apl_print.specs.Reported.{report_text}
 use Rattle.apl_print.specs.declared.reports.Report.{Report}
 use Rattle.apl_print.specs.declared.reports.Report.TheVariants.{WsFull}
 use Rattle.apl_syntax.specs.declared.lines.Command.{Command}
@@ -95,11 +95,11 @@ given_reading state line text old new reading answer put r e is answers goes sam
 
 -- the refused step of a line of listed symbols, once its text was put
 pub given_refused : {T E : Type 0} (state : WorkspaceValue) (line : List ℕ) (old new : Option (List ℕ)) (put : Result T E) (r : Result Next RunFault)
-    → r ≡ next_after put → IsRefusable line → Writes old new (reported WsFull line None) put
+    → r ≡ next_after put → IsRefusable line → Writes old new (report_text WsFull line None) put
     → IsGiven state state line old new r
 given_refused state line old new put r e listed written =
     subst (λ (x : Result Next RunFault). IsGiven state state line old new x) (sym e)
-    (given_by_put state state line (reported WsFull line None) old new (refused_step state line) put (inr (refl, listed)) refl refl refl written)
+    (given_by_put state state line (report_text WsFull line None) old new (refused_step state line) put (inr (refl, listed)) refl refl refl written)
 
 -- an answer that writes nothing
 pub given_silent : (state now : WorkspaceValue) (line : List ℕ) (old : Option (List ℕ)) (reading : Reading)
@@ -146,15 +146,15 @@ module _ (state now : WorkspaceValue) (line : List ℕ) (ops : List Operation) (
   -- a fault writes its report
   pub given_fault : {T E : Type 0} (report : Report) (column : ℕ) (old new : Option (List ℕ)) (put : Result T E) (r : Result Next RunFault)
       → ((tree : Expr) → operations tree ≡ ops → Evaluates tree state now (Err (Error report column))) → r ≡ next_after put
-      → Writes old new (reported report line (Some column)) put → IsGiven state now line old new r
+      → Writes old new (report_text report line (Some column)) put → IsGiven state now line old new r
   given_fault report column old new put r evaluates e written =
-      given_reading state line (reported report line (Some column)) old new (statement read.0) (reports report line column now) put r e read.1
+      given_reading state line (report_text report line (Some column)) old new (statement read.0) (reports report line column now) put r e read.1
       (subst (λ (o : Outcome ArrayValue). IsStatementAnswer line read.0 o (reports report line column now)) (sym (evaluates read.0 read.2)) refl) refl refl written
 
   -- a statement that is refused for want of memory leaves the workspace
   pub given_unchanged : {T E : Type 0} (old new : Option (List ℕ)) (put : Result T E) (r : Result Next RunFault)
       → ((tree : Expr) → operations tree ≡ ops → Evaluates tree state now (Err (NoMemory))) → r ≡ next_after put
-      → Writes old new (reported WsFull line None) put → IsGiven state now line old new r
+      → Writes old new (report_text WsFull line None) put → IsGiven state now line old new r
   given_unchanged old new put r evaluates e written =
       let same : now ≡ state = evaluates read.0 read.2 in
       subst (λ (w : WorkspaceValue). IsGiven state w line old new r) (sym same) (given_refused state line old new put r e (read.1.0, read.1.1) written)

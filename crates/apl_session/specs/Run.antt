@@ -1,6 +1,6 @@
 -- What a run of an interpreter over the lines of a text writes.
 use Rattle.std.specs.Prelude.{◌≡◌, ℕ, ◌⊎◌, Bool, false, MatchBool, List, [], ◌∷◌, flat_map, None}
-use Rattle.apl_print.specs.Reported.{reported}
+use Rattle.apl_print.specs.Reported.{report_text}
 use Rattle.apl_print.specs.declared.reports.Report.TheVariants.{WsFull}
 use Rattle.apl_session.specs.Lines.{without_return}
 
@@ -18,7 +18,7 @@ pub record Semantics (W : Type 0) : Type 1 where
 
 -- the step of a line that is refused for want of memory: the report, and the state as it was
 abbrev pub refused_step : {W : Type 0} → W → List ℕ → Answer W
-refused_step state line = record { text = reported WsFull line None; after = state; ends = false }
+refused_step state line = record { text = report_text WsFull line None; after = state; ends = false }
 
 -- a line's answer as it is defined
 abbrev pub IsDefinedAnswer : {W : Type 0} → Semantics W → W → List ℕ → Answer W → Type 0

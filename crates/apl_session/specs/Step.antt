@@ -4,8 +4,8 @@ use Rattle.apl_grammar.specs.Tree.{Expr}
 use Rattle.apl_syntax.specs.declared.lines.Command.{Command}
 use Rattle.apl_syntax.specs.declared.lines.Command.TheVariants.{Origin, Width, Clear, Off, Incorrect}
 use Rattle.apl_syntax.specs.Reading.{Reading, character, command, blank, statement, syntax, limit, IsReading, IsListed}
-use Rattle.apl_print.specs.Reported.{reported}
-use Rattle.apl_print.specs.Replied.{replied}
+use Rattle.apl_print.specs.Reported.{report_text}
+use Rattle.apl_print.specs.Replied.{reply_text}
 use Rattle.apl_print.specs.declared.replies.Reply.{Reply}
 use Rattle.apl_print.specs.declared.replies.Reply.TheVariants as reply
 use Rattle.apl_print.specs.declared.reports.Report.{Report}
@@ -23,7 +23,7 @@ says text workspace = record { text = text; after = workspace; ends = false }
 
 -- the report at a column of the line
 abbrev pub reports : Report → List ℕ → ℕ → WorkspaceValue → Answer WorkspaceValue
-reports report line column workspace = says (reported report line (Some column)) workspace
+reports report line column workspace = says (report_text report line (Some column)) workspace
 
 -- the answer that writes the value's text, at the width of the workspace
 abbrev pub Prints : ArrayValue → WorkspaceValue → Answer WorkspaceValue → Type 0
@@ -32,7 +32,7 @@ Prints value workspace answer =
 
 -- the answer to a command is a reply
 abbrev pub replies : Reply → WorkspaceValue → Answer WorkspaceValue
-replies reply workspace = says (replied reply) workspace
+replies reply workspace = says (reply_text reply) workspace
 
 -- A command's answer: a setting is told as it was and changed, the workspace is made as it was at first, or the run ends.
 abbrev pub obeyed : Command → WorkspaceValue → Answer WorkspaceValue

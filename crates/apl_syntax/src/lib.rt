@@ -6,7 +6,7 @@ mod lines;
 mod reader;
 
 pub use apl_grammar::{
-    Axis, Brackets, Columns, Form, Function, IndexedName, Operation, Program, Target,
+    Axis, BoxedIndexedName, Brackets, Columns, Form, Function, IndexedName, Operation, Program,
 };
 pub use lines::{Command, Line, ReadStop};
 pub use reader::{one_reading, read, some_reading};

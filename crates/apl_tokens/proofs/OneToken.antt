@@ -17,8 +17,9 @@ use Rattle.apl_tokens.specs.Symbols.{is_letter, is_name_character, quote, is_quo
 use Rattle.apl_tokens.specs.SymbolLexemes.{symbol_lexeme}
 use Rattle.apl_tokens.proofs.Found.{character_found, lexeme_found}
 use Rattle.apl_tokens.specs.Fronts.{AllPass}
-use Rattle.apl_tokens.specs.Lexis.{BeginsWithNo, IsNumeral, Numeral, AreNumerals, HasNoNextNumeral, EndsNumerals, most_elements, constant_shape, doubled, IsSymbol, BeginsWithNoToken, IsBeyondLimit}
-use Rattle.apl_tokens.specs.Scans.{HasNoNumeral, IsNumeralAt, held_more, IsRow, IsSpelling, BeginsWithClosingQuote, IsQuotation, HasNoQuotation, BeginsWithQuote, IsTokenAt}
+use Rattle.apl_array.specs.Shape.{most_elements}
+use Rattle.apl_tokens.specs.Lexis.{BeginsWithNo, IsNumeral, Numeral, AreNumerals, HasNoNextNumeral, EndsNumerals, constant_shape, doubled, IsSymbol, BeginsWithNoToken, IsBeyondLimit}
+use Rattle.apl_tokens.specs.Scans.{HasNoNumeral, IsNumeralAt, with_number, IsNumeralRow, IsSpelling, BeginsWithClosingQuote, IsQuotation, HasNoQuotation, BeginsWithQuote, IsTokenAt}
 use Rattle.apl_tokens.proofs.Leads.{Lead, letter, figure, quotation, sign, Begins, sign_of, symbol_is_token, numerals_begin, quote_begins, token_begins, one_lead}
 
 -- numerals begin with one
@@ -33,7 +34,7 @@ no_numerals text t a ns none e h =
     none f (rest ++ a) z (e ∙ ap (λ x. x ++ a) split ∙ append_assoc f rest a) is
 
 -- constants
-pub beyond_count : (text : List ℕ) (len count : ℕ) (beyond : Option ℕ) (values : List ℤ) → IsRow text len count beyond values → EndsNumerals (drop len text) → most_elements < count → IsBeyondLimit text 0
+pub beyond_count : (text : List ℕ) (len count : ℕ) (beyond : Option ℕ) (values : List ℤ) → IsNumeralRow text len count beyond values → EndsNumerals (drop len text) → most_elements < count → IsBeyondLimit text 0
 beyond_count text len count beyond values r ends many = inl (record {
   text = take len text;
   after = drop len text;
@@ -44,7 +45,7 @@ beyond_count text len count beyond values r ends many = inl (record {
   which = inl (subst (λ n. most_elements < n) r.counted many, refl);
 })
 
-pub beyond_place : (text : List ℕ) (len count place : ℕ) (values : List ℤ) → IsRow text len count (Some place) values → EndsNumerals (drop len text) → count ≤ most_elements → IsBeyondLimit text place
+pub beyond_place : (text : List ℕ) (len count place : ℕ) (values : List ℤ) → IsNumeralRow text len count (Some place) values → EndsNumerals (drop len text) → count ≤ most_elements → IsBeyondLimit text place
 beyond_place text len count place values r ends few = inl (record {
   text = take len text;
   after = drop len text;
@@ -52,7 +53,7 @@ beyond_place text len count place values r ends few = inl (record {
   split = sym (take-append-drop len text);
   spelled = r.spelled;
   ends = ends;
-  which = inr (subst (λ n. n ≤ most_elements) r.counted few, r.held);
+  which = inr (subst (λ n. n ≤ most_elements) r.counted few, r.checked);
 })
 
 same_shape : (ns : List Numeral) → constant_shape (map (λ n. n.1) ns) ≡ constant_shape ns
@@ -66,7 +67,7 @@ some_numerals : (p : ℕ) (t : List ℕ) (ns : List Numeral) → AreNumerals p t
 some_numerals p t [] h = absurd h
 some_numerals p t (n ∷ ns) h = omega arith
 
-pub constant_token : (text : List ℕ) (len count : ℕ) (values : List ℤ) → IsRow text len count None values → EndsNumerals (drop len text) → count ≤ most_elements → IsTokenAt text len (Constant (number_array (constant_shape values) values))
+pub constant_token : (text : List ℕ) (len count : ℕ) (values : List ℤ) → IsNumeralRow text len count None values → EndsNumerals (drop len text) → count ≤ most_elements → IsTokenAt text len (Constant (number_array (constant_shape values) values))
 constant_token text len count values r ends few = record {
   within = r.within;
   some = omega (arith, r.few, r.counted, some_numerals 0 (take len text) r.numerals r.spelled);
@@ -74,9 +75,9 @@ constant_token text len count values r ends few = record {
     numerals = r.numerals;
     spelled = r.spelled;
     ends = ends;
-    in_range = r.held.0;
+    in_range = r.checked.0;
     few = subst (λ n. n ≤ most_elements) r.counted few;
-    is = ap (λ vs. number_array (constant_shape vs) vs) r.held.1 ∙ ap (λ shape. number_array shape (map (λ n. n.1) r.numerals)) (same_shape r.numerals);
+    is = ap (λ vs. number_array (constant_shape vs) vs) r.checked.1 ∙ ap (λ shape. number_array shape (map (λ n. n.1) r.numerals)) (same_shape r.numerals);
   });
 }
 
@@ -86,13 +87,13 @@ several_shape (x ∷ []) some = absurd (omega arith)
 several_shape (x ∷ y ∷ zs) some = refl
 
 -- several numerals
-pub vector_token : (text : List ℕ) (len count : ℕ) (values : List ℤ) → IsRow text len count None values → EndsNumerals (drop len text) → count ≤ most_elements → 1 < count → IsTokenAt text len (Constant (number_array (length values ∷ []) values))
+pub vector_token : (text : List ℕ) (len count : ℕ) (values : List ℤ) → IsNumeralRow text len count None values → EndsNumerals (drop len text) → count ≤ most_elements → 1 < count → IsTokenAt text len (Constant (number_array (length values ∷ []) values))
 vector_token text len count values r ends few some =
-    let as_many : length values ≡ count = ap length r.held.1 ∙ (length-map r.numerals (λ n. n.1) ∙ sym r.counted) in
+    let as_many : length values ≡ count = ap length r.checked.1 ∙ (length-map r.numerals (λ n. n.1) ∙ sym r.counted) in
     subst (λ shape. IsTokenAt text len (Constant (number_array shape values))) (several_shape values (omega (arith, as_many, some))) (constant_token text len count values r ends few)
 
 -- a numeral by itself
-one_row : (text : List ℕ) (len : ℕ) (number : Option ℤ) (b : Option ℕ) (vs : List ℤ) → IsNumeralAt text len number → held_more [] None 0 number ≡ (vs, b) → IsRow text len 1 b vs
+one_row : (text : List ℕ) (len : ℕ) (number : Option ℤ) (b : Option ℕ) (vs : List ℤ) → IsNumeralAt text len number → with_number [] None 0 number ≡ (vs, b) → IsNumeralRow text len 1 b vs
 one_row text len number b vs n e = row_init text len number b [] vs n refl e
 
 pub one_number : (text : List ℕ) (len : ℕ) (z : ℤ) → IsNumeralAt text len (Some z) → HasNoNextNumeral (drop len text) → IsTokenAt text len (Constant (number_array [] (z ∷ [])))

@@ -7,7 +7,7 @@ use Rattle.apl_tokens.specs.declared.lexer.NextNumeral.{NextNumeral}
 use Rattle.apl_tokens.specs.Symbols.{is_digit}
 use Rattle.apl_array.specs.Range.{IsInRange}
 use Rattle.apl_tokens.specs.Lexis.{BeginsWithNo, IsNumeral, plain, negative, AreBlanks, HasNoNextNumeral, Numeral, AreNumerals, AreInRange, FirstOutOfRange, here, later}
-use Rattle.apl_tokens.specs.Scans.{IsHeld, IsHeldAs, IsRow, IsNumeralAt, IsNextNumeralAt, GoesOn, held_more}
+use Rattle.apl_tokens.specs.Scans.{AreCheckedNumbers, IsCheckedNumber, IsNumeralRow, IsNumeralAt, IsNextNumeralAt, GoesOn, with_number}
 use Rattle.apl_tokens.proofs.Runs.{rest_of}
 
 abbrev numbers : List Numeral → List ℤ
@@ -37,19 +37,19 @@ beyond_new : (ns : List Numeral) (n : Numeral) → AreInRange ns → (IsInRange 
 beyond_new [] n h k = here k
 beyond_new (m ∷ ns) n h k = later h.0 (beyond_new ns n h.1 k)
 
-held_step : (ns : List Numeral) (vs us : List ℤ) (b d : Option ℕ) (place : ℕ) (z : ℤ) (number : Option ℤ) → IsHeld ns b vs → IsHeldAs z number → held_more vs b place number ≡ (us, d) → IsHeld (ns ++ (place, z) ∷ []) d us
-held_step ns vs us b d place z number h k e = subst (λ (p : List ℤ × Option ℕ). IsHeld (ns ++ (place, z) ∷ []) p.1 p.0) e (by_case b number h k)
+checked_step : (ns : List Numeral) (vs us : List ℤ) (b d : Option ℕ) (place : ℕ) (z : ℤ) (number : Option ℤ) → AreCheckedNumbers ns b vs → IsCheckedNumber z number → with_number vs b place number ≡ (us, d) → AreCheckedNumbers (ns ++ (place, z) ∷ []) d us
+checked_step ns vs us b d place z number h k e = subst (λ (p : List ℤ × Option ℕ). AreCheckedNumbers (ns ++ (place, z) ∷ []) p.1 p.0) e (by_case b number h k)
   where
-    by_case : (b : Option ℕ) (number : Option ℤ) → IsHeld ns b vs → IsHeldAs z number → IsHeld (ns ++ (place, z) ∷ []) (held_more vs b place number).1 (held_more vs b place number).0
+    by_case : (b : Option ℕ) (number : Option ℤ) → AreCheckedNumbers ns b vs → IsCheckedNumber z number → AreCheckedNumbers (ns ++ (place, z) ∷ []) (with_number vs b place number).1 (with_number vs b place number).0
     by_case (Some first) number h k = beyond_more (place, z) h
     by_case None None h k = beyond_new ns (place, z) h.0 k
     by_case None (Some v) h k = (in_range_more ns (place, z) h.0 k.1, ap (λ zs. zs ++ v ∷ []) h.1 ∙ ap (λ y. numbers ns ++ y ∷ []) k.0 ∙ sym (numbers-more ns (place, z)))
 
--- the place that is held lies within the text so far
-inside_step : (vs us : List ℤ) (b d : Option ℕ) (place len more : ℕ) (number : Option ℤ) → IfSome b (λ p. p ≤ len) → place ≤ more → len ≤ more → held_more vs b place number ≡ (us, d) → IfSome d (λ p. p ≤ more)
+-- the place out of range lies within the text so far
+inside_step : (vs us : List ℤ) (b d : Option ℕ) (place len more : ℕ) (number : Option ℤ) → IfSome b (λ p. p ≤ len) → place ≤ more → len ≤ more → with_number vs b place number ≡ (us, d) → IfSome d (λ p. p ≤ more)
 inside_step vs us b d place len more number h new grows e = subst (λ (p : List ℤ × Option ℕ). IfSome p.1 (λ p. p ≤ more)) e (by_case b number h)
   where
-    by_case : (b : Option ℕ) (number : Option ℤ) → IfSome b (λ p. p ≤ len) → IfSome (held_more vs b place number).1 (λ p. p ≤ more)
+    by_case : (b : Option ℕ) (number : Option ℤ) → IfSome b (λ p. p ≤ len) → IfSome (with_number vs b place number).1 (λ p. p ≤ more)
     by_case (Some first) number h = omega (arith, h, grows)
     by_case None None h = new
     by_case None (Some v) h = tt
@@ -63,7 +63,7 @@ blank_length : (g : List ℕ) → AreBlanks g → 0 < length g
 blank_length [] h = absurd h
 blank_length (c ∷ cs) h = omega arith
 
-pub row_init : (text : List ℕ) (len : ℕ) (number : Option ℤ) (b : Option ℕ) (before vs : List ℤ) → IsNumeralAt text len number → before ≡ [] → held_more before None 0 number ≡ (vs, b) → IsRow text len 1 b vs
+pub row_init : (text : List ℕ) (len : ℕ) (number : Option ℤ) (b : Option ℕ) (before vs : List ℤ) → IsNumeralAt text len number → before ≡ [] → with_number before None 0 number ≡ (vs, b) → IsNumeralRow text len 1 b vs
 row_init text len number b before vs n none e = record {
   within = n.within;
   numerals = (0, n.z) ∷ [];
@@ -71,11 +71,11 @@ row_init text len number b before vs n none e = record {
   digits = n.longest;
   counted = refl;
   few = omega (arith, some_length (take len text) n.z n.is, length-take len text);
-  held = held_step [] before vs None b 0 n.z number (tt, none) n.held e;
+  checked = checked_step [] before vs None b 0 n.z number (tt, none) n.checked e;
   inside = inside_step before vs None b 0 0 len number tt (omega arith) (omega arith) e;
 }
 
-pub row_more : (text : List ℕ) (len count : ℕ) (beyond b : Option ℕ) (values vs : List ℤ) (gap size : ℕ) (number : Option ℤ) → IsRow text len count beyond values → gap ≤ length (drop len text) → AreBlanks (take gap (drop len text)) → IsNumeralAt (drop gap (drop len text)) size number → held_more values beyond (len + gap) number ≡ (vs, b) → IsRow text (len + (gap + size)) (count + 1) b vs
+pub row_more : (text : List ℕ) (len count : ℕ) (beyond b : Option ℕ) (values vs : List ℤ) (gap size : ℕ) (number : Option ℤ) → IsNumeralRow text len count beyond values → gap ≤ length (drop len text) → AreBlanks (take gap (drop len text)) → IsNumeralAt (drop gap (drop len text)) size number → with_number values beyond (len + gap) number ≡ (vs, b) → IsNumeralRow text (len + (gap + size)) (count + 1) b vs
 row_more text len count beyond b values vs gap size number r fits blank n e =
     let rest : List ℕ = drop len text in
     let front : length (take len text) ≡ len = omega (arith, length-take len text, r.within) in
@@ -90,7 +90,7 @@ row_more text len count beyond b values vs gap size number r fits blank n e =
       digits = subst (BeginsWithNo is_digit) (sym past) n.longest;
       counted = omega (arith, r.counted, length-append r.numerals ((len + gap, n.z) ∷ []));
       few = omega (arith, r.few, blank_length (take gap rest) blank, blanks);
-      held = held_step r.numerals values vs beyond b (len + gap) n.z number r.held n.held e;
+      checked = checked_step r.numerals values vs beyond b (len + gap) n.z number r.checked n.checked e;
       inside = inside_step values vs beyond b (len + gap) len (len + (gap + size)) number r.inside (omega arith) (omega arith) e;
     }
 
@@ -102,7 +102,7 @@ pub goes_on : (text : List ℕ) (len count : ℕ) (next : Option NextNumeral) �
 goes_on text len count None some found none = (subst HasNoNextNumeral (rest_of text len) none, omega arith)
 goes_on text len count (Some n) some found none = (subst (λ (rest : List ℕ). IsNextNumeralAt rest n.gap n.numeral.length n.numeral.number) (rest_of text len) found, omega arith)
 
-pub row_next : (text : List ℕ) (len count : ℕ) (beyond b : Option ℕ) (values vs : List ℤ) (next : Option NextNumeral) (n : NextNumeral) → next ≡ Some n → IsRow text len count beyond values → GoesOn count (drop len text) next → held_more values beyond (len + n.gap) n.numeral.number ≡ (vs, b) → IsRow text (len + (n.gap + n.numeral.length)) (count + 1) b vs
+pub row_next : (text : List ℕ) (len count : ℕ) (beyond b : Option ℕ) (values vs : List ℤ) (next : Option NextNumeral) (n : NextNumeral) → next ≡ Some n → IsNumeralRow text len count beyond values → GoesOn count (drop len text) next → with_number values beyond (len + n.gap) n.numeral.number ≡ (vs, b) → IsNumeralRow text (len + (n.gap + n.numeral.length)) (count + 1) b vs
 row_next text len count beyond b values vs next n is r more e =
     let there : GoesOn count (drop len text) (Some n) = subst (λ (m : Option NextNumeral). GoesOn count (drop len text) m) is more in
     row_more text len count beyond b values vs n.gap n.numeral.length n.numeral.number r there.0.within there.0.blank there.0.numeral e

@@ -8,7 +8,7 @@ use Rattle.std.specs.Bool.{passes}
 use Rattle.apl_tokens.specs.Symbols.{is_digit, is_blank}
 use Rattle.apl_tokens.specs.Fronts.{AllPass}
 use Rattle.apl_tokens.specs.Lexis.{BeginsWithNo, number_of_digits, number_after, AreDigits, IsNumeral, plain, negative, negated, HasNoNextNumeral, AreBlanks}
-use Rattle.apl_tokens.specs.Scans.{IsHeldAs, IsNumeralAt, HasNoNumeral}
+use Rattle.apl_tokens.specs.Scans.{IsCheckedNumber, IsNumeralAt, HasNoNumeral}
 
 pub AllPass-more : (p : ℕ → Bool) (xs : List ℕ) (i x : ℕ) → i < length xs → AllPass p (take i xs) → x ≡ get_or xs i x → IsTrue (p x) → AllPass p (take (i + 1) xs)
 AllPass-more p xs i x h front here passes = subst (λ (k : ℕ). AllPass p (take k xs)) (sym (add-one i)) (go xs i h front here)
@@ -34,13 +34,13 @@ are_digits : (ds : List ℕ) → (length ds ≡ 0 → ⊥) → AllPass is_digit 
 are_digits [] some pass = absurd (some refl)
 are_digits (d ∷ ds) some pass = pass
 
-pub plain_at : (text : List ℕ) (d : ℕ) (v : Option ℤ) → d ≤ length text → (d ≡ 0 → ⊥) → AllPass is_digit (take d text) → BeginsWithNo is_digit (drop d text) → IsHeldAs (pos (number_of_digits (take d text))) v → IsNumeralAt text d v
-plain_at text d v within some pass longest held = record {
+pub plain_at : (text : List ℕ) (d : ℕ) (v : Option ℤ) → d ≤ length text → (d ≡ 0 → ⊥) → AllPass is_digit (take d text) → BeginsWithNo is_digit (drop d text) → IsCheckedNumber (pos (number_of_digits (take d text))) v → IsNumeralAt text d v
+plain_at text d v within some pass longest checked = record {
   within = within;
   z = pos (number_of_digits (take d text));
   is = plain (take d text) (are_digits (take d text) (λ none. some (omega (arith, length-take d text))) pass);
   longest = longest;
-  held = held;
+  checked = checked;
 }
 
 take_all : (xs : List ℕ) → take (length xs) xs ≡ xs
@@ -54,14 +54,14 @@ signed (c ∷ cs) x long at is =
     let head : c ≡ 175 = sym at ∙ is in
     cc
 
-pub negative_at : (text rest : List ℕ) (d : ℕ) (v : Option ℤ) → text ≡ 175 ∷ rest → d ≤ length rest → (d ≡ 0 → ⊥) → AllPass is_digit (take d rest) → BeginsWithNo is_digit (drop d rest) → IsHeldAs (negated (number_of_digits (take d rest))) v → IsNumeralAt text (d + 1) v
-negative_at text rest d v split within some pass longest held =
+pub negative_at : (text rest : List ℕ) (d : ℕ) (v : Option ℤ) → text ≡ 175 ∷ rest → d ≤ length rest → (d ≡ 0 → ⊥) → AllPass is_digit (take d rest) → BeginsWithNo is_digit (drop d rest) → IsCheckedNumber (negated (number_of_digits (take d rest))) v → IsNumeralAt text (d + 1) v
+negative_at text rest d v split within some pass longest checked =
     rw (split, add-one) (record {
       within = omega arith;
       z = negated (number_of_digits (take d rest));
       is = negative (take d rest) (are_digits (take d rest) (λ none. some (omega (arith, length-take d rest))) pass);
       longest = longest;
-      held = held;
+      checked = checked;
     })
 
 digits_begin : (text numeral after : List ℕ) → text ≡ numeral ++ after → AreDigits numeral → BeginsWithNo is_digit text → ⊥

@@ -13,7 +13,8 @@ use Rattle.apl_tokens.specs.Symbols.{is_digit, is_letter, is_name_character, is_
 use Rattle.apl_tokens.specs.SymbolLexemes.{symbol_lexeme}
 use Rattle.apl_tokens.proofs.Found.{character_found}
 use Rattle.apl_tokens.specs.Fronts.{AllPass}
-use Rattle.apl_tokens.specs.Lexis.{BeginsWithNo, number_of_digits, IsNumeral, plain, negative, negated, Numeral, AreNumerals, EndsNumerals, HasNoNextNumeral, AreInRange, most_elements, constant_shape, doubled, quoted, IsToken, LexesUpTo, IsEnd, Lexes, BeginsWithNoToken, FirstOutOfRange, here, later, IsBeyondLimit, HasLexicalFault, HasLimitFault}
+use Rattle.apl_array.specs.Shape.{most_elements}
+use Rattle.apl_tokens.specs.Lexis.{BeginsWithNo, number_of_digits, IsNumeral, plain, negative, negated, Numeral, AreNumerals, EndsNumerals, HasNoNextNumeral, AreInRange, constant_shape, doubled, quoted, IsToken, LexesUpTo, IsEnd, Lexes, BeginsWithNoToken, FirstOutOfRange, here, later, IsBeyondLimit, HasLexicalFault, HasLimitFault}
 use Rattle.apl_tokens.specs.Scans.{HasNoNumeral}
 use Rattle.apl_tokens.proofs.Runs.{no_plain, no_negative, no_blanks, numeral_begins, all_blanks}
 use Rattle.apl_tokens.proofs.Quotes.{no_quotation}

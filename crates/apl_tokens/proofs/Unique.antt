@@ -10,7 +10,8 @@ use Rattle.apl_tokens.specs.Symbols.{is_digit, is_letter, is_name_character, is_
 use Rattle.apl_tokens.specs.SymbolLexemes.{symbol_lexeme}
 use Rattle.apl_tokens.proofs.Found.{lexeme_found}
 use Rattle.apl_tokens.specs.Fronts.{AllPass}
-use Rattle.apl_tokens.specs.Lexis.{BeginsWithNo, number_of_digits, AreDigits, IsNumeral, plain, negative, negated, AreBlanks, Numeral, AreNumerals, EndsNumerals, HasNoNextNumeral, AreInRange, most_elements, constant_shape, IsNumberConstant, doubled, quoted, IsTextConstant, IsName, IsSymbol, IsToken, LexesUpTo, IsEnd, Lexes, BeginsWithNoToken, FirstOutOfRange, here, later, IsNumberBeyondLimit, IsTextBeyondLimit, IsBeyondLimit, HasLexicalFault, HasLimitFault}
+use Rattle.apl_array.specs.Shape.{most_elements}
+use Rattle.apl_tokens.specs.Lexis.{BeginsWithNo, number_of_digits, AreDigits, IsNumeral, plain, negative, negated, AreBlanks, Numeral, AreNumerals, EndsNumerals, HasNoNextNumeral, AreInRange, constant_shape, IsNumberConstant, doubled, quoted, IsTextConstant, IsName, IsSymbol, IsToken, LexesUpTo, IsEnd, Lexes, BeginsWithNoToken, FirstOutOfRange, here, later, IsNumberBeyondLimit, IsTextBeyondLimit, IsBeyondLimit, HasLexicalFault, HasLimitFault}
 use Rattle.apl_tokens.proofs.Runs.{numeral_begins, all_blanks}
 use Rattle.apl_tokens.proofs.Quotes.{one_doubled}
 use Rattle.apl_tokens.proofs.Leads.{Lead, letter, figure, quotation, sign, Begins, lead_of, is_by_sign, numerals_begin, quote_begins, token_begins, one_lead, begins_no_blank, no_token_at_end, no_limit_at_end}

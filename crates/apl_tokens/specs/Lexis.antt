@@ -1,6 +1,7 @@
 -- The tokens of a line, as a relation between its characters and a list of tokens with columns.
-use Rattle.std.specs.Prelude.{◌≡◌, ◌⊎◌, ◌+◌, ◌-◌, ◌*◌, ◌<◌, ◌≤◌, ◌^◌, ℕ, zero, suc, ℤ, pos, negsuc, Bool, false, IsTrue, List, [], ◌∷◌, ◌++◌, Some, length, map, encode_utf8_all, if◌then◌else◌}
+use Rattle.std.specs.Prelude.{◌≡◌, ◌⊎◌, ◌+◌, ◌-◌, ◌*◌, ◌<◌, ◌≤◌, ℕ, zero, suc, ℤ, pos, negsuc, Bool, false, IsTrue, List, [], ◌∷◌, ◌++◌, Some, length, map, encode_utf8_all, if◌then◌else◌}
 use Rattle.apl_array.specs.Range.{IsInRange}
+use Rattle.apl_array.specs.Shape.{most_elements}
 use Rattle.apl_array.specs.Array.{ArrayValue, number_array, character_array}
 use Rattle.apl_tokens.specs.declared.token.Token.{Token}
 use Rattle.apl_tokens.specs.declared.token.Lexeme.{Lexeme}
@@ -64,9 +65,6 @@ pub record EndsNumerals (after : List ℕ) : Type 0 where
 abbrev pub AreInRange : List Numeral → Type 0
 AreInRange [] = Unit {0}
 AreInRange (n ∷ ns) = IsInRange n.1 × AreInRange ns
-
-abbrev pub most_elements : ℕ
-most_elements = 2 ^ 30
 
 -- one element is a scalar, another number of them a vector
 abbrev pub constant_shape : {A : Type 0} → List A → List ℕ

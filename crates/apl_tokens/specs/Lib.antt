@@ -3,6 +3,6 @@ pub mod SymbolLexemes
 pub mod Fronts
 pub mod Lexis
 pub mod Stops
-pub mod Held
+pub mod Storage
 pub mod Scans
 pub mod Constants

@@ -12,10 +12,10 @@ use Rattle.apl_tokens.specs.Fronts.{AllPass}
 use Rattle.apl_tokens.specs.Lexis.{BeginsWithNo, IsNumeral, AreBlanks, HasNoNextNumeral, Numeral, AreNumerals, AreInRange, FirstOutOfRange, doubled, IsToken, BeginsWithNoToken, IsBeyondLimit}
 
 -- a class of characters
-abbrev pub passes : CharacterClass → ℕ → Bool
-passes class.Blank c = is_blank c
-passes class.Digit c = is_digit c
-passes class.NamePart c = is_name_character c
+abbrev pub is_of_class : CharacterClass → ℕ → Bool
+is_of_class class.Blank c = is_blank c
+is_of_class class.Digit c = is_digit c
+is_of_class class.NamePart c = is_name_character c
 
 -- the text begins with so many bytes of so many listed characters, and this is the rest
 pub record ListsUpTo (text rest : List ℕ) (bytes count : ℕ) : Type 0 where
@@ -33,10 +33,10 @@ EndsOrUnlisted rest = (rest ≡ []) ⊎ ((c : ℕ) × (after : List ℕ) × (res
 abbrev pub HasNoNumeral : List ℕ → Type 0
 HasNoNumeral text = (numeral after : List ℕ) (z : ℤ) → text ≡ numeral ++ after → IsNumeral numeral z → ⊥
 
--- the number as it is held, if it is in range
-abbrev pub IsHeldAs : ℤ → Option ℤ → Type 0
-IsHeldAs z None = IsInRange z → ⊥
-IsHeldAs z (Some v) = (v ≡ z) × IsInRange z
+-- the number, where it is in range, and nothing where it is not
+abbrev pub IsCheckedNumber : ℤ → Option ℤ → Type 0
+IsCheckedNumber z None = IsInRange z → ⊥
+IsCheckedNumber z (Some v) = (v ≡ z) × IsInRange z
 
 -- the longest numeral at the front of a text has this length and number
 pub record IsNumeralAt (text : List ℕ) (len : ℕ) (number : Option ℤ) : Type 0 where
@@ -44,7 +44,7 @@ pub record IsNumeralAt (text : List ℕ) (len : ℕ) (number : Option ℤ) : Typ
   pub z : ℤ
   pub is : IsNumeral (take len text) z
   pub longest : BeginsWithNo is_digit (drop len text)
-  pub held : IsHeldAs z number
+  pub checked : IsCheckedNumber z number
 
 -- behind so many blanks stands a numeral of this length and number
 pub record IsNextNumeralAt (text : List ℕ) (gap len : ℕ) (number : Option ℤ) : Type 0 where
@@ -52,20 +52,20 @@ pub record IsNextNumeralAt (text : List ℕ) (gap len : ℕ) (number : Option �
   pub blank : AreBlanks (take gap text)
   pub numeral : IsNumeralAt (drop gap text) len number
 
--- what is held of numerals: their numbers, or the place of the first one out of range
-abbrev pub IsHeld : List Numeral → Option ℕ → List ℤ → Type 0
-IsHeld numerals None values = AreInRange numerals × (values ≡ map (λ n. n.1) numerals)
-IsHeld numerals (Some place) values = FirstOutOfRange numerals place
+-- the numbers of numerals, or the place of the first one out of range
+abbrev pub AreCheckedNumbers : List Numeral → Option ℕ → List ℤ → Type 0
+AreCheckedNumbers numerals None values = AreInRange numerals × (values ≡ map (λ n. n.1) numerals)
+AreCheckedNumbers numerals (Some place) values = FirstOutOfRange numerals place
 
 -- the numerals at the front of a text, up to this length
-pub record IsRow (text : List ℕ) (len count : ℕ) (beyond : Option ℕ) (values : List ℤ) : Type 0 where
+pub record IsNumeralRow (text : List ℕ) (len count : ℕ) (beyond : Option ℕ) (values : List ℤ) : Type 0 where
   pub within : len ≤ length text
   pub numerals : List Numeral
   pub spelled : AreNumerals 0 (take len text) numerals
   pub digits : BeginsWithNo is_digit (drop len text)
   pub counted : count ≡ length numerals
   pub few : count ≤ len
-  pub held : IsHeld numerals beyond values
+  pub checked : AreCheckedNumbers numerals beyond values
   pub inside : IfSome beyond (λ place. place ≤ len)
 
 -- whether one more numeral follows a row of so many; a row has several
@@ -74,10 +74,10 @@ GoesOn count rest None = HasNoNextNumeral rest × (1 < count)
 GoesOn count rest (Some next) = IsNextNumeralAt rest next.gap next.numeral.length next.numeral.number × (0 < count)
 
 -- one more numeral
-abbrev pub held_more : List ℤ → Option ℕ → ℕ → Option ℤ → List ℤ × Option ℕ
-held_more values (Some first) place number = (values, Some first)
-held_more values None place None = (values, Some place)
-held_more values None place (Some z) = (values ++ z ∷ [], None)
+abbrev pub with_number : List ℤ → Option ℕ → ℕ → Option ℤ → List ℤ × Option ℕ
+with_number values (Some first) place number = (values, Some first)
+with_number values None place None = (values, Some place)
+with_number values None place (Some z) = (values ++ z ∷ [], None)
 
 -- so many symbols spell the first character behind an opening quote
 pub record IsSpelling (text : List ℕ) (n : ℕ) : Type 0 where

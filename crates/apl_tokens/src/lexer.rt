@@ -5,7 +5,7 @@ ghost use Rattle.apl_tokens.specs.Fronts.{AllPass};
 ghost use Rattle.apl_array.specs.Array.{number_array, character_array};
 ghost use Rattle.apl_tokens.specs.Lexis.{BeginsWithNo, number_of_digits, negated, HasNoNextNumeral, AreBlanks, EndsNumerals, constant_shape, Lexes};
 ghost use Rattle.apl_tokens.specs.Stops.{IsLexicalStopOf};
-ghost use Rattle.apl_tokens.specs.Scans.{passes, IsHeldAs, IsNumeralAt, HasNoNumeral, IsNextNumeralAt, held_more, IsRow, IsSpelling, BeginsWithClosingQuote, IsQuotation, HasNoQuotation, BeginsWithQuote, IsTokenAt, IsStopAt};
+ghost use Rattle.apl_tokens.specs.Scans.{is_of_class, IsCheckedNumber, IsNumeralAt, HasNoNumeral, IsNextNumeralAt, with_number, IsNumeralRow, IsSpelling, BeginsWithClosingQuote, IsQuotation, HasNoQuotation, BeginsWithQuote, IsTokenAt, IsStopAt};
 
 use crate::symbols::{
     is_blank, is_comment_mark, is_digit, is_letter, is_name_character, is_quote, symbol_lexeme,
@@ -54,7 +54,7 @@ pub(crate) enum CharacterClass {
 }
 
 fn is_in(class: CharacterClass, c: char) -> bool
-    ensures { result ≡ passes class c }
+    ensures { result ≡ is_of_class class c }
 {
     match class {
         CharacterClass::Blank => is_blank(c),
@@ -66,8 +66,8 @@ fn is_in(class: CharacterClass, c: char) -> bool
 /// The length of the longest front of the class.
 fn run_length(text: &[char], class: CharacterClass) -> usize
     ensures within { result ≤ length text.now }
-    ensures front { AllPass (passes class) (take result text.now) }
-    ensures longest { BeginsWithNo (passes class) (drop result text.now) }
+    ensures front { AllPass (is_of_class class) (take result text.now) }
+    ensures longest { BeginsWithNo (is_of_class class) (drop result text.now) }
 {
     for (i, c) in text.iter().enumerate() {
         if !is_in(class, *c) {
@@ -106,7 +106,7 @@ fn magnitude(digits: &[char]) -> Option<u64>
 /// The number that digits spell behind a high minus or none, if it is in range.
 fn number(digits: &[char], negative: bool) -> Option<i64>
     requires { AllPass is_digit digits.now }
-    ensures { IsHeldAs (if negative then negated (number_of_digits digits.now) else pos (number_of_digits digits.now)) result }
+    ensures { IsCheckedNumber (if negative then negated (number_of_digits digits.now) else pos (number_of_digits digits.now)) result }
 {
     match magnitude(digits) {
         None => None,
@@ -189,14 +189,14 @@ struct Row {
     values: Vec<i64>,
 }
 
-/// Holds one more number, or its place where it is the first out of range.
-fn hold(
+/// Adds one more number, or its place where it is the first out of range.
+fn add_number(
     values: &mut Vec<i64>,
     beyond: Option<usize>,
     place: usize,
     number: Option<i64>,
 ) -> Result<Option<usize>, AllocError>
-    ensures { IfOk result (λ b. held_more values.old.items beyond place number ≡ (values.new.items, b)) }
+    ensures { IfOk result (λ b. with_number values.old.items beyond place number ≡ (values.new.items, b)) }
 {
     if beyond.is_some() {
         return Ok(beyond);
@@ -219,17 +219,17 @@ fn row_at(
 ) -> Result<Row, AllocError>
     requires first { IsNumeralAt text.now first.length first.number }
     requires second { IsNextNumeralAt (drop first.length text.now) second.gap second.numeral.length second.numeral.number }
-    ensures row { IfOk result (λ r. IsRow text.now r.length r.count r.beyond r.values.items) }
+    ensures row { IfOk result (λ r. IsNumeralRow text.now r.length r.count r.beyond r.values.items) }
     ensures ends { IfOk result (λ r. EndsNumerals (drop r.length text.now)) }
     ensures several { IfOk result (λ r. 1 < r.count) }
 {
     let mut values = Vec::new(alloc);
     let mut length = first.length;
     let mut count = 1;
-    let mut beyond = hold(&mut values, None, 0, first.number)?;
+    let mut beyond = add_number(&mut values, None, 0, first.number)?;
     let mut next = Some(second);
     while let Some(NextNumeral { gap, numeral }) = next {
-        beyond = hold(&mut values, beyond, length + gap, numeral.number)?;
+        beyond = add_number(&mut values, beyond, length + gap, numeral.number)?;
         length += gap + numeral.length;
         count += 1;
         next = next_numeral(&text[length..]);

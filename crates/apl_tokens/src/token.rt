@@ -39,7 +39,7 @@ impl Name {
 
 /// A single number takes no memory. Another array is shared by all who hold it.
 #[derive(Drop)]
-enum Held {
+enum ConstantStorage {
     Number(i64),
     Shared(Rc<Array>),
 }
@@ -47,7 +47,7 @@ enum Held {
 /// The array of a constant.
 #[derive(Drop)]
 pub struct Constant {
-    held: Held,
+    storage: ConstantStorage,
 }
 
 impl Model for Constant {
@@ -55,9 +55,9 @@ impl Model for Constant {
 
     ghost Value = { ArrayValue };
 
-    ghost use Rattle.apl_tokens.specs.Held.{held_array};
+    ghost use Rattle.apl_tokens.specs.Storage.{array_of};
 
-    ghost view = { λ c. held_array c.held };
+    ghost view = { λ c. array_of c.storage };
 }
 
 /// The array of one number.
@@ -79,7 +79,7 @@ impl Constant {
     {
         let shared = Rc::new(alloc, array)?;
         Ok(Constant {
-            held: Held::Shared(shared),
+            storage: ConstantStorage::Shared(shared),
         })
     }
 
@@ -88,7 +88,7 @@ impl Constant {
         ensures { result ≡ number_array [] (number ∷ []) }
     {
         Constant {
-            held: Held::Number(number),
+            storage: ConstantStorage::Number(number),
         }
     }
 
@@ -96,12 +96,12 @@ impl Constant {
     pub fn array(&self, alloc: Global) -> Result<Rc<Array>, AllocError>
         ensures { IfOk result (λ array. array.value ≡ self.now) }
     {
-        match &self.held {
-            Held::Number(number) => {
+        match &self.storage {
+            ConstantStorage::Number(number) => {
                 let array = scalar(alloc, *number)?;
                 Ok(Rc::new(alloc, array)?)
             }
-            Held::Shared(array) => Ok(array.clone()?),
+            ConstantStorage::Shared(array) => Ok(array.clone()?),
         }
     }
 }

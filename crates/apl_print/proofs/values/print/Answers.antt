@@ -3,7 +3,8 @@ use Rattle.std.specs.Prelude.{All}
 use Rattle.std.proofs.lemmas.List.{length-map}
 use Rattle.apl_array.specs.Shape.{count_of}
 use Rattle.apl_print.specs.Shown.{field_of, gap_of, aligned, IsShown}
-use Rattle.apl_print.specs.Layout.{laid, fields_between}
+use Rattle.apl_print.specs.Layout.{rest_of_row, fields_between}
+use Rattle.apl_print.specs.Width.{least_width}
 use Rattle.apl_print.proofs.ShownLemmas.{laid_text, laid_table, laid_text-row, laid_text-table, laid_text-empty, shown_by_layout}
 use Rattle.apl_print.proofs.TableLemmas.{aligned_none, fields_between-all}
 use Rattle.apl_print.proofs.values.print.Goals as goal
@@ -25,8 +26,8 @@ returns c =
           let is_row : length a.shape ≤ 1 = omega (arith, w.if-rank-le1.true) in (
             subst (All (λ f. length f ≤ 21)) whole w.in_ok-put_row.ensures.short,
             ap string_bytes w.text-is ∙ w.in_ok-put_row.ensures.laid
-                ∙ ap (λ old. old ++ encode_utf8_all (laid width gap None (aligned (slice_index []) 0 (fields_between a 0 c.count-count.result)))) c.in_ok-text.ensures.bytes
-                ∙ ap (λ row. encode_utf8_all (laid width gap None row)) (aligned_none (slice_index []) 0 (fields_between a 0 c.count-count.result) (λ k. refl) ∙ whole)
+                ∙ ap (λ old. old ++ encode_utf8_all (rest_of_row width gap None (aligned (slice_index []) 0 (fields_between a 0 c.count-count.result)))) c.in_ok-text.ensures.bytes
+                ∙ ap (λ row. encode_utf8_all (rest_of_row width gap None row)) (aligned_none (slice_index []) 0 (fields_between a 0 c.count-count.result) (λ k. refl) ∙ whole)
                 ∙ ap encode_utf8_all (sym (laid_text-row width gap a.shape fields is_row)),
           )
           )
@@ -48,6 +49,6 @@ returns c =
           )
     ] in
     let is_width : width ≡ c.args.width = c.new-layout.ensures.width in
-    let wide : 30 ≤ width = omega (arith, c.requires.low) in
+    let wide : least_width ≤ width = omega (arith, c.requires.low) in
     let shown = shown_by_layout a width gap (string_bytes c.if-rank-le1.text) wide (c.new-layout.ensures.gap ∙ ap gap_of c.kind.ensures.kind) parts.0 parts.1 in
     record { shown = (shown.0, subst (λ w. IsShown a w shown.0) is_width shown.1, shown.2) }

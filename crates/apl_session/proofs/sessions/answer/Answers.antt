@@ -1,7 +1,7 @@
 use Rattle.std.proofs.Common.{refl, subst, Some}
 use Rattle.std.specs.Prelude.{ℕ, take}
 use Rattle.apl_print.specs.Put.{Writes}
-use Rattle.apl_print.specs.Reported.{reported}
+use Rattle.apl_print.specs.Reported.{report_text}
 use Rattle.apl_print.specs.declared.reports.Report.TheVariants.{Syntax, Limit, Character}
 use Rattle.apl_syntax.specs.Reading.{character, blank, syntax, limit}
 use Rattle.apl_session.specs.Step.{reports}
@@ -20,20 +20,20 @@ returns-in-Err-Character-clause-given g c =
     given_reading c.args.workspace.now c.args.line.now _ _ _ (character c.in-Err-Character.bytes c.in-Err-Character.column)
     (reports Character (take c.in-Err-Character.bytes c.args.line.now) c.in-Err-Character.column c.args.workspace.now)
     c.report.result c.go_on.result c.go_on.ensures (rw c.in-Err-Character.field-0-is at c.in-Err-Character.ensures.stop) refl refl refl
-    (at_both (λ b k. Writes (g.S.Sink.taken c.args.sink.now) (g.S.Sink.taken c.report.new.sink) (reported Character (take b c.args.line.now) (Some k)) c.report.result)
+    (at_both (λ b k. Writes (g.S.Sink.taken c.args.sink.now) (g.S.Sink.taken c.report.new.sink) (report_text Character (take b c.args.line.now) (Some k)) c.report.result)
     _ _ _ _ c.in-Err-Character.bytes-is c.in-Err-Character.column-is c.report.ensures.writes)
 
 pub returns-in-Err-Syntax-clause-given : goal.returns-in-Err-Syntax-clause-given
 returns-in-Err-Syntax-clause-given g c =
     given_reading c.args.workspace.now c.args.line.now _ _ _ (syntax c.in-Err-Syntax.column) (reports Syntax c.args.line.now c.in-Err-Syntax.column c.args.workspace.now)
     c.report-in-Err-Syntax.result c.go_on-in-Err-Syntax.result c.go_on-in-Err-Syntax.ensures (rw c.in-Err-Syntax.field-0-is at c.in-Err-Syntax.ensures.stop) refl refl refl
-    (subst (λ (k : ℕ). Writes (g.S.Sink.taken c.args.sink.now) (g.S.Sink.taken c.report-in-Err-Syntax.new.sink) (reported Syntax c.args.line.now (Some k)) c.report-in-Err-Syntax.result) c.in-Err-Syntax.column-is c.report-in-Err-Syntax.ensures.writes)
+    (subst (λ (k : ℕ). Writes (g.S.Sink.taken c.args.sink.now) (g.S.Sink.taken c.report-in-Err-Syntax.new.sink) (report_text Syntax c.args.line.now (Some k)) c.report-in-Err-Syntax.result) c.in-Err-Syntax.column-is c.report-in-Err-Syntax.ensures.writes)
 
 pub returns-in-Err-Limit-clause-given : goal.returns-in-Err-Limit-clause-given
 returns-in-Err-Limit-clause-given g c =
     given_reading c.args.workspace.now c.args.line.now _ _ _ (limit c.in-Err-Limit.column) (reports Limit c.args.line.now c.in-Err-Limit.column c.args.workspace.now)
     c.report-in-Err-Limit.result c.go_on-in-Err-Limit.result c.go_on-in-Err-Limit.ensures (rw c.in-Err-Limit.field-0-is at c.in-Err-Limit.ensures.stop) refl refl refl
-    (subst (λ (k : ℕ). Writes (g.S.Sink.taken c.args.sink.now) (g.S.Sink.taken c.report-in-Err-Limit.new.sink) (reported Limit c.args.line.now (Some k)) c.report-in-Err-Limit.result) c.in-Err-Limit.column-is c.report-in-Err-Limit.ensures.writes)
+    (subst (λ (k : ℕ). Writes (g.S.Sink.taken c.args.sink.now) (g.S.Sink.taken c.report-in-Err-Limit.new.sink) (report_text Limit c.args.line.now (Some k)) c.report-in-Err-Limit.result) c.in-Err-Limit.column-is c.report-in-Err-Limit.ensures.writes)
 
 pub returns-in-Err-Memory-clause-given : goal.returns-in-Err-Memory-clause-given
 returns-in-Err-Memory-clause-given g c =

@@ -4,7 +4,7 @@ use Rattle.std.proofs.lemmas.List.{take_all}
 use Rattle.std.proofs.lemmas.List.Elements.{All-more}
 use Rattle.apl_array.specs.Array.{element_in}
 use Rattle.apl_print.specs.Shown.{field_of, aligned}
-use Rattle.apl_print.specs.Layout.{laid, fields_between}
+use Rattle.apl_print.specs.Layout.{rest_of_row, fields_between}
 use Rattle.apl_print.proofs.TextLemmas.{on_ok}
 use Rattle.apl_print.proofs.TableLemmas.{row_more, field_between, length-fields_between}
 use Rattle.apl_print.proofs.rows.Layout.put_row.Goals as goal
@@ -24,8 +24,8 @@ places-preserved c =
     let within : k < length fields = omega (arith, length-fields_between a c.args.start c.args.end ends) in
     let field : get_or fields k [] ≡ field_of c.get-element.result =
     field_between a c.args.start c.args.end k inside in_array ∙ ap (λ p. field_of (element_in a p)) place ∙ ap field_of (sym c.get-element.ensures.element) in record {
-      row = subst (λ j. string_bytes c.put_field.new.text ++ encode_utf8_all (laid self.width self.gap (Some c.in_ok-put_field.field-0) (aligned (slice_index c.args.widths.now) j (drop j fields)))
-          ≡ string_bytes c.args.text.now ++ encode_utf8_all (laid self.width self.gap None (aligned (slice_index c.args.widths.now) 0 fields))) next
+      row = subst (λ j. string_bytes c.put_field.new.text ++ encode_utf8_all (rest_of_row self.width self.gap (Some c.in_ok-put_field.field-0) (aligned (slice_index c.args.widths.now) j (drop j fields)))
+          ≡ string_bytes c.args.text.now ++ encode_utf8_all (rest_of_row self.width self.gap None (aligned (slice_index c.args.widths.now) 0 fields))) next
           (row_more self.width self.gap c.places.column c.in_ok-put_field.field-0 (slice_index c.args.widths.now) k fields (string_bytes c.places.text) (string_bytes c.put_field.new.text) _ (field_of c.get-element.result) c.width_at-width.result
           within field c.width_at-width.ensures c.in_ok-put_field.ensures.text c.in_ok-put_field.ensures.column c.places.invariant.row);
       in_bounds = c.in_ok-put_field.ensures.«open»;

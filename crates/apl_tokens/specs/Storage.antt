@@ -1,0 +1,9 @@
+-- The array that a stored constant stands for. No contract of a public function cites this file.
+use Rattle.std.specs.Prelude.{[], ◌∷◌}
+use Rattle.apl_array.specs.Array.{ArrayValue, number_array}
+use Rattle.apl_tokens.specs.declared.token.ConstantStorage.{ConstantStorage}
+use Rattle.apl_tokens.specs.declared.token.ConstantStorage.TheVariants.{Number, Shared}
+
+abbrev pub array_of : ConstantStorage → ArrayValue
+array_of (Number number) = number_array [] (number ∷ [])
+array_of (Shared array) = array.value
