@@ -4,7 +4,6 @@ use Rattle.apl_tokens.specs.Symbols.{is_blank}
 use Rattle.apl_tokens.specs.Fronts.{AllPass}
 use Rattle.apl_tokens.specs.Lexis.{BeginsWithNo, AreDigits, number_of_digits}
 use Rattle.apl_array.specs.Axes.{origin_number}
-use Rattle.apl_print.specs.Width.{least_width, most_width}
 use Rattle.apl_syntax.specs.declared.lines.Command.{Command}
 use Rattle.apl_syntax.specs.declared.lines.Command.TheVariants.{Origin, Width, Clear, Off, Incorrect}
 
@@ -45,7 +44,7 @@ AreDigitsOf number digits = AreDigits digits × (number_of_digits digits ≡ num
 -- the word and the argument are those of the command
 abbrev pub IsSpelled : List ℕ → List ℕ → Command → Type 0
 IsSpelled word argument (Origin origin) = (word ≡ codes "ORIGIN") × AreDigitsOf (origin_number origin) argument
-IsSpelled word argument (Width width) = (word ≡ codes "WIDTH") × AreDigitsOf width argument × (least_width ≤ width) × (width ≤ most_width)
+IsSpelled word argument (Width width) = (word ≡ codes "WIDTH") × AreDigitsOf width argument × (30 ≤ width) × (width ≤ 130)
 IsSpelled word argument Clear = (word ≡ codes "CLEAR") × (argument ≡ [])
 IsSpelled word argument Off = (word ≡ codes "OFF") × (argument ≡ [])
 IsSpelled word argument Incorrect = ⊥

@@ -7,7 +7,6 @@ ghost use Rattle.apl_syntax.specs.Commands.{IsCommandLine, is_no_blank, EndsWith
 
 use super::lines::Command;
 use apl_array::Origin;
-use apl_print::{LEAST_WIDTH, MOST_WIDTH};
 use apl_tokens::{blanks_before, is_digit};
 
 /// How many symbols stand before the first blank.
@@ -73,7 +72,7 @@ fn width(argument: &[char]) -> Command
     ensures { IsCommandOf (codes "WIDTH") argument.now result }
 {
     match number(argument) {
-        Some(width) if LEAST_WIDTH <= width && width <= MOST_WIDTH => Command::Width(width),
+        Some(width) if 30 <= width && width <= 130 => Command::Width(width),
         _ => Command::Incorrect,
     }
 }

@@ -8,7 +8,7 @@ use apl_grammar::Program;
 pub enum Command {
     /// `)ORIGIN`, with 0 or 1.
     Origin(Origin),
-    /// `)WIDTH`, with a width that printed lines may have.
+    /// `)WIDTH`, with 30 to 130 characters.
     Width(u8),
     /// `)CLEAR`
     Clear,
