@@ -3,6 +3,7 @@ ghost use Rattle.std.specs.Prelude.{ℕ, ◌≤◌, Result};
 ghost use Rattle.apl_array.specs.declared.axis.Origin.{Origin};
 ghost use Rattle.apl_tokens.specs.Constants.{HasConstantsInRange};
 ghost use Rattle.apl_grammar.specs.Tree.{Expr, spells};
+ghost use Rattle.apl_print.specs.Width.{least_width, most_width};
 ghost use Rattle.apl_eval.specs.declared.statement.Shown.{Shown};
 ghost use Rattle.apl_eval.specs.declared.statement.EvalStop.{EvalStop};
 ghost use Rattle.apl_eval.specs.Workspace.{WorkspaceValue, with_origin, with_width, opening_workspace};
@@ -16,7 +17,7 @@ use apl_scalar::answers_are_in_range;
 pub fn lawful_stays()
     ensures opening { IsLawful opening_workspace }
     ensures origin { (origin : Origin) (w : WorkspaceValue) → IsLawful w → IsLawful (with_origin origin w) }
-    ensures width { (width : ℕ) (w : WorkspaceValue) → 30 ≤ width → width ≤ 130 → IsLawful w → IsLawful (with_width width w) }
+    ensures width { (width : ℕ) (w : WorkspaceValue) → least_width ≤ width → width ≤ most_width → IsLawful w → IsLawful (with_width width w) }
     ensures outcome { (tree : Expr) (w : WorkspaceValue) → HasConstantsInRange (spells tree) → IsLawful w → IsLawfulOutcome (meaning_of tree w) }
     ensures evaluated { (tree : Expr) (old new : WorkspaceValue) (result : Result Shown EvalStop) → HasConstantsInRange (spells tree)
         → IsLawful old → Evaluates tree old new result → IsLawful new }

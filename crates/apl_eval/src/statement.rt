@@ -5,6 +5,7 @@ ghost use Rattle.apl_array.specs.Array.{ArrayValue};
 ghost use Rattle.apl_grammar.specs.Tree.{Expr, operations};
 ghost use Rattle.apl_grammar.specs.declared.program.Operation.TheVariants as op;
 ghost use Rattle.apl_print.specs.declared.reports.Report.{Report};
+ghost use Rattle.apl_print.specs.Width.{least_width, most_width};
 ghost use Rattle.apl_eval.specs.Workspace.{WorkspaceValue, value_of};
 ghost use Rattle.apl_eval.specs.Functions.{caret_column};
 ghost use Rattle.apl_eval.specs.Meaning.{Outcome, done, outcome_at, name_outcome, assign_at_column, meaning_of, is_assignment};
@@ -316,8 +317,8 @@ fn is_assignment_program(program: &Program) -> bool
 
 /// What the statement shows, where this is its value.
 fn text_of(alloc: Global, program: &Program, value: &Array, width: u8) -> Result<Shown, AllocError>
-    requires low { 30 ≤ width }
-    requires high { width ≤ 130 }
+    requires low { least_width ≤ width }
+    requires high { width ≤ most_width }
     ensures { IfOk result (λ shown. (tree : Expr) → operations tree ≡ program.now → IsShownAs tree value.now width shown) }
 {
     if is_assignment_program(program) {

@@ -1,6 +1,7 @@
 //! Workspaces.
 ghost use Rattle.std.specs.Prelude.{◌≡◌, ◌≤◌, option_copied, OnOk, OnErr};
 ghost use Rattle.apl_eval.specs.Workspace.{value_of, with_names, with_origin, with_width, opening_workspace};
+ghost use Rattle.apl_print.specs.Width.{least_width, most_width};
 ghost use Rattle.apl_eval.specs.Names.{overlaid};
 
 use super::names::Names;
@@ -25,6 +26,7 @@ impl Model for Workspace {
     ghost use Rattle.apl_array.specs.declared.axis.Origin.{Origin};
     ghost use Rattle.apl_array.specs.contracts.axis.Origin as origins;
     ghost use Rattle.apl_eval.specs.contracts.names.Names as stored;
+    ghost use Rattle.apl_print.specs.Width.{least_width, most_width};
     ghost use Rattle.apl_eval.specs.Workspace.{NameValues, WorkspaceValue};
 
     ghost Value = { WorkspaceValue };
@@ -33,7 +35,7 @@ impl Model for Workspace {
 
     ghost view = { λ w. record { names = w.names; origin = w.origin; width = w.width } };
 
-    ghost invariant = { λ w. (30 ≤ w.width) × (w.width ≤ 130) };
+    ghost invariant = { λ w. (least_width ≤ w.width) × (w.width ≤ most_width) };
 }
 
 impl Workspace {
@@ -68,8 +70,8 @@ impl Workspace {
     /// How many characters a printed line has at most.
     pub fn width(&self) -> u8
         ensures width { result ≡ self.now.width }
-        ensures low { 30 ≤ result }
-        ensures high { result ≤ 130 }
+        ensures low { least_width ≤ result }
+        ensures high { result ≤ most_width }
     {
         self.width
     }
@@ -81,8 +83,8 @@ impl Workspace {
     }
 
     pub fn set_width(&mut self, width: u8)
-        requires low { 30 ≤ width }
-        requires high { width ≤ 130 }
+        requires low { least_width ≤ width }
+        requires high { width ≤ most_width }
         ensures { self.new ≡ with_width width self.old }
     {
         self.width = width;

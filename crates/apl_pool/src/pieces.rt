@@ -1,5 +1,6 @@
 //! The pieces of a pass.
-ghost use Rattle.std.specs.Prelude.{◌≡◌, ℕ, ◌+◌, ◌-◌, ◌<◌, ◌≤◌, ◌^◌, IfOk, slice_index, vec_len};
+ghost use Rattle.std.specs.Prelude.{◌≡◌, ℕ, ◌+◌, ◌-◌, ◌<◌, ◌≤◌, IfOk, slice_index, vec_len};
+ghost use Rattle.apl_pool.specs.declared.kernel.TheConstants.{MOST_PLACES};
 ghost use Rattle.apl_pool.specs.Parts.{AreBounds};
 
 use super::cut::Cut;
@@ -31,8 +32,8 @@ pub(crate) struct Pieces {
     count: usize,
     starts: Vec<u32>,
     ghost some: { 0 < count },
-    ghost most: { count ≤ 2 ^ 30 },
-    ghost most_places: { places ≤ 2 ^ 30 },
+    ghost most: { count ≤ MOST_PLACES },
+    ghost most_places: { places ≤ MOST_PLACES },
     ghost starts_are: { AreBounds count places starts.items },
 }
 

@@ -1,5 +1,6 @@
 //! The pool: how many workers there are, how the places are cut, and what a worker passes before each piece.
-ghost use Rattle.std.specs.Prelude.{◌≡◌, ℕ, ◌+◌, ◌<◌, ◌≤◌, ◌^◌, IfOk, OnOk, IfErr, length};
+ghost use Rattle.std.specs.Prelude.{◌≡◌, ℕ, ◌+◌, ◌<◌, ◌≤◌, IfOk, OnOk, IfErr, length};
+ghost use Rattle.apl_pool.specs.declared.pool.TheConstants.{MOST_WORKERS};
 ghost use Rattle.apl_pool.specs.Pool.{AreValues, IsStopOf};
 ghost use Rattle.apl_pool.specs.Shares.{share_start};
 
@@ -26,7 +27,7 @@ pub struct Pool<C, G> {
     cut: C,
     gate: G,
     ghost some: { 1 ≤ workers },
-    ghost most: { workers ≤ 64 },
+    ghost most: { workers ≤ MOST_WORKERS },
 }
 
 impl<C: Cut + Sync, G: Gate + Sync> Pool<C, G> {

@@ -1,5 +1,6 @@
 //! Who has which pieces.
-ghost use Rattle.std.specs.Prelude.{◌≡◌, ℕ, ◌+◌, ◌-◌, ◌*◌, ◌/◌, ◌<◌, ◌≤◌, ◌^◌, IfOk, slice_index};
+ghost use Rattle.std.specs.Prelude.{◌≡◌, ℕ, ◌+◌, ◌-◌, ◌*◌, ◌/◌, ◌<◌, ◌≤◌, IfOk, slice_index};
+ghost use Rattle.apl_pool.specs.declared.pool.TheConstants.{MOST_WORKERS};
 
 use super::cut::Cut;
 use super::kernel::MOST_PLACES;
@@ -25,7 +26,7 @@ pub(crate) struct Shares {
     pieces: Pieces,
     ghost some: { 0 < tasks },
     ghost most: { tasks ≤ workers },
-    ghost most_workers: { workers ≤ 64 },
+    ghost most_workers: { workers ≤ MOST_WORKERS },
 }
 
 impl Shares {

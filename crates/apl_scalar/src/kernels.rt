@@ -1,5 +1,6 @@
 //! What a scalar function gives at each place.
-ghost use Rattle.std.specs.Prelude.{ℕ, ◌≤◌, ◌^◌, length};
+ghost use Rattle.std.specs.Prelude.{ℕ, ◌≤◌, length};
+ghost use Rattle.apl_pool.specs.declared.kernel.TheConstants.{MOST_PLACES};
 
 use crate::function_types::Function;
 use crate::operands::Operand;
@@ -12,7 +13,7 @@ use std::marker::PhantomData;
 pub(crate) struct NumberKernel<'a, F> {
     pub numbers: &'a [i64],
     pub function: PhantomData<F>,
-    ghost most: { length numbers.now ≤ 2 ^ 30 },
+    ghost most: { length numbers.now ≤ MOST_PLACES },
 }
 
 impl<F: Function> Kernel for NumberKernel<'_, F> {
@@ -41,7 +42,7 @@ pub(crate) struct PairsKernel<L: Operand, R: Operand, F> {
     pub right: R,
     pub count: usize,
     pub function: PhantomData<F>,
-    ghost most: { count ≤ 2 ^ 30 },
+    ghost most: { count ≤ MOST_PLACES },
     ghost left_serves: { count ≤ L.served left },
     ghost right_serves: { count ≤ R.served right },
 }
@@ -69,7 +70,7 @@ impl<L: Operand, R: Operand, F: Function> Kernel for PairsKernel<L, R, F> {
 pub(crate) struct UniformKernel {
     pub count: usize,
     pub outcome: Result<i64, Fault>,
-    ghost most: { count ≤ 2 ^ 30 },
+    ghost most: { count ≤ MOST_PLACES },
 }
 
 impl Kernel for UniformKernel {

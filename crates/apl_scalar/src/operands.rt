@@ -1,6 +1,7 @@
 //! The arguments of a dyadic function in row order. An argument of one element that is extended is
 //! that element, and no list is read for it.
-ghost use Rattle.std.specs.Prelude.{◌≡◌, ℕ, ◌<◌, ◌≤◌, ◌^◌, Bool, true, false, Ok, map, length};
+ghost use Rattle.std.specs.Prelude.{◌≡◌, ℕ, ◌<◌, ◌≤◌, Bool, true, false, Ok, map, length};
+ghost use Rattle.apl_pool.specs.declared.kernel.TheConstants.{MOST_PLACES};
 ghost use Rattle.apl_array.specs.Shape.{count_of, index_at};
 ghost use Rattle.apl_scalar.specs.Extension.{extended_shape, source_index};
 ghost use Rattle.apl_scalar.specs.Operands.{operand_at};
@@ -46,11 +47,9 @@ impl<T: Element> Operand for Whole<'_, T> {
 pub(crate) struct Value<T>(pub T);
 
 impl<T: Element> Operand for Value<T> {
-    ghost use Rattle.std.specs.Prelude.{◌^◌};
-
     ghost element = { λ k place. T.elem_of k.0 };
 
-    ghost served = { λ k. 2 ^ 30 };
+    ghost served = { λ k. MOST_PLACES };
 
     #[inline(always)]
     fn at(&self, _place: usize) -> Elem {
@@ -67,7 +66,7 @@ pub(crate) struct Pairs<'a, T> {
     pub left_is_whole: bool,
     pub right_is_whole: bool,
     pub count: usize,
-    ghost most: { count ≤ 2 ^ 30 },
+    ghost most: { count ≤ MOST_PLACES },
     ghost left_whole: { left_is_whole ≡ true → length left.now ≡ count },
     ghost left_one: { left_is_whole ≡ false → length left.now ≡ 1 },
     ghost right_whole: { right_is_whole ≡ true → length right.now ≡ count },

@@ -1,5 +1,6 @@
 //! The passes over numbers and over characters, one compiled for each function.
-ghost use Rattle.std.specs.Prelude.{◌≡◌, ℕ, pos, ◌≤◌, ◌^◌, length, map, IfOk, IfErr, slice_index_or, IsTrue};
+ghost use Rattle.std.specs.Prelude.{◌≡◌, ℕ, pos, ◌≤◌, length, map, IfOk, IfErr, slice_index_or, IsTrue};
+ghost use Rattle.apl_pool.specs.declared.kernel.TheConstants.{MOST_PLACES};
 ghost use Rattle.apl_array.specs.declared.array.Elem.TheVariants.{Int, Chr};
 ghost use Rattle.apl_array.specs.Valences.{has_monadic, has_dyadic};
 ghost use Rattle.apl_pool.specs.Pool.{AreValues, IsStopOf};
@@ -25,7 +26,7 @@ fn fill_each<F: Function + Sync, R: Threads + Sync, C: Cut + Sync, G: Gate + Syn
     pool: &Pool<C, G>,
     numbers: &[i64],
 ) -> Result<Vec<i64>, Stop>
-    requires { length numbers.now ≤ 2 ^ 30 }
+    requires { length numbers.now ≤ MOST_PLACES }
     ensures values { IfOk result (λ v. AreValues (λ place. monadic_number F.FUNCTION (slice_index_or numbers.now place (pos 0))) (length numbers.now) v.items) }
     ensures stop { IfErr result (IsStopOf (λ place. monadic_number F.FUNCTION (slice_index_or numbers.now place (pos 0))) (length numbers.now)) }
 {
@@ -51,7 +52,7 @@ fn fill_operands<
     right: B,
     count: usize,
 ) -> Result<Vec<i64>, Stop>
-    requires most { count ≤ 2 ^ 30 }
+    requires most { count ≤ MOST_PLACES }
     requires left { count ≤ A.served left }
     requires right { count ≤ B.served right }
     ensures values { IfOk result (λ v. AreValues (λ place. dyadic_of F.FUNCTION (A.element left place) (B.element right place)) count v.items) }
@@ -97,7 +98,7 @@ pub(crate) fn fill_uniform<R: Threads + Sync, C: Cut + Sync, G: Gate + Sync>(
     count: usize,
     outcome: Result<i64, Fault>,
 ) -> Result<Vec<i64>, Stop>
-    requires { count ≤ 2 ^ 30 }
+    requires { count ≤ MOST_PLACES }
     ensures values { IfOk result (λ v. AreValues (λ place. outcome) count v.items) }
     ensures stop { IfErr result (IsStopOf (λ place. outcome) count) }
 {
@@ -114,7 +115,7 @@ pub(crate) fn fill_numbers<R: Threads + Sync, C: Cut + Sync, G: Gate + Sync>(
     numbers: &[i64],
 ) -> Result<Vec<i64>, Stop>
     requires valence { IsTrue (has_monadic f) }
-    requires most { length numbers.now ≤ 2 ^ 30 }
+    requires most { length numbers.now ≤ MOST_PLACES }
     ensures values { IfOk result (λ v. AreValues (λ place. monadic_number f (slice_index_or numbers.now place (pos 0))) (length numbers.now) v.items) }
     ensures stop { IfErr result (IsStopOf (λ place. monadic_number f (slice_index_or numbers.now place (pos 0))) (length numbers.now)) }
 {
