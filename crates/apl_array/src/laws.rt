@@ -1,9 +1,11 @@
 //! What is true of all arrays, their places and their numbers, each law the contract of a function
 //! that does nothing.
-ghost use Rattle.std.specs.Prelude.{◌≡◌, ◌↔◌, ◌<◌, ◌+◌, ◌*◌, ◌/◌, ◌%◌, ℕ, ℤ, List, ◌++◌, true, length, reverse, take, drop, slice_index, slice_set, insert, remove, FitsSigned};
+ghost use Rattle.std.specs.Prelude.{◌≡◌, ◌↔◌, ◌<◌, ◌+◌, ◌*◌, ◌/◌, ◌%◌, ℕ, ℤ, List, ◌++◌, true, length, reverse, take, drop, slice_index, slice_set, insert, remove, All, FitsSigned};
+ghost use Rattle.std.specs.List.{range_with_len};
 ghost use Rattle.std.specs.Int.{w64};
 ghost use Rattle.apl_array.specs.Range.{IsInRange, in_range};
 ghost use Rattle.apl_array.specs.Shape.{IsIndexOf, count_of, place_of, index_at};
+ghost use Rattle.apl_array.specs.Transposition.{strides, inner_product, source_index, transposed_shape, source_strides, AreAxesInto};
 ghost use Rattle.apl_array.specs.Array.{ArrayValue, IsArray, HaveSameElements};
 
 /// An array is determined by its shape, its kind and the element at each index list.
@@ -86,6 +88,24 @@ pub fn changed_axis_has_place()
     ensures place { (shape : List ℕ) (k m place i : ℕ) → k < length shape → place < count_of (slice_set shape k m)
         → place_of shape (slice_set (index_at (slice_set shape k m) place) k i)
         ≡ (place / (m * count_of (drop (k + 1) shape)) * slice_index shape k + i) * count_of (drop (k + 1) shape) + place % count_of (drop (k + 1) shape) }
+{}
+
+/// The place of an index list, counted in strides.
+pub fn place_is_sum_of_strides()
+    ensures { (shape index : List ℕ) → place_of shape index ≡ inner_product index (strides shape) }
+{}
+
+/// Index lists of a source whose axes become axes of another shape: they are lawful, and their
+/// places are counted with one stride for each axis of that shape. Where it is the shape of a
+/// transposition, no axis is too long. The axes in reverse order reverse the index list.
+pub fn transposed_index_has_place()
+    ensures lawful { (source axes result index : List ℕ) → AreAxesInto source axes result → IsIndexOf result index
+        → IsIndexOf source (source_index axes index) }
+    ensures place { (source axes index : List ℕ) → All (λ axis. axis < length index) axes
+        → place_of source (source_index axes index) ≡ inner_product index (source_strides (length index) axes source) }
+    ensures fits { (source axes : List ℕ) (rank : ℕ) → length axes ≡ length source → All (λ axis. axis < rank) axes
+        → AreAxesInto source axes (transposed_shape rank axes source) }
+    ensures reversed { (index : List ℕ) → source_index (reverse (range_with_len 0 (length index))) index ≡ reverse index }
 {}
 
 /// The test decides what is in the range, and the range is what 64 bits hold.
