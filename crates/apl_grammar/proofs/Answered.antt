@@ -12,14 +12,14 @@ use Rattle.apl_grammar.specs.Automaton.{Machine, step, run, statement_operations
 use Rattle.apl_grammar.proofs.Partial as partial
 use Rattle.apl_grammar.proofs.Partial.{Frame, Level, operand_wanted, expression, leading_dot, leading_arrow, leading_brackets, leading_slots, Config}
 use Rattle.apl_grammar.proofs.Viable.{run-tree, spells-injective, stuck-IsCaret, early-IsCaret}
-use Rattle.apl_grammar.proofs.Held.{Holds}
-use Rattle.apl_grammar.proofs.Follows.{Follows, step_follows, run_follows, Ends, Holds-Ends}
+use Rattle.apl_grammar.proofs.Represents.{Represents}
+use Rattle.apl_grammar.proofs.Follows.{Follows, step_follows, run_follows, Ends, Ends-from_Represents}
 
--- the partial trees that the reader holds
+-- the partial trees that the reader's machine represents
 record Read (ts : List Token) (m : Machine) : Type 0 where
   config : Config
   ran : partial.run ts ≡ Some config
-  holds : Holds config m
+  represents : Represents config m
 
 read_of : (ts : List Token) (m : Machine) → run ts ≡ Some m → Read ts m
 read_of ts m ran = by_run (partial.run ts) (run ts) refl ran (run_follows ts)
@@ -30,7 +30,7 @@ read_of ts m ran = by_run (partial.run ts) (run ts) refl ran (run_follows ts)
     by_run (Some k) None ek er h = absurd cc
     by_run (Some k) (Some n) ek er h =
         let same : n ≡ m = cc in
-        record { config = k; ran = ek; holds = subst (λ (x : Machine). Holds k x) same h }
+        record { config = k; ran = ek; represents = subst (λ (x : Machine). Represents k x) same h }
 
 ends_whole : (fr : List Frame) (l : Level) (r : Option (List Operation)) (ops : List Operation) → Ends fr l r → r ≡ Some ops → (e : Expr) × (◌≡◌ {A = Config} (fr, l) ([], expression e)) × (operations e ≡ ops)
 ends_whole [] (expression e) r ops h is = (e, refl, cc)
@@ -46,7 +46,7 @@ is_program_of ts ops is = by_run (run ts) refl is
   where
     by_end : (m : Machine) → Read ts m → statement_operations m ≡ Some ops → IsProgramOf ts ops
     by_end m h end =
-        let found : (e : Expr) × (h.config ≡ ([], expression e)) × (operations e ≡ ops) = ends_whole h.config.0 h.config.1 (statement_operations m) ops (Holds-Ends h.config m h.holds) end in
+        let found : (e : Expr) × (h.config ≡ ([], expression e)) × (operations e ≡ ops) = ends_whole h.config.0 h.config.1 (statement_operations m) ops (Ends-from_Represents h.config m h.represents) end in
         let tree : IsTree found.0 × (spells found.0 ≡ ts) = run-tree ts found.0 (h.ran ∙ ap Some found.1) in
         (found.0, tree.0, found.2, tree.1, λ other is_other same. spells-injective other found.0 is_other tree.0 (same ∙ sym tree.1))
 
@@ -71,10 +71,10 @@ not_whole fr l r e h none same =
 pub Stops-IsCaret : (ts : List Token) (c : ℕ) → Stops ts c → IsCaret ts c × HasNoTree ts
 Stops-IsCaret ts c (stuck before t after m ran fails) =
     let h : Read after m = read_of after m ran in
-    stuck-IsCaret before t after h.config h.ran (refused t h.config (step t m) (step_follows t h.config m h.holds) fails)
+    stuck-IsCaret before t after h.config h.ran (refused t h.config (step t m) (step_follows t h.config m h.represents) fails)
 Stops-IsCaret ts c (early t after m ran fails) =
     let h : Read (t ∷ after) m = read_of (t ∷ after) m ran in
-    early-IsCaret t after h.config h.ran (λ e same. not_whole h.config.0 h.config.1 (statement_operations m) e (Holds-Ends h.config m h.holds) fails same)
+    early-IsCaret t after h.config h.ran (λ e same. not_whole h.config.0 h.config.1 (statement_operations m) e (Ends-from_Represents h.config m h.represents) fails same)
 
 pub is_stop_of : (ts : List Token) (s : GrammarStop) → IsRefusedBy ts s → IsStopOf ts s
 is_stop_of ts (stop.Syntax c) h = Stops-IsCaret ts c h

@@ -1,4 +1,4 @@
--- The reader takes what the automaton over partial trees takes, and then holds the partial trees that it leads to.
+-- The reader takes what the automaton over partial trees takes, and its machine then represents the partial trees that it leads to.
 use Rattle.std.proofs.Common.{◌≡◌, ◌++◌, ◌∷◌, [], List, Option, Some, None, refl, sym, ◌∙◌, ap, subst, append_assoc, length}
 use Rattle.std.specs.Prelude.{ℕ, Bool, true, false, ◌&&◌, option_map, option_and_then, if◌then◌else◌}
 use Rattle.std.proofs.lemmas.List.{append-nil}
@@ -20,12 +20,12 @@ use Rattle.apl_grammar.specs.Automaton.{Machine, machine, after_operand, with_dy
 use Rattle.apl_grammar.proofs.Partial as partial
 use Rattle.apl_grammar.proofs.Partial.{Wanted, alone, applied as applied_to, indexed, fill, Level, operand_wanted, expression, leading_dot, leading_arrow, leading_brackets, leading_slots, Tail, no_slots, slots, Frame, open_group, open_index, open_axis_or_index, open_indexed_assignment, Config, join, when, as_dyadic, with_index as indexed_by, as_wanted, level_by, level_for, at_operand, at_name, at_close, at_slice, at_close_bracket, only, at_function, at_dot, at_jot, at_arrow, at_open, slot_of, sliced_by, at_semicolon, wanted_by, at_open_bracket}
 use Rattle.apl_grammar.proofs.Sound.{no_slot_semicolon, no_slot_open}
-use Rattle.apl_grammar.proofs.Held.{wanted_operations, wanted_stack, whole_operations, whole_state, undecided_of, tail_operations, tail_columns, first_place, other_places, frame_stack, Emits, level_state, level_stack, EmitsLevel, Holds, Emits-same, Emits-nil, Emits-append, index_Emits, axis_Emits, completed_Holds, Settled, settles, applied_Holds}
+use Rattle.apl_grammar.proofs.Represents.{wanted_operations, wanted_stack, undecided_operations, expression_state, undecided_of, tail_operations, tail_columns, first_place, other_places, frame_stack, Emits, level_state, level_stack, EmitsLevel, Represents, Emits-same, Emits-nil, Emits-append, index_Emits, axis_Emits, completed_Represents, HasExpressionOperations, has_expression_operations, applied_Represents}
 
 -- both refuse, or both go on
 abbrev pub Follows : Option Config → Option Machine → Type 0
 Follows None None = Unit {0}
-Follows (Some k) (Some m) = Holds k m
+Follows (Some k) (Some m) = Represents k m
 Follows None (Some m) = ⊥
 Follows (Some k) None = ⊥
 
@@ -74,8 +74,8 @@ operand_follows fr l ps os o p eo h = by_waits (as_wanted l) (stack_for_operand 
     by_waits (Some w) None k = k
     by_waits (Some w) (Some es) k =
         let put : Emits fr k.places (wanted_operations w ++ p ∷ []) (os ++ Some p ∷ []) = Emits-append fr k.places (wanted_operations w) os (Some p ∷ []) k.emits in
-        subst (λ (x : List Pending). Holds (fr, expression (fill w o)) (after_operand (os ++ Some p ∷ []) x)) (sym k.same)
-        (completed_Holds w o fr k.places (os ++ Some p ∷ []) (Emits-same fr k.places (wanted_operations w ++ p ∷ []) (wanted_operations w ++ operand_operations o) (os ++ Some p ∷ []) (ap (λ x. wanted_operations w ++ x) (sym eo)) put))
+        subst (λ (x : List Pending). Represents (fr, expression (fill w o)) (after_operand (os ++ Some p ∷ []) x)) (sym k.same)
+        (completed_Represents w o fr k.places (os ++ Some p ∷ []) (Emits-same fr k.places (wanted_operations w ++ p ∷ []) (wanted_operations w ++ operand_operations o) (os ++ Some p ∷ []) (ap (λ x. wanted_operations w ++ x) (sym eo)) put))
 
 name_follows : (c : ℕ) (n : List ℕ) (fr : List Frame) (l : Level) (ps : List ℕ) (os : List (Option Operation)) → EmitsLevel fr l ps os → Follows (at_name fr c n l) (with_name os (level_stack fr l ps) (level_state l ps) c n)
 name_follows c n fr (leading_arrow r e) ps os h = record { places = ps; emits = Emits-append fr ps (operations e) os (Some (op.Assign c n r) ∷ []) h; stack = refl; state = refl }
@@ -122,11 +122,11 @@ close_bracket_follows c fr (leading_brackets l x r e) ps os h = slice_follows c 
 close_bracket_follows c fr (leading_slots l s d r e) ps os h = tt
 
 -- a function before an expression that has ended
-ended_follows : (c : ℕ) (g : Glyph) (fr : List Frame) (e : Expr) (ps : List ℕ) (os : List (Option Operation)) → Emits fr ps (whole_operations e) os → Follows (Some (fr, level_for (Plain c g) none e)) (option_map (λ os. with_leading_function (Plain c g) None os (frame_stack fr ps)) (expression_operations os (whole_state e)))
+ended_follows : (c : ℕ) (g : Glyph) (fr : List Frame) (e : Expr) (ps : List ℕ) (os : List (Option Operation)) → Emits fr ps (undecided_operations e) os → Follows (Some (fr, level_for (Plain c g) none e)) (option_map (λ os. with_leading_function (Plain c g) None os (frame_stack fr ps)) (expression_operations os (expression_state e)))
 ended_follows c g fr e ps os h =
-    let s : Settled fr ps e os = settles fr ps e os h in
+    let s : HasExpressionOperations fr ps e os = has_expression_operations fr ps e os h in
     subst (λ (x : Option (List (Option Operation))). Follows (Some (fr, level_for (Plain c g) none e)) (option_map (λ os. with_leading_function (Plain c g) None os (frame_stack fr ps)) x)) (sym s.is)
-    (applied_Holds (Plain c g) none e fr ps s.all (Emits-nil fr ps (operations e) s.all s.emits))
+    (applied_Represents (Plain c g) none e fr ps s.all (Emits-nil fr ps (operations e) s.all s.emits))
 
 function_follows : (c : ℕ) (g : Glyph) (fr : List Frame) (l : Level) (ps : List ℕ) (os : List (Option Operation)) → EmitsLevel fr l ps os → Follows (at_function fr c g l) (with_function os (level_stack fr l ps) (level_state l ps) c g)
 function_follows c g fr (expression (monadic f a e)) ps os h = ended_follows c g fr (monadic f a e) ps os h
@@ -137,7 +137,7 @@ function_follows c g fr (expression (assign_at k n l s d r e)) ps os h = ended_f
 function_follows c g fr (leading_brackets l x r e) ps os h = by_axis (takes_axis (class_of g)) refl
   where
     by_axis : (b : Bool) → takes_axis (class_of g) ≡ b → Follows (only (takes_axis (class_of g)) fr (level_for (Plain c g) (along l x r) e)) (if takes_axis (class_of g) then Some (with_leading_function (Plain c g) (Some (brackets l r)) (with_monadic os (undecided_of e (first_place ps))) (frame_stack fr (other_places ps))) else None)
-    by_axis true is = rw is (applied_Holds (Plain c g) (along l x r) e fr (other_places ps) (with_monadic os (undecided_of e (first_place ps))) (axis_Emits fr ps r e (operations x) os h))
+    by_axis true is = rw is (applied_Represents (Plain c g) (along l x r) e fr (other_places ps) (with_monadic os (undecided_of e (first_place ps))) (axis_Emits fr ps r e (operations x) os h))
     by_axis false is = rw is tt
 function_follows c g fr (leading_dot d k f e) ps os h = by_class (is_dyadic_scalar (class_of g)) refl
   where
@@ -209,7 +209,7 @@ jot_follows j fr (leading_slots l s k r e) ps os h = tt
 
 arrow_follows : (r : ℕ) (fr : List Frame) (l : Level) (ps : List ℕ) (os : List (Option Operation)) → EmitsLevel fr l ps os → Follows (at_arrow fr r l) (with_arrow os (level_stack fr l ps) (level_state l ps) r)
 arrow_follows r fr (expression e) ps os h =
-    let s : Settled fr ps e os = settles fr ps e os h in
+    let s : HasExpressionOperations fr ps e os = has_expression_operations fr ps e os h in
     subst (λ (x : Option (List (Option Operation))). Follows (Some (fr, leading_arrow r e)) (option_map (λ os. machine os (frame_stack fr ps) (state.LeadingArrow r)) x)) (sym s.is)
     (record { places = ps; emits = s.emits; stack = refl; state = refl })
 arrow_follows r fr (operand_wanted w) ps os h = tt
@@ -222,7 +222,7 @@ closed_follows : (b : ℕ) (fr : List Frame) (e : Expr) (ps : List ℕ) (os : Li
 closed_follows b [] e ps os h = tt
 closed_follows b (open_group r w ∷ fr) e ps os h =
     let p : Operation = op.Group (brackets b r) in
-    completed_Holds w (group b e r) fr ps (os ++ Some p ∷ [])
+    completed_Represents w (group b e r) fr ps (os ++ Some p ∷ [])
     (Emits-same fr ps ((wanted_operations w ++ operations e) ++ p ∷ []) (wanted_operations w ++ (operations e ++ p ∷ [])) (os ++ Some p ∷ []) (append_assoc (wanted_operations w) (operations e) (p ∷ [])) (Emits-append fr ps (wanted_operations w ++ operations e) os (Some p ∷ []) h))
 closed_follows b (open_index r t w ∷ fr) e ps os h = tt
 closed_follows b (open_axis_or_index r x ∷ fr) e ps os h = tt
@@ -230,7 +230,7 @@ closed_follows b (open_indexed_assignment r t a x ∷ fr) e ps os h = tt
 
 open_follows : (b : ℕ) (fr : List Frame) (l : Level) (ps : List ℕ) (os : List (Option Operation)) → EmitsLevel fr l ps os → Follows (at_open b fr l) (with_open_paren os (level_stack fr l ps) (level_state l ps) b)
 open_follows b fr (expression e) ps os h =
-    let s : Settled fr ps e os = settles fr ps e os h in
+    let s : HasExpressionOperations fr ps e os = has_expression_operations fr ps e os h in
     subst (λ (x : Option (List (Option Operation))). Follows (at_open b fr (expression e)) (option_and_then (λ os. closed_group b os (frame_stack fr ps)) x)) (sym s.is)
     (closed_follows b fr e ps s.all s.emits)
 open_follows b [] _ ps os h = tt
@@ -321,8 +321,8 @@ record SlotEnds (fr : List Frame) (ps : List ℕ) (s : Slot) (st : State) (os : 
   emits : Emits fr ps (slot_operations s) all
   empty : is_empty_slot st ≡ is_nothing s
 
-given_slot : (fr : List Frame) (ps : List ℕ) (e : Expr) (os : List (Option Operation)) → Emits fr ps (whole_operations e) os → SlotEnds fr ps (given e) (whole_state e) os
-given_slot fr ps (monadic f a e) os h = let s : Settled fr ps (monadic f a e) os = settles fr ps (monadic f a e) os h in record { all = s.all; is = s.is; emits = s.emits; empty = refl }
+given_slot : (fr : List Frame) (ps : List ℕ) (e : Expr) (os : List (Option Operation)) → Emits fr ps (undecided_operations e) os → SlotEnds fr ps (given e) (expression_state e) os
+given_slot fr ps (monadic f a e) os h = let s : HasExpressionOperations fr ps (monadic f a e) os = has_expression_operations fr ps (monadic f a e) os h in record { all = s.all; is = s.is; emits = s.emits; empty = refl }
 given_slot fr ps (value o) os h = record { all = os; is = refl; emits = h; empty = refl }
 given_slot fr ps (dyadic o f a e) os h = record { all = os; is = refl; emits = h; empty = refl }
 given_slot fr ps (assign c n r e) os h = record { all = os; is = refl; emits = h; empty = refl }
@@ -343,7 +343,7 @@ empty_slot : (fr : List Frame) (ps : List ℕ) (os : List (Option Operation)) �
 empty_slot fr ps os h = record { all = os ++ Some op.EmptySlot ∷ []; is = refl; emits = Emits-append fr ps [] os (Some op.EmptySlot ∷ []) h; empty = refl }
 
 semicolon_follows : (k : ℕ) (fr : List Frame) (l : Level) (ps : List ℕ) (os : List (Option Operation)) → EmitsLevel fr l ps os → Follows (at_semicolon k fr (slot_of l)) (with_semicolon os (level_stack fr l ps) (level_state l ps) k)
-semicolon_follows k fr (expression e) ps os h = semicolon_slot k fr (given e) (whole_state e) ps os (given_slot fr ps e os h)
+semicolon_follows k fr (expression e) ps os h = semicolon_slot k fr (given e) (expression_state e) ps os (given_slot fr ps e os h)
 semicolon_follows k fr (operand_wanted alone) ps os h = semicolon_slot k fr nothing state.OperandWanted ps os (empty_slot fr ps os h)
 semicolon_follows k fr (operand_wanted (applied_to f a e)) ps os h = rw no_slot_semicolon tt
 semicolon_follows k fr (operand_wanted (indexed w l s r)) ps os h = rw no_slot_semicolon tt
@@ -353,7 +353,7 @@ semicolon_follows k fr (leading_brackets l x r e) ps os h = rw no_slot_semicolon
 semicolon_follows k fr (leading_slots l s d r e) ps os h = rw no_slot_semicolon tt
 
 open_bracket_follows : (b : ℕ) (fr : List Frame) (l : Level) (ps : List ℕ) (os : List (Option Operation)) → EmitsLevel fr l ps os → Follows (at_open_bracket b fr (slot_of l)) (with_open_bracket os (level_stack fr l ps) (level_state l ps) b)
-open_bracket_follows b fr (expression e) ps os h = open_bracket_slot b fr (given e) (whole_state e) ps os (given_slot fr ps e os h)
+open_bracket_follows b fr (expression e) ps os h = open_bracket_slot b fr (given e) (expression_state e) ps os (given_slot fr ps e os h)
 open_bracket_follows b fr (operand_wanted alone) ps os h = open_bracket_slot b fr nothing state.OperandWanted ps os (empty_slot fr ps os h)
 open_bracket_follows b fr (operand_wanted (applied_to f a e)) ps os h = rw no_slot_open tt
 open_bracket_follows b fr (operand_wanted (indexed w l s r)) ps os h = rw no_slot_open tt
@@ -375,7 +375,7 @@ lexeme_follows c lexeme.OpenBracket fr l ps os h = open_bracket_follows c fr l p
 lexeme_follows c lexeme.CloseBracket fr l ps os h = close_bracket_follows c fr l ps os h
 lexeme_follows c lexeme.Semicolon fr l ps os h = semicolon_follows c fr l ps os h
 
-pub step_follows : (t : Token) (k : Config) (m : Machine) → Holds k m → Follows (partial.step t k) (step t m)
+pub step_follows : (t : Token) (k : Config) (m : Machine) → Represents k m → Follows (partial.step t k) (step t m)
 step_follows t k m h =
     let moved : step_lexeme m.operations (level_stack k.0 k.1 h.places) (level_state k.1 h.places) t.column t.lexeme ≡ step t m = rw (h.stack, h.state) refl in
     subst (λ (x : Option Machine). Follows (partial.step t k) x) moved (lexeme_follows t.column t.lexeme k.0 k.1 h.places m.operations h.emits)
@@ -404,13 +404,13 @@ all_ended (open_indexed_assignment r t a x ∷ fr) e ps os h = refl
 
 level_ends : (fr : List Frame) (l : Level) (ps : List ℕ) (os : List (Option Operation)) → EmitsLevel fr l ps os → Ends fr l (option_and_then (λ os. when_nothing_pending os (level_stack fr l ps)) (expression_operations os (level_state l ps)))
 level_ends fr (expression e) ps os h =
-    let s : Settled fr ps e os = settles fr ps e os h in
+    let s : HasExpressionOperations fr ps e os = has_expression_operations fr ps e os h in
     subst (λ (x : Option (List (Option Operation))). Ends fr (expression e) (option_and_then (λ os. when_nothing_pending os (frame_stack fr ps)) x)) (sym s.is)
     (all_ended fr e ps s.all s.emits)
 level_ends [] _ ps os h = refl
 level_ends (f ∷ fr) _ ps os h = refl
 
-pub Holds-Ends : (k : Config) (m : Machine) → Holds k m → Ends k.0 k.1 (statement_operations m)
-Holds-Ends k m h =
+pub Ends-from_Represents : (k : Config) (m : Machine) → Represents k m → Ends k.0 k.1 (statement_operations m)
+Ends-from_Represents k m h =
     let moved : option_and_then (λ os. when_nothing_pending os (level_stack k.0 k.1 h.places)) (expression_operations m.operations (level_state k.1 h.places)) ≡ statement_operations m = rw (h.stack, h.state) refl in
     subst (λ (x : Option (List Operation)). Ends k.0 k.1 x) moved (level_ends k.0 k.1 h.places m.operations h.emits)

@@ -6,7 +6,7 @@ pub mod Operations
 pub mod Emitted
 pub mod Full
 pub mod HasRead
-pub mod Held
+pub mod Represents
 pub mod Follows
 pub mod Answered
 pub mod Examples

@@ -9,6 +9,7 @@ use Rattle.apl_tokens.specs.Lexis.{Lexes}
 use Rattle.apl_tokens.specs.Constants.{HasConstantsInRange}
 use Rattle.apl_grammar.specs.Tree.{Expr, spells}
 use Rattle.apl_print.specs.Shown.{IsShown}
+use Rattle.apl_print.specs.Width.{least_width, most_width}
 use Rattle.apl_syntax.specs.declared.lines.Command.{Command}
 use Rattle.apl_syntax.specs.declared.lines.Command.TheVariants.{Origin as SetOrigin, Width, Clear, Off, Incorrect}
 use Rattle.apl_syntax.specs.Reading.{Reading, character, command, blank, statement, syntax, limit, IsReading}
@@ -24,9 +25,9 @@ pub record StepLaws : Type 0 where
   pub constants : (characters : List ℕ) (tokens : List Token) → Lexes characters tokens → HasConstantsInRange tokens
   pub opening : IsLawful opening_workspace
   pub origin : (origin : Origin) (w : WorkspaceValue) → IsLawful w → IsLawful (with_origin origin w)
-  pub width : (width : ℕ) (w : WorkspaceValue) → 30 ≤ width → width ≤ 130 → IsLawful w → IsLawful (with_width width w)
+  pub width : (width : ℕ) (w : WorkspaceValue) → least_width ≤ width → width ≤ most_width → IsLawful w → IsLawful (with_width width w)
   pub outcome : (tree : Expr) (w : WorkspaceValue) → HasConstantsInRange (spells tree) → IsLawful w → IsLawfulOutcome (meaning_of tree w)
-  pub shown : (a : ArrayValue) (width : ℕ) → HasNumbersInRange a → 30 ≤ width → (text : List ℕ) × IsShown a width text
+  pub shown : (a : ArrayValue) (width : ℕ) → HasNumbersInRange a → least_width ≤ width → (text : List ℕ) × IsShown a width text
 
 module _ (laws : StepLaws) where
   -- a value is printed, unless the statement is an assignment

@@ -12,7 +12,7 @@ use Rattle.apl_array.specs.declared.axis.Origin.{Origin}
 use Rattle.apl_array.specs.declared.axis.Origin.TheVariants.{Zero, One}
 use Rattle.apl_syntax.specs.declared.lines.Command.{Command}
 use Rattle.apl_syntax.specs.declared.lines.Command.TheVariants as command
-use Rattle.apl_syntax.specs.Commands.{HasCommandText, IsCommandLine, HasWordAndArgument, AreDigitsOf, IsSpelled, IsCommandOf, IsCommand}
+use Rattle.apl_syntax.specs.Commands.{least_width, most_width, HasCommandText, IsCommandLine, HasWordAndArgument, AreDigitsOf, IsSpelled, IsCommandOf, IsCommand}
 use Rattle.apl_syntax.proofs.Words.{one_word, one_text, some_word}
 
 apart : (word a b : List ℕ) → bytes_eq a b ≡ false → word ≡ a → word ≡ b → ⊥
@@ -83,7 +83,7 @@ incorrect_origin argument none command.Off h = apart (codes "ORIGIN") (codes "OR
 incorrect_origin argument none command.Incorrect h = h
 
 -- `)WIDTH` with another number, or with none
-pub incorrect_width : (argument : List ℕ) → ((n : ℕ) → AreDigitsOf n argument → 30 ≤ n → n ≤ 130 → ⊥) → IsCommandOf (codes "WIDTH") argument command.Incorrect
+pub incorrect_width : (argument : List ℕ) → ((n : ℕ) → AreDigitsOf n argument → least_width ≤ n → n ≤ most_width → ⊥) → IsCommandOf (codes "WIDTH") argument command.Incorrect
 incorrect_width argument none (command.Origin o) h = apart (codes "WIDTH") (codes "WIDTH") (codes "ORIGIN") refl refl h.0
 incorrect_width argument none (command.Width w) h = none w h.1 h.2 h.3
 incorrect_width argument none command.Clear h = apart (codes "WIDTH") (codes "WIDTH") (codes "CLEAR") refl refl h.0
@@ -129,13 +129,13 @@ some_origin argument = by_digits (are_digits argument)
 some_width : (argument : List ℕ) → Found (codes "WIDTH") argument
 some_width argument = by_digits (are_digits argument)
   where
-    by_test : (least most : Bool) → nat_le 30 (number_of_digits argument) ≡ least → nat_le (number_of_digits argument) 130 ≡ most → AreDigits argument → Found (codes "WIDTH") argument
+    by_test : (least most : Bool) → nat_le least_width (number_of_digits argument) ≡ least → nat_le (number_of_digits argument) most_width ≡ most → AreDigits argument → Found (codes "WIDTH") argument
     by_test true true h k digits = (command.Width (number_of_digits argument), (refl, (digits, refl), grind (arith, nat_tests, h), grind (arith, nat_tests, k)))
     by_test false most h k digits = (command.Incorrect, incorrect_width argument (λ n is least most. (let same : number_of_digits argument ≡ n = is.1 in grind (arith, nat_tests, h, same, least))))
     by_test true false h k digits = (command.Incorrect, incorrect_width argument (λ n is least most. (let same : number_of_digits argument ≡ n = is.1 in grind (arith, nat_tests, k, same, most))))
 
     by_digits : AreDigits argument ⊎ (AreDigits argument → ⊥) → Found (codes "WIDTH") argument
-    by_digits (inl digits) = by_test (nat_le 30 (number_of_digits argument)) (nat_le (number_of_digits argument) 130) refl refl digits
+    by_digits (inl digits) = by_test (nat_le least_width (number_of_digits argument)) (nat_le (number_of_digits argument) most_width) refl refl digits
     by_digits (inr not) = (command.Incorrect, incorrect_width argument (λ n is least most. not is.0))
 
 same_or_not : (a b : List ℕ) → (a ≡ b) ⊎ (a ≡ b → ⊥)

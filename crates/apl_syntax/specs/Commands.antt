@@ -41,10 +41,17 @@ pub record HasWordAndArgument (text word argument : List ℕ) : Type 0 where
 abbrev pub AreDigitsOf : ℕ → List ℕ → Type 0
 AreDigitsOf number digits = AreDigits digits × (number_of_digits digits ≡ number)
 
+-- the least and the greatest width that lines may have, in characters
+abbrev pub least_width : ℕ
+least_width = 30
+
+abbrev pub most_width : ℕ
+most_width = 130
+
 -- the word and the argument are those of the command
 abbrev pub IsSpelled : List ℕ → List ℕ → Command → Type 0
 IsSpelled word argument (Origin origin) = (word ≡ codes "ORIGIN") × AreDigitsOf (origin_number origin) argument
-IsSpelled word argument (Width width) = (word ≡ codes "WIDTH") × AreDigitsOf width argument × (30 ≤ width) × (width ≤ 130)
+IsSpelled word argument (Width width) = (word ≡ codes "WIDTH") × AreDigitsOf width argument × (least_width ≤ width) × (width ≤ most_width)
 IsSpelled word argument Clear = (word ≡ codes "CLEAR") × (argument ≡ [])
 IsSpelled word argument Off = (word ≡ codes "OFF") × (argument ≡ [])
 IsSpelled word argument Incorrect = ⊥

@@ -68,11 +68,17 @@ fn origin(argument: &[char]) -> Command
     }
 }
 
+/// The least width of printed lines, in characters.
+const LEAST_WIDTH: u8 = 30;
+
+/// The greatest width of printed lines, in characters.
+const MOST_WIDTH: u8 = 130;
+
 fn width(argument: &[char]) -> Command
     ensures { IsCommandOf (codes "WIDTH") argument.now result }
 {
     match number(argument) {
-        Some(width) if 30 <= width && width <= 130 => Command::Width(width),
+        Some(width) if LEAST_WIDTH <= width && width <= MOST_WIDTH => Command::Width(width),
         _ => Command::Incorrect,
     }
 }

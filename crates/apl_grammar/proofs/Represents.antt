@@ -1,4 +1,4 @@
--- What the reader holds while it reads partial trees.
+-- How the reader's machine represents partial trees: by the operations that it has emitted, its stack and its state.
 use Rattle.std.proofs.Common.{◌≡◌, ◌++◌, ◌∷◌, [], List, Option, Some, None, refl, sym, ◌∙◌, ap, subst, append_assoc, length}
 use Rattle.std.specs.Prelude.{ℕ, Bool, true, false, slice_set}
 use Rattle.std.proofs.lemmas.List.{append-nil}
@@ -28,20 +28,20 @@ wanted_stack alone es = es
 wanted_stack (applied_to f a e) es = pending.Operation (op.Dyadic f (axis_brackets a)) ∷ es
 wanted_stack (indexed w l s r) es = pending.Operation (op.Index (semicolons s) (brackets l r)) ∷ wanted_stack w es
 
--- a function that begins an expression is not emitted yet
-abbrev pub whole_operations : Expr → List Operation
-whole_operations (monadic f a e) = operations e ++ axis_operations a
-whole_operations (value o) = operations (value o)
-whole_operations (dyadic o f a e) = operations (dyadic o f a e)
-whole_operations (assign c n r e) = operations (assign c n r e)
-whole_operations (assign_at c n l s d r e) = operations (assign_at c n l s d r e)
+-- what is emitted while nothing decides whether the function that begins the expression is monadic: all but that function
+abbrev pub undecided_operations : Expr → List Operation
+undecided_operations (monadic f a e) = operations e ++ axis_operations a
+undecided_operations (value o) = operations (value o)
+undecided_operations (dyadic o f a e) = operations (dyadic o f a e)
+undecided_operations (assign c n r e) = operations (assign c n r e)
+undecided_operations (assign_at c n l s d r e) = operations (assign_at c n l s d r e)
 
-abbrev pub whole_state : Expr → State
-whole_state (monadic f a e) = state.LeadingFunction f (axis_brackets a)
-whole_state (value o) = state.Expression
-whole_state (dyadic o f a e) = state.Expression
-whole_state (assign c n r e) = state.Expression
-whole_state (assign_at c n l s d r e) = state.Expression
+abbrev pub expression_state : Expr → State
+expression_state (monadic f a e) = state.LeadingFunction f (axis_brackets a)
+expression_state (value o) = state.Expression
+expression_state (dyadic o f a e) = state.Expression
+expression_state (assign c n r e) = state.Expression
+expression_state (assign_at c n l s d r e) = state.Expression
 
 abbrev pub undecided_of : Expr → ℕ → Option UndecidedFunction
 undecided_of (monadic f a e) place = Some (record { function = f; axis = axis_brackets a; place = place })
@@ -91,7 +91,7 @@ Emits (open_axis_or_index r (assign_at c n l s d q e) ∷ fr) ps ops os = Emits 
 
 abbrev pub level_state : Level → List ℕ → State
 level_state (operand_wanted w) ps = state.OperandWanted
-level_state (expression e) ps = whole_state e
+level_state (expression e) ps = expression_state e
 level_state (leading_dot d c g e) ps = state.LeadingDot d c g
 level_state (leading_arrow r e) ps = state.LeadingArrow r
 level_state (leading_brackets l x r e) ps = state.LeadingBrackets (brackets l r) (undecided_of e (first_place ps))
@@ -107,14 +107,14 @@ level_stack fr (leading_slots l s d r e) ps = frame_stack fr ps
 
 abbrev pub EmitsLevel : List Frame → Level → List ℕ → List (Option Operation) → Type 0
 EmitsLevel fr (operand_wanted w) ps os = Emits fr ps (wanted_operations w) os
-EmitsLevel fr (expression e) ps os = Emits fr ps (whole_operations e) os
+EmitsLevel fr (expression e) ps os = Emits fr ps (undecided_operations e) os
 EmitsLevel fr (leading_dot d c g e) ps os = Emits fr ps (operations e) os
 EmitsLevel fr (leading_arrow r e) ps os = Emits fr ps (operations e) os
 EmitsLevel fr (leading_brackets l x r e) ps os = Emits (open_axis_or_index r e ∷ fr) ps (operations x) os
 EmitsLevel fr (leading_slots l s d r e) ps os = Emits fr ps (operations e ++ list_operations s) os
 
--- the reader holds these partial trees
-pub record Holds (k : Config) (m : Machine) : Type 0 where
+-- the machine represents these partial trees
+pub record Represents (k : Config) (m : Machine) : Type 0 where
   pub places : List ℕ
   pub emits : EmitsLevel k.0 k.1 places m.operations
   pub stack : m.stack ≡ level_stack k.0 k.1 places
@@ -154,7 +154,7 @@ Emits-append (open_axis_or_index r (assign_at c n l s d q e) ∷ fr) ps ops os a
     (Emits-append fr (other_places ps) (operations (assign_at c n l s d q e) ++ ops) os added h)
 
 -- the brackets hold an index: the place stays empty
-pub index_Emits : (fr : List Frame) (ps : List ℕ) (r : ℕ) (e : Expr) (ops : List Operation) (os : List (Option Operation)) → Emits (open_axis_or_index r e ∷ fr) ps ops os → Emits fr (other_places ps) (whole_operations e ++ ops) os
+pub index_Emits : (fr : List Frame) (ps : List ℕ) (r : ℕ) (e : Expr) (ops : List Operation) (os : List (Option Operation)) → Emits (open_axis_or_index r e ∷ fr) ps ops os → Emits fr (other_places ps) (undecided_operations e ++ ops) os
 index_Emits fr ps r (monadic f a e) ops os (below, above, split, rest, place, h) =
     let put : Emits fr (other_places ps) ((operations e ++ axis_operations a) ++ without_empty_places above) (below ++ None ∷ above) = Emits-append fr (other_places ps) (operations e ++ axis_operations a) below (None ∷ above) h in
     subst (λ (x : List (Option Operation)). Emits fr (other_places ps) ((operations e ++ axis_operations a) ++ ops) x) (sym split)
@@ -187,50 +187,50 @@ frames_complete (open_axis_or_index r e ∷ fr) ps os = refl
 frames_complete (open_indexed_assignment r t a e ∷ fr) ps os = refl
 
 -- an operand ends
-pub completed_Holds : (w : Wanted) (o : Operand) (fr : List Frame) (ps : List ℕ) (os : List (Option Operation)) → Emits fr ps (wanted_operations w ++ operand_operations o) os → Holds (fr, expression (fill w o)) (after_operand os (wanted_stack w (frame_stack fr ps)))
-completed_Holds alone o fr ps os h =
-    subst (Holds (fr, expression (value o))) (sym (frames_complete fr ps os)) (record { places = ps; emits = h; stack = refl; state = refl })
-completed_Holds (applied_to f a e) o fr ps os h =
+pub completed_Represents : (w : Wanted) (o : Operand) (fr : List Frame) (ps : List ℕ) (os : List (Option Operation)) → Emits fr ps (wanted_operations w ++ operand_operations o) os → Represents (fr, expression (fill w o)) (after_operand os (wanted_stack w (frame_stack fr ps)))
+completed_Represents alone o fr ps os h =
+    subst (Represents (fr, expression (value o))) (sym (frames_complete fr ps os)) (record { places = ps; emits = h; stack = refl; state = refl })
+completed_Represents (applied_to f a e) o fr ps os h =
     let last_one : Operation = op.Dyadic f (axis_brackets a) in
     let regrouped : ((operations e ++ axis_operations a) ++ operand_operations o) ++ last_one ∷ [] ≡ operations e ++ (axis_operations a ++ (operand_operations o ++ last_one ∷ [])) = simp append_assoc in
     let all : List (Option Operation) = os ++ Some last_one ∷ [] in
-    subst (Holds (fr, expression (dyadic o f a e))) (sym (frames_complete fr ps all))
+    subst (Represents (fr, expression (dyadic o f a e))) (sym (frames_complete fr ps all))
     (record {
       places = ps;
       emits = Emits-same fr ps (((operations e ++ axis_operations a) ++ operand_operations o) ++ last_one ∷ []) (operations e ++ (axis_operations a ++ (operand_operations o ++ last_one ∷ []))) all regrouped (Emits-append fr ps ((operations e ++ axis_operations a) ++ operand_operations o) os (Some last_one ∷ []) h);
       stack = refl;
       state = refl;
     })
-completed_Holds (indexed w l s r) o fr ps os h =
+completed_Represents (indexed w l s r) o fr ps os h =
     let last_one : Operation = op.Index (semicolons s) (brackets l r) in
     let regrouped : ((wanted_operations w ++ list_operations s) ++ operand_operations o) ++ last_one ∷ [] ≡ wanted_operations w ++ (list_operations s ++ (operand_operations o ++ last_one ∷ [])) = simp append_assoc in
     let all : List (Option Operation) = os ++ Some last_one ∷ [] in
-    completed_Holds w (index o l s r) fr ps all
+    completed_Represents w (index o l s r) fr ps all
     (Emits-same fr ps (((wanted_operations w ++ list_operations s) ++ operand_operations o) ++ last_one ∷ []) (wanted_operations w ++ (list_operations s ++ (operand_operations o ++ last_one ∷ []))) all regrouped (Emits-append fr ps ((wanted_operations w ++ list_operations s) ++ operand_operations o) os (Some last_one ∷ []) h))
 
--- the function that begins the expression is emitted
-pub record Settled (fr : List Frame) (ps : List ℕ) (e : Expr) (os : List (Option Operation)) : Type 0 where
+-- the operations once the function that begins the expression is emitted
+pub record HasExpressionOperations (fr : List Frame) (ps : List ℕ) (e : Expr) (os : List (Option Operation)) : Type 0 where
   pub all : List (Option Operation)
-  pub is : expression_operations os (whole_state e) ≡ Some all
+  pub is : expression_operations os (expression_state e) ≡ Some all
   pub emits : Emits fr ps (operations e) all
 
-pub settles : (fr : List Frame) (ps : List ℕ) (e : Expr) (os : List (Option Operation)) → Emits fr ps (whole_operations e) os → Settled fr ps e os
-settles fr ps (monadic f a e) os h =
+pub has_expression_operations : (fr : List Frame) (ps : List ℕ) (e : Expr) (os : List (Option Operation)) → Emits fr ps (undecided_operations e) os → HasExpressionOperations fr ps e os
+has_expression_operations fr ps (monadic f a e) os h =
     let m : Operation = op.Monadic f (axis_brackets a) in
     record {
       all = os ++ Some m ∷ [];
       is = refl;
       emits = Emits-same fr ps ((operations e ++ axis_operations a) ++ m ∷ []) (operations e ++ (axis_operations a ++ m ∷ [])) (os ++ Some m ∷ []) (append_assoc (operations e) (axis_operations a) (m ∷ [])) (Emits-append fr ps (operations e ++ axis_operations a) os (Some m ∷ []) h);
     }
-settles fr ps (value o) os h = record { all = os; is = refl; emits = h }
-settles fr ps (dyadic o f a e) os h = record { all = os; is = refl; emits = h }
-settles fr ps (assign c n r e) os h = record { all = os; is = refl; emits = h }
-settles fr ps (assign_at c n l s d r e) os h = record { all = os; is = refl; emits = h }
+has_expression_operations fr ps (value o) os h = record { all = os; is = refl; emits = h }
+has_expression_operations fr ps (dyadic o f a e) os h = record { all = os; is = refl; emits = h }
+has_expression_operations fr ps (assign c n r e) os h = record { all = os; is = refl; emits = h }
+has_expression_operations fr ps (assign_at c n l s d r e) os h = record { all = os; is = refl; emits = h }
 
 -- a function before an expression
-pub applied_Holds : (f : Form) (a : Axis) (e : Expr) (fr : List Frame) (ps : List ℕ) (os : List (Option Operation)) → Emits fr ps (operations e ++ axis_operations a) os → Holds (fr, level_for f a e) (with_leading_function f (axis_brackets a) os (frame_stack fr ps))
-applied_Holds f a e fr ps os h = by_valence (may_be_monadic f (has_axis a)) refl
+pub applied_Represents : (f : Form) (a : Axis) (e : Expr) (fr : List Frame) (ps : List ℕ) (os : List (Option Operation)) → Emits fr ps (operations e ++ axis_operations a) os → Represents (fr, level_for f a e) (with_leading_function f (axis_brackets a) os (frame_stack fr ps))
+applied_Represents f a e fr ps os h = by_valence (may_be_monadic f (has_axis a)) refl
   where
-    by_valence : (b : Bool) → may_be_monadic f (has_axis a) ≡ b → Holds (fr, level_for f a e) (with_leading_function f (axis_brackets a) os (frame_stack fr ps))
+    by_valence : (b : Bool) → may_be_monadic f (has_axis a) ≡ b → Represents (fr, level_for f a e) (with_leading_function f (axis_brackets a) os (frame_stack fr ps))
     by_valence true is = rw is (record { places = ps; emits = h; stack = refl; state = refl })
     by_valence false is = rw is (record { places = ps; emits = h; stack = refl; state = refl })
