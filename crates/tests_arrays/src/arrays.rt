@@ -1,7 +1,9 @@
 //! Shapes, places of a small array, and arrays that keep their kind.
 use apl_array::{
-    Array, Elem, Kind, MOST_ELEMENTS, Shape, ShapeError, elements_determine_array,
-    inserted_index_has_place, places_match_index_lists, range_is_decided, replaced_index_has_place,
+    Array, Elem, Kind, MOST_ELEMENTS, Shape, ShapeError, changed_axis_has_place,
+    elements_determine_array, inserted_index_has_place, joined_index_has_place,
+    place_is_sum_of_strides, places_match_index_lists, range_is_decided, replaced_index_has_place,
+    reversed_index_is_lawful, split_index_has_place, transposed_index_has_place,
 };
 use std::test::Fail;
 
@@ -35,10 +37,20 @@ fn places(rt: HostRuntime) -> Result<(), Fail> {
                 && shape.coordinate(place, 2) == place % 4
         );
     }
+    Ok(())
+}
+
+#[test]
+fn laws_of_places() {
     places_match_index_lists();
     inserted_index_has_place();
     replaced_index_has_place();
-    Ok(())
+    joined_index_has_place();
+    reversed_index_is_lawful();
+    split_index_has_place();
+    changed_axis_has_place();
+    place_is_sum_of_strides();
+    transposed_index_has_place();
 }
 
 #[test]

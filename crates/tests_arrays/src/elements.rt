@@ -1,6 +1,10 @@
 //! The scalar functions of elements, at worked values.
 use apl_array::Elem;
 use apl_pool::Fault;
+use apl_scalar::function_types::{
+    And, Bang, Ceiling, Divide, Equal, Floor, Function, Greater, GreaterOrEqual, Less, LessOrEqual,
+    Minus, Nand, Nor, NotEqual, Or, Plus, Star, Stile, Tilde, Times,
+};
 use apl_scalar::{Prim, apply1, apply2, identity};
 
 const LEAST: i64 = i64::MIN;
@@ -105,6 +109,64 @@ fn dyadic_functions(rt: HostRuntime) {
         assert!(rt; f.is_dyadic());
         let answer = apply2(f, Elem::Int(x), Elem::Int(y));
         assert!(rt; answer == wanted.map(Elem::Int), "{x} {f:?} {y}");
+    }
+}
+
+/// Each function by its type.
+#[test]
+fn function_types(rt: HostRuntime) {
+    for (name, answer, wanted) in [
+        ("+", Plus::apply(2, 3), Ok(5)),
+        ("+ past the most", Plus::apply(MOST, 1), Err(Fault::Limit)),
+        ("-", Minus::apply(2, 3), Ok(-1)),
+        (
+            "- past the least",
+            Minus::apply(LEAST, 1),
+            Err(Fault::Limit),
+        ),
+        ("×", Times::apply(-4, 3), Ok(-12)),
+        (
+            "× past the most",
+            Times::apply(LEAST, -1),
+            Err(Fault::Limit),
+        ),
+        ("÷", Divide::apply(12, -3), Ok(-4)),
+        (
+            "÷ with a remainder",
+            Divide::apply(7, 2),
+            Err(Fault::Domain),
+        ),
+        ("|", Stile::apply(3, -7), Ok(2)),
+        ("| of 0", Stile::apply(0, -5), Ok(-5)),
+        ("*", Star::apply(-2, 3), Ok(-8)),
+        ("* past the most", Star::apply(2, 63), Err(Fault::Limit)),
+        ("!", Bang::apply(2, 5), Ok(10)),
+        ("! of -1", Bang::apply(-1, 3), Err(Fault::Domain)),
+        ("⌊", Floor::apply(2, -3), Ok(-3)),
+        ("⌈", Ceiling::apply(2, -3), Ok(2)),
+        ("∧", And::apply(1, 1), Ok(1)),
+        ("∧ of 2", And::apply(0, 2), Err(Fault::Domain)),
+        ("∨", Or::apply(0, 1), Ok(1)),
+        ("∨ of 5", Or::apply(1, 5), Err(Fault::Domain)),
+        ("⍲", Nand::apply(1, 1), Ok(0)),
+        ("⍲ of 2", Nand::apply(2, 1), Err(Fault::Domain)),
+        ("⍱", Nor::apply(0, 0), Ok(1)),
+        ("⍱ of -1", Nor::apply(-1, 0), Err(Fault::Domain)),
+        ("<", Less::apply(1, 2), Ok(1)),
+        ("< of equals", Less::apply(2, 2), Ok(0)),
+        ("≤", LessOrEqual::apply(2, 2), Ok(1)),
+        ("≤ downwards", LessOrEqual::apply(3, 2), Ok(0)),
+        ("=", Equal::apply(LEAST, LEAST), Ok(1)),
+        ("= of others", Equal::apply(2, 3), Ok(0)),
+        ("≥", GreaterOrEqual::apply(2, 2), Ok(1)),
+        ("≥ upwards", GreaterOrEqual::apply(2, 3), Ok(0)),
+        (">", Greater::apply(3, 2), Ok(1)),
+        ("> of equals", Greater::apply(2, 2), Ok(0)),
+        ("≠", NotEqual::apply(3, 2), Ok(1)),
+        ("≠ of equals", NotEqual::apply(2, 2), Ok(0)),
+        ("~ of two", Tilde::apply(1, 0), Err(Fault::Domain)),
+    ] {
+        assert!(rt; answer == wanted, "{name}");
     }
 }
 

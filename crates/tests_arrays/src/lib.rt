@@ -6,6 +6,8 @@ mod arrays;
 #[cfg(test)]
 mod elements;
 #[cfg(test)]
+mod filled;
+#[cfg(test)]
 mod printed;
 #[cfg(test)]
 mod scalars;

@@ -20,7 +20,7 @@ enum Argument {
 
 /// What a function is to answer.
 #[derive(Clone, Copy)]
-enum Answer {
+pub(super) enum Answer {
     /// The array of this shape and these numbers.
     Is(&'static [usize], &'static [i64]),
     Stops(OpFault),
@@ -54,7 +54,7 @@ fn array_of(alloc: Global, argument: Argument) -> Result<Array, Fail> {
     }
 }
 
-fn is_answer(answer: Result<Array, OpFault>, wanted: Answer) -> bool {
+pub(super) fn is_answer(answer: Result<Array, OpFault>, wanted: Answer) -> bool {
     match (answer, wanted) {
         (Ok(array), Is(lengths, numbers)) => {
             array.shape().lengths() == lengths && array.numbers() == Some(numbers)

@@ -1,0 +1,98 @@
+//! Arrays that a pool fills from small kernels, by several workers.
+ghost use Rattle.std.specs.Prelude.{◌≤◌};
+ghost use Rattle.apl_pool.specs.declared.kernel.TheConstants.{MOST_PLACES};
+
+use crate::scalars::Answer::{self, Is, Stops};
+use crate::scalars::is_answer;
+use apl_answer::{OpFault, answer_is_each_outcome, answer_is_in_range, fill_array};
+use apl_array::Shape;
+use apl_pool::{Every, Fault, Kernel, MOST_PLACES, Open, Pool};
+use std::test::Fail;
+
+/// At each place below the count its number, but a fault from `limit` on.
+#[derive(Drop)]
+struct Places {
+    count: usize,
+    limit: usize,
+    ghost few: { count ≤ MOST_PLACES },
+}
+
+impl Kernel for Places {
+    ghost use Rattle.std.specs.Prelude.{pos, nat_lt, Ok, Err, if◌then◌else◌};
+    ghost use Rattle.apl_pool.specs.declared.kernel.Fault.TheVariants.{Limit};
+
+    type Out = i64;
+
+    ghost place_count = { λ k. k.count };
+
+    ghost outcome = { λ k place. if nat_lt place k.limit then Ok (pos place) else Err Limit };
+
+    fn count(&self) -> usize {
+        self.count
+    }
+
+    fn at(&self, place: usize) -> Result<i64, Fault> {
+        if place < self.limit {
+            Ok(place as i64)
+        } else {
+            Err(Fault::Limit)
+        }
+    }
+}
+
+/// At each place the letter A, but B at the last place of four.
+#[derive(Drop)]
+struct Letters;
+
+impl Kernel for Letters {
+    ghost use Rattle.std.specs.Prelude.{nat_lt, Ok, if◌then◌else◌};
+
+    type Out = char;
+
+    ghost place_count = { λ k. 4 };
+
+    ghost outcome = { λ k place. if nat_lt place 3 then Ok 65 else Ok 66 };
+
+    fn count(&self) -> usize {
+        4
+    }
+
+    fn at(&self, place: usize) -> Result<char, Fault> {
+        if place < 3 { Ok('A') } else { Ok('B') }
+    }
+}
+
+#[test]
+fn numbers(rt: HostRuntime) -> Result<(), Fail> {
+    let rows: [(&[usize], usize, Answer); 5] = [
+        (&[2, 3], 6, Is(&[2, 3], &[0, 1, 2, 3, 4, 5])),
+        (&[], 1, Is(&[], &[0])),
+        (&[3, 0], 0, Is(&[3, 0], &[])),
+        (&[2, 3], 5, Stops(OpFault::Limit)),
+        (&[6], 0, Stops(OpFault::Limit)),
+    ];
+    for workers in [1, 3, 64u8] {
+        let pool = Pool::new(workers, Every(2), Open);
+        for (lengths, limit, wanted) in rows {
+            let shape = Shape::new(rt.alloc(), lengths)?;
+            let count = shape.count();
+            let answer = fill_array(&rt, rt.alloc(), &pool, shape, &Places { count, limit });
+            assert!(rt; is_answer(answer, wanted), "{lengths:?} {limit}");
+        }
+    }
+    answer_is_each_outcome();
+    answer_is_in_range();
+    Ok(())
+}
+
+#[test]
+fn characters(rt: HostRuntime) -> Result<(), Fail> {
+    let shape = Shape::new(rt.alloc(), &[2, 2])?;
+    if shape.count() != 4 {
+        return Err(Fail::new("two rows of two are four"));
+    }
+    let pool = Pool::new(2, Every(1), Open);
+    let text = fill_array(&rt, rt.alloc(), &pool, shape, &Letters)?;
+    assert!(rt; text.characters() == Some(['A', 'A', 'A', 'B'].as_slice()));
+    Ok(())
+}
