@@ -1,9 +1,9 @@
 -- The places of a source whose axes become axes of a result.
-use Rattle.std.proofs.Common.{◌≡◌, ℕ, zero, suc, ◌+◌, ◌-◌, ◌*◌, ◌<◌, ◌≤◌, Bool, true, false, List, [], ◌∷◌, length, map, reverse, slice_index, refl, sym, ap, ◌∙◌, arith}
+use Rattle.std.proofs.Common.{◌≡◌, ℕ, zero, suc, ◌+◌, ◌-◌, ◌*◌, ◌<◌, ◌≤◌, Bool, true, false, List, [], ◌∷◌, ◌++◌, length, map, reverse, slice_index, refl, sym, ap, ◌∙◌, arith}
 use Rattle.std.specs.Prelude.{◌==◌, if◌then◌else◌, sum, All}
 use Rattle.std.specs.List.{range_with_len}
 use Rattle.std.proofs.lemmas.Bool.{ne_eqb, eq-eqb}
-use Rattle.std.proofs.lemmas.List.{get_or-map, get_or-reverse, length-map, length-reverse, ext_get_or}
+use Rattle.std.proofs.lemmas.List.{get_or-map, get_or-reverse, length-map, length-reverse, reverse-append, reverse-reverse, ext_get_or}
 use Rattle.std.proofs.lemmas.List.Sums.{sum_by-cons}
 use Rattle.std.proofs.lemmas.List.FromFn.{length-range_with_len, get_or-range_with_len, length-map-range_with_len, get_or-map-range_with_len}
 use Rattle.apl_array.specs.Shape.{IsIndexOf, count_of, place_of}
@@ -15,9 +15,39 @@ place_of-strides [] (i ∷ is) = refl
 place_of-strides (n ∷ ns) [] = refl
 place_of-strides (n ∷ ns) (i ∷ is) = ap (λ p. i * count_of ns + p) (place_of-strides ns is)
 
+-- ---- the axes in reverse order
+
+length-strides : (shape : List ℕ) → length (strides shape) ≡ length shape
+length-strides [] = refl
+length-strides (n ∷ ns) = ap suc (length-strides ns)
+
+inner_product-append : (xs ys : List ℕ) (x y : ℕ) → length xs ≡ length ys → inner_product (xs ++ x ∷ []) (ys ++ y ∷ []) ≡ inner_product xs ys + x * y
+inner_product-append [] [] x y len = omega arith
+inner_product-append [] (b ∷ bs) x y len = absurd (omega (arith, len))
+inner_product-append (a ∷ more) [] x y len = absurd (omega (arith, len))
+inner_product-append (a ∷ more) (b ∷ bs) x y len = omega (arith, inner_product-append more bs x y (omega (arith, len)))
+
+inner_product-reverse : (xs ys : List ℕ) → length xs ≡ length ys → inner_product (reverse xs) (reverse ys) ≡ inner_product xs ys
+inner_product-reverse [] [] len = refl
+inner_product-reverse [] (y ∷ ys) len = absurd (omega (arith, len))
+inner_product-reverse (x ∷ xs) [] len = absurd (omega (arith, len))
+inner_product-reverse (x ∷ xs) (y ∷ ys) len =
+    let same : length (reverse xs) ≡ length (reverse ys) = omega (arith, length-reverse xs, length-reverse ys, len) in
+    let left : reverse (x ∷ xs) ≡ reverse xs ++ x ∷ [] = reverse-append (x ∷ []) xs in
+    let right : reverse (y ∷ ys) ≡ reverse ys ++ y ∷ [] = reverse-append (y ∷ []) ys in
+    ap (λ l. inner_product l (reverse (y ∷ ys))) left
+    ∙ ap (inner_product (reverse xs ++ x ∷ [])) right
+    ∙ omega (arith, inner_product-append (reverse xs) (reverse ys) x y same, inner_product-reverse xs ys (omega (arith, len)))
+
+pub place_of-reverse : (shape index : List ℕ) → length index ≡ length shape → place_of shape (reverse index) ≡ inner_product index (reverse (strides shape))
+place_of-reverse shape index len =
+    let back : reverse (reverse index) ≡ index = reverse-reverse index in
+    let turned = inner_product-reverse (reverse index) (strides shape) (omega (arith, len, length-reverse index, length-strides shape)) in
+    place_of-strides shape (reverse index) ∙ sym turned ∙ ap (λ is. inner_product is (reverse (strides shape))) back
+
 -- ---- an index list weighted by a function of the axis, the axes counted from `first` on
 
-abbrev weighted : List ℕ → ℕ → (ℕ → ℕ) → ℕ
+abbrev pub weighted : List ℕ → ℕ → (ℕ → ℕ) → ℕ
 weighted index first weight = inner_product index (map weight (range_with_len first (length index)))
 
 weighted_zero : (index : List ℕ) (first : ℕ) (weight : ℕ → ℕ) → ((axis : ℕ) → first ≤ axis → weight axis ≡ 0) → weighted index first weight ≡ 0
@@ -93,7 +123,7 @@ least-bound (n ∷ m ∷ ns) zero inside = omega arith
 least-bound (n ∷ m ∷ ns) (suc i) inside = omega (arith, least-bound (m ∷ ns) i (omega arith))
 
 -- each item is among those of the axis that it becomes
-becoming-has : (axes items : List ℕ) (k : ℕ) → k < length items → length axes ≡ length items
+pub becoming-has : (axes items : List ℕ) (k : ℕ) → k < length items → length axes ≡ length items
     → (i : ℕ) × (i < length (becoming (slice_index axes k) axes items)) × (slice_index (becoming (slice_index axes k) axes items) i ≡ slice_index items k)
 becoming-has axes [] k inside len = absurd (omega arith)
 becoming-has [] (x ∷ items) k inside len = absurd (omega (arith, len))
@@ -123,7 +153,7 @@ AreAxesInto-transposed_shape source axes rank len below =
           omega (arith, long, least-bound (becoming axis axes source) i there, is);
     }
 
--- ---- the axes in reverse order
+-- ---- an index list in reverse order is that of the axes in reverse order
 
 pub source_index-reverse : (index : List ℕ) → source_index (reverse (range_with_len 0 (length index))) index ≡ reverse index
 source_index-reverse index =

@@ -1,10 +1,10 @@
 //! What is true of all arrays, their places and their numbers, each law the contract of a function
 //! that does nothing.
-ghost use Rattle.std.specs.Prelude.{◌≡◌, ◌↔◌, ◌<◌, ◌+◌, ◌*◌, ◌/◌, ◌%◌, ℕ, ℤ, List, ◌++◌, true, length, reverse, take, drop, slice_index, slice_set, insert, remove, All, FitsSigned};
+ghost use Rattle.std.specs.Prelude.{◌≡◌, ◌↔◌, ◌<◌, ◌+◌, ◌*◌, ◌/◌, ◌%◌, ℕ, ℤ, List, ◌++◌, true, length, reverse, take, drop, slice_index, slice_set, insert, remove, All, Contains, FitsSigned};
 ghost use Rattle.std.specs.List.{range_with_len};
 ghost use Rattle.std.specs.Int.{w64};
 ghost use Rattle.apl_array.specs.Range.{IsInRange, in_range};
-ghost use Rattle.apl_array.specs.Shape.{IsIndexOf, count_of, place_of, index_at};
+ghost use Rattle.apl_array.specs.Shape.{IsShape, IsIndexOf, count_of, place_of, index_at};
 ghost use Rattle.apl_array.specs.Transposition.{strides, inner_product, source_index, transposed_shape, source_strides, AreAxesInto};
 ghost use Rattle.apl_array.specs.Array.{ArrayValue, IsArray, HaveSameElements};
 
@@ -90,14 +90,17 @@ pub fn changed_axis_has_place()
         ≡ (place / (m * count_of (drop (k + 1) shape)) * slice_index shape k + i) * count_of (drop (k + 1) shape) + place % count_of (drop (k + 1) shape) }
 {}
 
-/// The place of an index list, counted in strides.
+/// The place of an index list, counted in strides, and that of one in reverse order.
 pub fn place_is_sum_of_strides()
-    ensures { (shape index : List ℕ) → place_of shape index ≡ inner_product index (strides shape) }
+    ensures place { (shape index : List ℕ) → place_of shape index ≡ inner_product index (strides shape) }
+    ensures reversed { (shape index : List ℕ) → length index ≡ length shape
+        → place_of shape (reverse index) ≡ inner_product index (reverse (strides shape)) }
 {}
 
 /// Index lists of a source whose axes become axes of another shape: they are lawful, and their
-/// places are counted with one stride for each axis of that shape. Where it is the shape of a
-/// transposition, no axis is too long. The axes in reverse order reverse the index list.
+/// places are counted with one stride for each axis of that shape. In the shape of a transposition
+/// no axis is too long, and it is a shape where each of its axes is named. The axes in reverse order
+/// reverse the index list.
 pub fn transposed_index_has_place()
     ensures lawful { (source axes result index : List ℕ) → AreAxesInto source axes result → IsIndexOf result index
         → IsIndexOf source (source_index axes index) }
@@ -105,6 +108,8 @@ pub fn transposed_index_has_place()
         → place_of source (source_index axes index) ≡ inner_product index (source_strides (length index) axes source) }
     ensures fits { (source axes : List ℕ) (rank : ℕ) → length axes ≡ length source → All (λ axis. axis < rank) axes
         → AreAxesInto source axes (transposed_shape rank axes source) }
+    ensures shape { (source axes : List ℕ) (rank : ℕ) → IsShape source → length axes ≡ length source → All (λ axis. axis < rank) axes
+        → ((axis : ℕ) → axis < rank → Contains axes axis) → IsShape (transposed_shape rank axes source) }
     ensures reversed { (index : List ℕ) → source_index (reverse (range_with_len 0 (length index))) index ≡ reverse index }
 {}
 
