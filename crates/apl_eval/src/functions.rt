@@ -6,11 +6,11 @@ ghost use Rattle.apl_answer.specs.Pointwise.{IsAnswerOf};
 ghost use Rattle.apl_eval.specs.Functions.{caret_column, scalar_function, result_of, monadic_scalar, dyadic_scalar, monadic_result, dyadic_result, index_result, assign_at_result};
 ghost use Rattle.apl_eval.specs.Refusals.{Answers};
 
+use super::error::EvalError;
 use apl_answer::OpFault;
 use apl_array::{Array, Origin};
 use apl_grammar::Form;
 use apl_pool::{Cut, Gate, Pool};
-use apl_print::Report;
 use apl_scalar::Prim;
 use apl_tokens::Glyph;
 use std::alloc::Global;
@@ -19,7 +19,7 @@ use std::thread::Threads;
 /// Why a function has no value.
 #[derive(Drop)]
 pub(crate) enum Refusal {
-    Fault(Report),
+    Error(EvalError),
     Memory,
 }
 
@@ -31,17 +31,17 @@ impl From<OpFault> for Refusal {
 
     fn from(fault: OpFault) -> Refusal {
         match fault {
-            OpFault::Rank => Refusal::Fault(Report::Rank),
-            OpFault::Length => Refusal::Fault(Report::Length),
-            OpFault::Index => Refusal::Fault(Report::Index),
-            OpFault::Domain => Refusal::Fault(Report::Domain),
-            OpFault::Limit => Refusal::Fault(Report::Limit),
+            OpFault::Rank => Refusal::Error(EvalError::Rank),
+            OpFault::Length => Refusal::Error(EvalError::Length),
+            OpFault::Index => Refusal::Error(EvalError::Index),
+            OpFault::Domain => Refusal::Error(EvalError::Domain),
+            OpFault::Limit => Refusal::Error(EvalError::Limit),
             OpFault::Memory => Refusal::Memory,
         }
     }
 }
 
-/// The column at which a function's faults are shown.
+/// The column of a function's errors.
 pub(crate) fn caret_column(form: Form) -> usize
     ensures { result ≡ caret_column form }
 {
@@ -62,7 +62,7 @@ fn scalar_function(glyph: Glyph) -> Option<Prim>
     }
 }
 
-/// What a scalar function answered, its fault as a report.
+/// What a scalar function answered, its fault as an error.
 fn result_of(answer: Result<Array, OpFault>) -> Result<Array, Refusal>
     ensures { (wanted : Result ArrayValue OpFault) → IsAnswerOf wanted answer → Answers (result_of wanted) result }
 {
@@ -86,7 +86,7 @@ fn monadic_scalar<R: Threads + Sync, C: Cut + Sync, G: Gate + Sync>(
         Some(function) if function.is_monadic() => {
             result_of(apl_scalar::monadic(rt, alloc, pool, function, right))
         }
-        _ => Err(Refusal::Fault(Report::Syntax)),
+        _ => Err(Refusal::Error(EvalError::Syntax)),
     }
 }
 
@@ -105,7 +105,7 @@ fn dyadic_scalar<R: Threads + Sync, C: Cut + Sync, G: Gate + Sync>(
         Some(function) if function.is_dyadic() => {
             result_of(apl_scalar::dyadic(rt, alloc, pool, function, left, right))
         }
-        _ => Err(Refusal::Fault(Report::Syntax)),
+        _ => Err(Refusal::Error(EvalError::Syntax)),
     }
 }
 
@@ -128,7 +128,7 @@ pub(crate) fn monadic<R: Threads + Sync, C: Cut + Sync, G: Gate + Sync>(
         }
         (Form::Plain { .. }, Some(_))
         | (Form::Reduce { .. } | Form::Inner { .. } | Form::Outer { .. }, _) => {
-            Err(Refusal::Fault(Report::Syntax))
+            Err(Refusal::Error(EvalError::Syntax))
         }
     }
 }
@@ -153,7 +153,7 @@ pub(crate) fn dyadic<R: Threads + Sync, C: Cut + Sync, G: Gate + Sync>(
         }
         (Form::Plain { .. }, Some(_))
         | (Form::Reduce { .. } | Form::Inner { .. } | Form::Outer { .. }, _) => {
-            Err(Refusal::Fault(Report::Syntax))
+            Err(Refusal::Error(EvalError::Syntax))
         }
     }
 }
@@ -170,7 +170,7 @@ pub(crate) fn index<R: Threads + Sync, C: Cut + Sync, G: Gate + Sync>(
 ) -> Result<Array, Refusal>
     ensures { Answers (index_result origin array.now (map option_copied slots.now)) result }
 {
-    Err(Refusal::Fault(Report::Syntax))
+    Err(Refusal::Error(EvalError::Syntax))
 }
 
 /// A name's array, if it has one, with the value in the place of the elements that the slots choose.
@@ -186,5 +186,5 @@ pub(crate) fn assign_at<R: Threads + Sync, C: Cut + Sync, G: Gate + Sync>(
 ) -> Result<Array, Refusal>
     ensures { Answers (assign_at_result origin (option_copied array.entry) (map option_copied slots.now) value.now) result }
 {
-    Err(Refusal::Fault(Report::Syntax))
+    Err(Refusal::Error(EvalError::Syntax))
 }

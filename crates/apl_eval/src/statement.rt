@@ -4,8 +4,8 @@ ghost use Rattle.std.specs.FinMap.{empty};
 ghost use Rattle.apl_array.specs.Array.{ArrayValue};
 ghost use Rattle.apl_grammar.specs.Tree.{Expr, operations};
 ghost use Rattle.apl_grammar.specs.declared.program.Operation.TheVariants as op;
-ghost use Rattle.apl_print.specs.declared.reports.Report.{Report};
 ghost use Rattle.apl_print.specs.Width.{least_width, most_width};
+ghost use Rattle.apl_eval.specs.declared.error.EvalError.{EvalError};
 ghost use Rattle.apl_eval.specs.Workspace.{WorkspaceValue, value_of};
 ghost use Rattle.apl_eval.specs.Functions.{caret_column};
 ghost use Rattle.apl_eval.specs.Meaning.{Outcome, done, outcome_at, name_outcome, assign_at_column, meaning_of, is_assignment};
@@ -13,6 +13,7 @@ ghost use Rattle.apl_eval.specs.Evaluates.{Evaluates, IsShownAs};
 ghost use Rattle.apl_eval.specs.Refusals.{Answers};
 ghost use Rattle.apl_eval.specs.Steps.{step, stuck, onto, staged_in, HasValue, HasValueAbove, HasAxisAbove, HasSlotsAbove, IsOutcome, IsState};
 
+use super::error::EvalError;
 use super::functions::{Refusal, assign_at, caret_column, dyadic, index, monadic};
 use super::names::Names;
 use super::stack::{Stack, array_of};
@@ -20,7 +21,7 @@ use super::workspace::Workspace;
 use apl_array::{Array, Origin};
 use apl_grammar::{Axis, Brackets, Columns, Function, IndexedName, Operation, Program};
 use apl_pool::{Cut, Gate, Pool};
-use apl_print::{Report, print};
+use apl_print::print;
 use apl_tokens::Constant;
 use std::alloc::{AllocError, AllocFailed, Global};
 use std::rc::Rc;
@@ -38,8 +39,9 @@ pub enum Shown {
 /// Why a statement has no value.
 #[derive(Clone, Copy, Debug, PartialEq, Eq, Drop)]
 pub enum EvalStop {
-    /// The report of a fault, and its column in characters from 0.
-    Error { report: Report, column: usize },
+    /// An error, and its column in characters from 0.
+    Error { error: EvalError, column: usize },
+    /// A growth was refused.
     Memory,
 }
 
@@ -104,23 +106,23 @@ fn name_value(
     match look_up(workspace, staged, name) {
         Some(value) => Ok(value.clone()?),
         None => Err(EvalStop::Error {
-            report: Report::Value,
+            error: EvalError::Value,
             column,
         }),
     }
 }
 
-/// The value of a result, or its report at this column.
+/// The value of a result, or its error at this column.
 fn outcome_at(
     alloc: Global,
     column: usize,
     answer: Result<Array, Refusal>,
 ) -> Result<Rc<Array>, EvalStop>
-    ensures { (wanted : Result ArrayValue Report) → (w : WorkspaceValue) → Answers wanted answer → IsOutcome (outcome_at column wanted w) w result }
+    ensures { (wanted : Result ArrayValue EvalError) → (w : WorkspaceValue) → Answers wanted answer → IsOutcome (outcome_at column wanted w) w result }
 {
     match answer {
         Ok(value) => Ok(Rc::new(alloc, value)?),
-        Err(Refusal::Fault(report)) => Err(EvalStop::Error { report, column }),
+        Err(Refusal::Error(error)) => Err(EvalStop::Error { error, column }),
         Err(Refusal::Memory) => Err(EvalStop::Memory),
     }
 }
@@ -201,12 +203,12 @@ fn apply_index<R: Threads + Sync, C: Cut + Sync, G: Gate + Sync>(
     put(stack, outcome_at(alloc, brackets.left, answer))
 }
 
-/// The column at which an indexed assignment's report is shown.
-fn assign_at_column(target: &IndexedName, report: Report) -> usize
-    ensures { result ≡ assign_at_column target.now.column target.now.arrow report }
+/// The column of an indexed assignment's error.
+fn assign_at_column(target: &IndexedName, error: EvalError) -> usize
+    ensures { result ≡ assign_at_column target.now.column target.now.arrow error }
 {
-    match report {
-        Report::Value => target.column,
+    match error {
+        EvalError::Value => target.column,
         _ => target.arrow,
     }
 }
@@ -233,9 +235,9 @@ fn apply_assign_at<R: Threads + Sync, C: Cut + Sync, G: Gate + Sync>(
     let chosen = chosen.as_slice();
     match assign_at(rt, alloc, pool, origin, array, chosen, value) {
         Ok(changed) => Ok(staged.insert(alloc, name, Rc::new(alloc, changed)?)?),
-        Err(Refusal::Fault(report)) => Err(EvalStop::Error {
-            report,
-            column: assign_at_column(target, report),
+        Err(Refusal::Error(error)) => Err(EvalStop::Error {
+            error,
+            column: assign_at_column(target, error),
         }),
         Err(Refusal::Memory) => Err(EvalStop::Memory),
     }
@@ -329,7 +331,7 @@ fn text_of(alloc: Global, program: &Program, value: &Array, width: u8) -> Result
 
 /// Evaluates a statement in a workspace.
 ///
-/// An assignment shows nothing, and another statement the text of its value, printed at the workspace's width. After a fault the
+/// An assignment shows nothing, and another statement the text of its value, printed at the workspace's width. After an error the
 /// assignments made before it are kept. What is not built so far is a syntax error, once its operands have values. After want of
 /// memory the workspace is as it was. The pool computes the elements of scalar functions, and is not seen in the answer.
 pub fn eval<R: Threads + Sync, C: Cut + Sync, G: Gate + Sync>(
@@ -348,9 +350,9 @@ pub fn eval<R: Threads + Sync, C: Cut + Sync, G: Gate + Sync>(
             workspace.keep(staged)?;
             Ok(shown)
         }
-        Err(EvalStop::Error { report, column }) => {
+        Err(EvalStop::Error { error, column }) => {
             workspace.keep(staged)?;
-            Err(EvalStop::Error { report, column })
+            Err(EvalStop::Error { error, column })
         }
         Err(EvalStop::Memory) => Err(EvalStop::Memory),
     }
