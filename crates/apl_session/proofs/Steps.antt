@@ -24,19 +24,19 @@ use Rattle.apl_session.specs.Lines.{without_return}
 use Rattle.apl_session.specs.Run.{Answer, IsDeterministic, refused_step}
 use Rattle.apl_session.specs.LineAnswer.{IsLineOutcome, IsLineAnswered, next_after}
 use Rattle.apl_session.specs.LineStep.{IsLineStep}
-use Rattle.apl_session.specs.Step.{says, reports, command_answer, report_of, Prints, IsStatementAnswer, IsAnswerTo, IsRefusable, session_semantics}
+use Rattle.apl_session.specs.Step.{text_answer, report_answer, command_answer, report_of, IsPrintedAnswer, IsStatementAnswer, IsAnswerTo, IsRefusable, session_semantics}
 use Rattle.apl_session.specs.declared.interpreter.Next.{Next}
 use Rattle.apl_session.specs.declared.interpreter.Next.TheVariants.{Go, End}
 use Rattle.apl_session.specs.declared.interpreter.RunFault.{RunFault}
 use Rattle.apl_session.specs.declared.interpreter.RunFault.TheVariants.{Read, Write, Memory}
 
 module _ (shown_once : (a : ArrayValue) (width : ℕ) (s t : List ℕ) → IsShown a width s → IsShown a width t → s ≡ t) where
-  one_print : (v : ArrayValue) (after : WorkspaceValue) (one other : Answer WorkspaceValue) → Prints v after one → Prints v after other → one ≡ other
+  one_print : (v : ArrayValue) (after : WorkspaceValue) (one other : Answer WorkspaceValue) → IsPrintedAnswer v after one → IsPrintedAnswer v after other → one ≡ other
   one_print v after one other (s, shown, is) (t, again, is') =
-      is ∙ ap (λ (x : List ℕ). says (encode_utf8_all x) after) (shown_once v after.width s t shown again) ∙ sym is'
+      is ∙ ap (λ (x : List ℕ). text_answer (encode_utf8_all x) after) (shown_once v after.width s t shown again) ∙ sym is'
 
   one_done : (b : Bool) (v : ArrayValue) (after : WorkspaceValue) (one other : Answer WorkspaceValue)
-      → MatchBool b (one ≡ says [] after) (Prints v after one) → MatchBool b (other ≡ says [] after) (Prints v after other) → one ≡ other
+      → MatchBool b (one ≡ text_answer [] after) (IsPrintedAnswer v after one) → MatchBool b (other ≡ text_answer [] after) (IsPrintedAnswer v after other) → one ≡ other
   one_done true v after one other h k = h ∙ sym k
   one_done false v after one other h k = one_print v after one other h k
 
@@ -103,8 +103,8 @@ outcome_of_refusal state line old new put r e listed written =
 
 -- an answer that writes nothing
 pub outcome_of_silence : (state now : WorkspaceValue) (line : List ℕ) (old : Option (List ℕ)) (reading : Reading)
-    → IsReading line reading → IsAnswerTo state line reading (says [] now) → IsLineOutcome IsLineStep state now line old old (Ok Go)
-outcome_of_silence state now line old reading is answers = (says [] now, inl (reading, is, answers), refl, refl, Appends-nil old)
+    → IsReading line reading → IsAnswerTo state line reading (text_answer [] now) → IsLineOutcome IsLineStep state now line old old (Ok Go)
+outcome_of_silence state now line old reading is answers = (text_answer [] now, inl (reading, is, answers), refl, refl, Appends-nil old)
 
 -- the reply to a command, once its text was put
 pub outcome_of_reply : {T E : Type 0} (state now : WorkspaceValue) (line text : List ℕ) (old new : Option (List ℕ)) (given : Command) (put : Result T E) (r : Result Next RunFault)
@@ -124,10 +124,10 @@ module _ (state now : WorkspaceValue) (line : List ℕ) (ops : List Operation) (
   pub outcome_of_assignment : (old : Option (List ℕ)) → ((tree : Expr) → operations tree ≡ ops → Evaluates tree state now (Ok Silent)) → IsLineOutcome IsLineStep state now line old old (Ok Go)
   outcome_of_assignment old evaluates =
       let found : Evaluates read.0 state now (Ok Silent) = evaluates read.0 read.2 in
-      let answers : IsStatementAnswer line read.0 (done found.0 now) (says [] now) =
-      subst (λ (b : Bool). MatchBool b (says [] now ≡ says [] now) (Prints found.0 now (says [] now))) (sym found.2) refl in
+      let answers : IsStatementAnswer line read.0 (done found.0 now) (text_answer [] now) =
+      subst (λ (b : Bool). MatchBool b (text_answer [] now ≡ text_answer [] now) (IsPrintedAnswer found.0 now (text_answer [] now))) (sym found.2) refl in
       outcome_of_silence state now line old (statement read.0) read.1
-      (subst (λ (o : Outcome ArrayValue). IsStatementAnswer line read.0 o (says [] now)) (sym found.1) answers)
+      (subst (λ (o : Outcome ArrayValue). IsStatementAnswer line read.0 o (text_answer [] now)) (sym found.1) answers)
 
   -- another statement writes its value's text
   pub outcome_of_text : {T E : Type 0} (text : String Global) (old new : Option (List ℕ)) (put : Result T E) (r : Result Next RunFault)
@@ -136,10 +136,10 @@ module _ (state now : WorkspaceValue) (line : List ℕ) (ops : List Operation) (
   outcome_of_text text old new put r evaluates e written =
       let found : Evaluates read.0 state now (Ok (Text text)) = evaluates read.0 read.2 in
       let printed : IsPrinted found.0 now.width (string_bytes text) = found.2.1 in
-      let answer : Answer WorkspaceValue = says (encode_utf8_all printed.0) now in
-      let prints : Prints found.0 now answer = (printed.0, printed.1, refl) in
+      let answer : Answer WorkspaceValue = text_answer (encode_utf8_all printed.0) now in
+      let prints : IsPrintedAnswer found.0 now answer = (printed.0, printed.1, refl) in
       let answers : IsStatementAnswer line read.0 (done found.0 now) answer =
-      subst (λ (b : Bool). MatchBool b (answer ≡ says [] now) (Prints found.0 now answer)) (sym found.2.0) prints in
+      subst (λ (b : Bool). MatchBool b (answer ≡ text_answer [] now) (IsPrintedAnswer found.0 now answer)) (sym found.2.0) prints in
       outcome_of_reading state line (string_bytes text) old new (statement read.0) answer put r e read.1
       (subst (λ (o : Outcome ArrayValue). IsStatementAnswer line read.0 o answer) (sym found.1) answers) refl printed.2 written
 
@@ -148,8 +148,8 @@ module _ (state now : WorkspaceValue) (line : List ℕ) (ops : List Operation) (
       → ((tree : Expr) → operations tree ≡ ops → Evaluates tree state now (Err (Error error column))) → r ≡ next_after put
       → Writes old new (report_text (report_of error) line (Some column)) put → IsLineOutcome IsLineStep state now line old new r
   outcome_of_error error column old new put r evaluates e written =
-      outcome_of_reading state line (report_text (report_of error) line (Some column)) old new (statement read.0) (reports (report_of error) line column now) put r e read.1
-      (subst (λ (o : Outcome ArrayValue). IsStatementAnswer line read.0 o (reports (report_of error) line column now)) (sym (evaluates read.0 read.2)) refl) refl refl written
+      outcome_of_reading state line (report_text (report_of error) line (Some column)) old new (statement read.0) (report_answer (report_of error) line column now) put r e read.1
+      (subst (λ (o : Outcome ArrayValue). IsStatementAnswer line read.0 o (report_answer (report_of error) line column now)) (sym (evaluates read.0 read.2)) refl) refl refl written
 
   -- a statement that is refused for want of memory leaves the workspace
   pub outcome_of_no_memory : {T E : Type 0} (old new : Option (List ℕ)) (put : Result T E) (r : Result Next RunFault)
