@@ -6,13 +6,13 @@ use Rattle.apl_array.specs.Array.{ArrayValue}
 use Rattle.apl_array.specs.Range.{HasNumbersInRange}
 use Rattle.apl_grammar.specs.declared.program.Form.{Form}
 use Rattle.apl_grammar.specs.declared.program.Form.TheVariants.{Plain, Reduce, Inner, Outer}
-use Rattle.apl_print.specs.declared.reports.Report.{Report}
-use Rattle.apl_print.specs.declared.reports.Report.TheVariants.{Syntax}
 use Rattle.apl_array.specs.declared.function.ScalarFunction.{ScalarFunction}
 use Rattle.apl_answer.specs.declared.fault.OpFault.{OpFault}
 use Rattle.apl_array.specs.Valences.{has_monadic, has_dyadic}
 use Rattle.apl_scalar.specs.Monadic.{monadic_answer}
 use Rattle.apl_scalar.specs.Dyadic.{dyadic_answer}
+use Rattle.apl_eval.specs.declared.error.EvalError.{EvalError}
+use Rattle.apl_eval.specs.declared.error.EvalError.TheVariants.{Syntax}
 use Rattle.apl_eval.specs.Functions.{scalar_function, result_of, monadic_scalar, dyadic_scalar, monadic_result, dyadic_result, index_result, assign_at_result}
 use Rattle.apl_eval.proofs.LawfulLemmas.{ResultsInRange}
 
@@ -21,7 +21,7 @@ pub record AnswersInRange : Type 0 where
   pub monadic : (f : ScalarFunction) (b answer : ArrayValue) → HasNumbersInRange b → monadic_answer f b ≡ Ok answer → HasNumbersInRange answer
   pub dyadic : (f : ScalarFunction) (a b answer : ArrayValue) → HasNumbersInRange a → HasNumbersInRange b → dyadic_answer f a b ≡ Ok answer → HasNumbersInRange answer
 
-either_result : (b : Bool) (r s : Result ArrayValue Report) → IfOk r HasNumbersInRange → IfOk s HasNumbersInRange → IfOk (cond b r s) HasNumbersInRange
+either_result : (b : Bool) (r s : Result ArrayValue EvalError) → IfOk r HasNumbersInRange → IfOk s HasNumbersInRange → IfOk (cond b r s) HasNumbersInRange
 either_result true r s h k = h
 either_result false r s h k = k
 

@@ -3,20 +3,20 @@ use Rattle.std.specs.Prelude.{ℕ, Bool, true, false, List, [], ◌∷◌, Optio
 use Rattle.apl_array.specs.Array.{ArrayValue}
 use Rattle.apl_grammar.specs.declared.program.Form.{Form}
 use Rattle.apl_grammar.specs.Tree.{Expr, value, dyadic, monadic, assign, assign_at, Operand, constant, name, group, index, Slots, last, more, Slot, nothing, given, Axis, none, along}
-use Rattle.apl_print.specs.declared.reports.Report.{Report}
-use Rattle.apl_print.specs.declared.reports.Report.TheVariants.{Value}
+use Rattle.apl_eval.specs.declared.error.EvalError.{EvalError}
+use Rattle.apl_eval.specs.declared.error.EvalError.TheVariants.{Value}
 use Rattle.apl_eval.specs.Workspace.{WorkspaceValue, value_of, assigned}
 use Rattle.apl_eval.specs.Functions.{caret_column, monadic_result, dyadic_result, index_result, assign_at_result}
 
--- a value and the workspace behind it, or a report at a column and the workspace that is kept
+-- a value and the workspace behind it, or an error at a column and the workspace that is kept
 pub data Outcome (V : Type 0) : Type 0 where
   done : V → WorkspaceValue → Outcome V
-  failed : Report → (column : ℕ) → WorkspaceValue → Outcome V
+  failed : EvalError → (column : ℕ) → WorkspaceValue → Outcome V
 
--- what comes next, after a value; a fault ends the evaluation
+-- what comes next, after a value; an error ends the evaluation
 abbrev pub then : {V U : Type 0} → Outcome V → (V → WorkspaceValue → Outcome U) → Outcome U
 then (done v w) next = next v w
-then (failed report column w) next = failed report column w
+then (failed error column w) next = failed error column w
 
 -- the outcome in each workspace
 abbrev pub Evaluation : Type 0 → Type 0
@@ -26,13 +26,13 @@ Evaluation V = WorkspaceValue → Outcome V
 abbrev pub ◌>>=◌ : {V U : Type 0} → Evaluation V → (V → Evaluation U) → Evaluation U
 ◌>>=◌ first next = λ w. then (first w) next
 
--- the value, or the report shown at this column
-abbrev pub outcome_at : (column : ℕ) → Result ArrayValue Report → Evaluation ArrayValue
+-- the value, or the error at this column
+abbrev pub outcome_at : (column : ℕ) → Result ArrayValue EvalError → Evaluation ArrayValue
 outcome_at column (Ok v) w = done v w
-outcome_at column (Err report) w = failed report column w
+outcome_at column (Err error) w = failed error column w
 
 -- the value of a name, and Value where it has none
-abbrev pub name_result : Option ArrayValue → Result ArrayValue Report
+abbrev pub name_result : Option ArrayValue → Result ArrayValue EvalError
 name_result (Some v) = Ok v
 name_result None = Err Value
 
@@ -52,22 +52,22 @@ index_outcome column array slots w = outcome_at column (index_result w.origin ar
 abbrev pub assign_outcome : (text : List ℕ) → (right : ArrayValue) → Evaluation ArrayValue
 assign_outcome text right w = done right (assigned text right w)
 
--- the report of an indexed assignment is shown at its arrow, and Value at the name
-abbrev pub assign_at_column : (column arrow : ℕ) → Report → ℕ
+-- the error of an indexed assignment is at its arrow, and Value at the name
+abbrev pub assign_at_column : (column arrow : ℕ) → EvalError → ℕ
 assign_at_column column arrow Value = column
 assign_at_column column arrow _ = arrow
 
 -- a name gets the changed array; the value of the assignment is the value on its right
-abbrev pub assign_at_outcome_of : Result ArrayValue Report → (column : ℕ) → (text : List ℕ) → (arrow : ℕ) → (right : ArrayValue) → Evaluation ArrayValue
+abbrev pub assign_at_outcome_of : Result ArrayValue EvalError → (column : ℕ) → (text : List ℕ) → (arrow : ℕ) → (right : ArrayValue) → Evaluation ArrayValue
 assign_at_outcome_of (Ok changed) column text arrow right w = done right (assigned text changed w)
-assign_at_outcome_of (Err report) column text arrow right w = failed report (assign_at_column column arrow report) w
+assign_at_outcome_of (Err error) column text arrow right w = failed error (assign_at_column column arrow error) w
 
 abbrev pub assign_at_outcome : (column : ℕ) → (text : List ℕ) → (arrow : ℕ) → (slots : List (Option ArrayValue)) → (right : ArrayValue) → Evaluation ArrayValue
 assign_at_outcome column text arrow slots right w =
     assign_at_outcome_of (assign_at_result w.origin (value_of text w) slots right) column text arrow right w
 
 -- Operands come before what they are operands of: the expression on the right first, then the axis, then the left operand;
--- the slots of a list from the last to the first, then the array. A fault keeps the assignments made before it.
+-- the slots of a list from the last to the first, then the array. An error keeps the assignments made before it.
 abbrev mutual
   pub meaning_of : Expr → Evaluation ArrayValue
   meaning_of (value o) = meaning_of_operand o

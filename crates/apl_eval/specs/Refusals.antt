@@ -1,19 +1,19 @@
 -- Why a function has no value, beside want of memory. No contract of a public function cites this file.
 use Rattle.std.specs.Prelude.{◌≡◌, Result, Ok, Err}
 use Rattle.apl_array.specs.Array.{ArrayValue}
-use Rattle.apl_print.specs.declared.reports.Report.{Report}
 use Rattle.apl_answer.specs.declared.fault.OpFault.{OpFault}
 use Rattle.apl_answer.specs.declared.fault.OpFault.TheVariants as fault
-use Rattle.apl_eval.specs.Functions.{report_of}
+use Rattle.apl_eval.specs.declared.error.EvalError.{EvalError}
+use Rattle.apl_eval.specs.Functions.{error_of}
 use Rattle.apl_eval.specs.declared.functions.Refusal.{Refusal}
-use Rattle.apl_eval.specs.declared.functions.Refusal.TheVariants.{Fault, Memory}
+use Rattle.apl_eval.specs.declared.functions.Refusal.TheVariants.{Error, Memory}
 
 abbrev pub refusal_of : OpFault → Refusal
 refusal_of fault.Memory = Memory
-refusal_of f = Fault (report_of f)
+refusal_of f = Error (error_of f)
 
--- the value or the report that there is; of want of memory nothing is said
-abbrev pub Answers : Result ArrayValue Report → Result ArrayValue Refusal → Type 0
+-- the value or the error that there is; of want of memory nothing is said
+abbrev pub Answers : Result ArrayValue EvalError → Result ArrayValue Refusal → Type 0
 Answers wanted (Ok array) = wanted ≡ Ok array
-Answers wanted (Err (Fault report)) = wanted ≡ Err report
+Answers wanted (Err (Error error)) = wanted ≡ Err error
 Answers wanted (Err Memory) = Unit {0}

@@ -1,9 +1,9 @@
 //! The stack of what waits for operations.
-ghost use Rattle.std.specs.Prelude.{◌≡◌, ◌≤◌, List, [], ◌∷◌, ◌++◌, length, map, Some, None, is_some, option_copied, IfOk};
+ghost use Rattle.std.specs.Prelude.{◌≡◌, ◌≤◌, ◌+◌, List, [], ◌∷◌, ◌++◌, length, map, Some, None, is_some, option_copied, IfOk};
 ghost use Rattle.apl_eval.specs.Steps.{Item, item_of, under_axis, HasValue, HasAxis};
 
 use apl_array::Array;
-use apl_grammar::Brackets;
+use apl_grammar::{Brackets, Columns};
 use std::alloc::{AllocError, Global};
 use std::marker::Model;
 use std::rc::Rc;
@@ -80,12 +80,17 @@ impl Stack {
         }
     }
 
-    /// Takes so many slots, of which the first one is on top.
-    pub(crate) fn pop_slots(&mut self, alloc: Global, count: usize) -> Result<Slots, AllocError>
-        requires { count ≤ length self.old }
-        ensures count { IfOk result (λ slots. length slots ≡ count) }
+    /// Takes the slots of a list with these semicolons, of which the first one is on top.
+    pub(crate) fn pop_slots(
+        &mut self,
+        alloc: Global,
+        semicolons: &Columns,
+    ) -> Result<Slots, AllocError>
+        requires { length semicolons.now + 1 ≤ length self.old }
+        ensures count { IfOk result (λ slots. length slots ≡ length semicolons.now + 1) }
         ensures items { IfOk result (λ slots. self.old ≡ slots ++ self.new) }
     {
+        let count = semicolons.as_slice().len() + 1;
         let mut slots = Vec::new(alloc);
         'slots: for _ in 0..count {
             let Some(slot) = self.items.pop() else {

@@ -4,8 +4,8 @@ ghost use Rattle.std.specs.FinMap.{empty};
 ghost use Rattle.apl_array.specs.Array.{ArrayValue};
 ghost use Rattle.apl_grammar.specs.Tree.{Expr, operations};
 ghost use Rattle.apl_grammar.specs.declared.program.Operation.TheVariants as op;
-ghost use Rattle.apl_print.specs.declared.reports.Report.{Report};
 ghost use Rattle.apl_print.specs.Width.{least_width, most_width};
+ghost use Rattle.apl_eval.specs.declared.error.EvalError.{EvalError};
 ghost use Rattle.apl_eval.specs.Workspace.{WorkspaceValue, value_of};
 ghost use Rattle.apl_eval.specs.Functions.{caret_column};
 ghost use Rattle.apl_eval.specs.Meaning.{Outcome, done, outcome_at, name_outcome, assign_at_column, meaning_of, is_assignment};
@@ -13,14 +13,15 @@ ghost use Rattle.apl_eval.specs.Evaluates.{Evaluates, IsShownAs};
 ghost use Rattle.apl_eval.specs.Refusals.{Answers};
 ghost use Rattle.apl_eval.specs.Steps.{step, stuck, onto, staged_in, HasValue, HasValueAbove, HasAxisAbove, HasSlotsAbove, IsOutcome, IsState};
 
-use super::functions::{Refusal, assign_at, caret_column, dyadic, index, monadic};
+use super::error::EvalError;
+use super::functions::{Machine, Refusal, caret_column};
 use super::names::Names;
 use super::stack::{Stack, array_of};
 use super::workspace::Workspace;
-use apl_array::{Array, Origin};
+use apl_array::Array;
 use apl_grammar::{Axis, Brackets, Columns, Function, IndexedName, Operation, Program};
 use apl_pool::{Cut, Gate, Pool};
-use apl_print::{Report, print};
+use apl_print::print;
 use apl_tokens::Constant;
 use std::alloc::{AllocError, AllocFailed, Global};
 use std::rc::Rc;
@@ -38,8 +39,9 @@ pub enum Shown {
 /// Why a statement has no value.
 #[derive(Clone, Copy, Debug, PartialEq, Eq, Drop)]
 pub enum EvalStop {
-    /// The report of a fault, and its column in characters from 0.
-    Error { report: Report, column: usize },
+    /// An error, and its column in characters from 0.
+    Error { error: EvalError, column: usize },
+    /// A growth was refused.
     Memory,
 }
 
@@ -104,23 +106,23 @@ fn name_value(
     match look_up(workspace, staged, name) {
         Some(value) => Ok(value.clone()?),
         None => Err(EvalStop::Error {
-            report: Report::Value,
+            error: EvalError::Value,
             column,
         }),
     }
 }
 
-/// The value of a result, or its report at this column.
+/// The value of a result, or its error at this column.
 fn outcome_at(
     alloc: Global,
     column: usize,
     answer: Result<Array, Refusal>,
 ) -> Result<Rc<Array>, EvalStop>
-    ensures { (wanted : Result ArrayValue Report) → (w : WorkspaceValue) → Answers wanted answer → IsOutcome (outcome_at column wanted w) w result }
+    ensures { (wanted : Result ArrayValue EvalError) → (w : WorkspaceValue) → Answers wanted answer → IsOutcome (outcome_at column wanted w) w result }
 {
     match answer {
         Ok(value) => Ok(Rc::new(alloc, value)?),
-        Err(Refusal::Fault(report)) => Err(EvalStop::Error { report, column }),
+        Err(Refusal::Error(error)) => Err(EvalStop::Error { error, column }),
         Err(Refusal::Memory) => Err(EvalStop::Memory),
     }
 }
@@ -140,102 +142,91 @@ fn put(stack: &mut Stack, value: Result<Rc<Array>, EvalStop>) -> Result<(), Eval
 
 /// Puts a function's result in the place of its arguments on the stack, of which the axis argument is on top.
 fn apply_monadic<R: Threads + Sync, C: Cut + Sync, G: Gate + Sync>(
-    rt: &R,
-    alloc: Global,
-    pool: &Pool<C, G>,
-    origin: Origin,
+    machine: &Machine<'_, R, C, G>,
     stack: &mut Stack,
     function: &Function,
     axis: &Axis,
 ) -> Result<(), EvalStop>
     requires { HasAxisAbove HasValue axis.now stack.old }
-    ensures { (w : WorkspaceValue) → w.origin ≡ origin → IsState (step (op.Monadic function.now axis.now) stack.old w) stack.new w result }
+    ensures { (w : WorkspaceValue) → w.origin ≡ machine.now.workspace.now.origin → IsState (step (op.Monadic function.now axis.now) stack.old w) stack.new w result }
 {
     let form = function.form();
     let axis = stack.pop_axis(axis.brackets());
     let right = stack.pop_value();
     let axis = array_of(&axis);
-    let answer = monadic(rt, alloc, pool, origin, form, axis, &right);
-    put(stack, outcome_at(alloc, caret_column(form), answer))
+    let answer = machine.monadic(form, axis, &right);
+    put(stack, outcome_at(machine.alloc, caret_column(form), answer))
 }
 
 /// Puts a function's result in the place of its arguments on the stack, of which the left one is on top, and the axis argument next.
 fn apply_dyadic<R: Threads + Sync, C: Cut + Sync, G: Gate + Sync>(
-    rt: &R,
-    alloc: Global,
-    pool: &Pool<C, G>,
-    origin: Origin,
+    machine: &Machine<'_, R, C, G>,
     stack: &mut Stack,
     function: &Function,
     axis: &Axis,
 ) -> Result<(), EvalStop>
     requires { HasValueAbove (HasAxisAbove HasValue axis.now) stack.old }
-    ensures { (w : WorkspaceValue) → w.origin ≡ origin → IsState (step (op.Dyadic function.now axis.now) stack.old w) stack.new w result }
+    ensures { (w : WorkspaceValue) → w.origin ≡ machine.now.workspace.now.origin → IsState (step (op.Dyadic function.now axis.now) stack.old w) stack.new w result }
 {
     let form = function.form();
     let left = stack.pop_value();
     let axis = stack.pop_axis(axis.brackets());
     let right = stack.pop_value();
     let axis = array_of(&axis);
-    let answer = dyadic(rt, alloc, pool, origin, form, axis, &left, &right);
-    put(stack, outcome_at(alloc, caret_column(form), answer))
+    let answer = machine.dyadic(form, axis, &left, &right);
+    put(stack, outcome_at(machine.alloc, caret_column(form), answer))
 }
 
 /// Puts the chosen elements of the array on top of the stack in the place of the array and of the slots below it.
 fn apply_index<R: Threads + Sync, C: Cut + Sync, G: Gate + Sync>(
-    rt: &R,
-    alloc: Global,
-    pool: &Pool<C, G>,
-    origin: Origin,
+    machine: &Machine<'_, R, C, G>,
     stack: &mut Stack,
     semicolons: &Columns,
     brackets: &Brackets,
 ) -> Result<(), EvalStop>
     requires { HasValueAbove (HasSlotsAbove (λ below. Unit {0}) (length semicolons.now + 1)) stack.old }
-    ensures { (w : WorkspaceValue) → w.origin ≡ origin → IsState (step (op.Index semicolons.now brackets.now) stack.old w) stack.new w result }
+    ensures { (w : WorkspaceValue) → w.origin ≡ machine.now.workspace.now.origin → IsState (step (op.Index semicolons.now brackets.now) stack.old w) stack.new w result }
 {
     let array = stack.pop_value();
-    let slots = stack.pop_slots(alloc, semicolons.as_slice().len() + 1)?;
-    let chosen = slots.arrays(alloc)?;
-    let answer = index(rt, alloc, pool, origin, &array, chosen.as_slice());
-    put(stack, outcome_at(alloc, brackets.left, answer))
+    let slots = stack.pop_slots(machine.alloc, semicolons)?;
+    let chosen = slots.arrays(machine.alloc)?;
+    let answer = machine.index(&array, chosen.as_slice());
+    put(stack, outcome_at(machine.alloc, brackets.left, answer))
 }
 
-/// The column at which an indexed assignment's report is shown.
-fn assign_at_column(target: &IndexedName, report: Report) -> usize
-    ensures { result ≡ assign_at_column target.now.column target.now.arrow report }
+/// The column of an indexed assignment's error.
+fn assign_at_column(target: &IndexedName, error: EvalError) -> usize
+    ensures { result ≡ assign_at_column target.now.column target.now.arrow error }
 {
-    match report {
-        Report::Value => target.column,
+    match error {
+        EvalError::Value => target.column,
         _ => target.arrow,
     }
 }
 
 /// Gives a name its array with the value on the stack in the place of the chosen elements; the value stays on the stack.
 fn apply_assign_at<R: Threads + Sync, C: Cut + Sync, G: Gate + Sync>(
-    rt: &R,
-    alloc: Global,
-    pool: &Pool<C, G>,
-    workspace: &Workspace,
+    machine: &Machine<'_, R, C, G>,
     staged: &mut Names,
     stack: &mut Stack,
     target: &IndexedName,
 ) -> Result<(), EvalStop>
     requires { HasSlotsAbove HasValue (length target.now.semicolons + 1) stack.old }
-    ensures { IsState (step (op.AssignAt target.now) stack.old (staged_in staged.old workspace.now)) stack.new (staged_in staged.new workspace.now) result }
+    ensures { IsState (step (op.AssignAt target.now) stack.old (staged_in staged.old machine.now.workspace.now)) stack.new (staged_in staged.new machine.now.workspace.now) result }
 {
-    let slots = stack.pop_slots(alloc, target.semicolons.as_slice().len() + 1)?;
-    let chosen = slots.arrays(alloc)?;
+    let slots = stack.pop_slots(machine.alloc, &target.semicolons)?;
+    let chosen = slots.arrays(machine.alloc)?;
     let name = target.name.as_str();
-    let array = array_named(workspace, staged, name);
+    let array = array_named(machine.workspace, staged, name);
     let value = stack.top_value();
-    let origin = workspace.origin();
-    let chosen = chosen.as_slice();
-    match assign_at(rt, alloc, pool, origin, array, chosen, value) {
-        Ok(changed) => Ok(staged.insert(alloc, name, Rc::new(alloc, changed)?)?),
-        Err(Refusal::Fault(report)) => Err(EvalStop::Error {
-            report,
-            column: assign_at_column(target, report),
+    match machine.assign_at(array, chosen.as_slice(), value) {
+        Ok(changed) => {
+            let changed = Rc::new(machine.alloc, changed)?;
+            Ok(staged.insert(machine.alloc, name, changed)?)
+        }
+        Err(Refusal::Error(error)) => Err(EvalStop::Error {
+            error,
+            column: assign_at_column(target, error),
         }),
         Err(Refusal::Memory) => Err(EvalStop::Memory),
     }
@@ -243,61 +234,50 @@ fn apply_assign_at<R: Threads + Sync, C: Cut + Sync, G: Gate + Sync>(
 
 /// Carries out one operation. The line's assignments are staged, and read before the workspace's names.
 fn carry_out<R: Threads + Sync, C: Cut + Sync, G: Gate + Sync>(
-    rt: &R,
-    alloc: Global,
-    pool: &Pool<C, G>,
-    workspace: &Workspace,
+    machine: &Machine<'_, R, C, G>,
     staged: &mut Names,
     stack: &mut Stack,
     operation: &Operation,
 ) -> Result<(), EvalStop>
-    requires { step operation.now stack.old (staged_in staged.old workspace.now) ≢ stuck }
-    ensures { IsState (step operation.now stack.old (staged_in staged.old workspace.now)) stack.new (staged_in staged.new workspace.now) result }
+    requires { step operation.now stack.old (staged_in staged.old machine.now.workspace.now) ≢ stuck }
+    ensures { IsState (step operation.now stack.old (staged_in staged.old machine.now.workspace.now)) stack.new (staged_in staged.new machine.now.workspace.now) result }
 {
-    let origin = workspace.origin();
     match operation {
-        Operation::Constant(_, constant) => put(stack, constant_value(alloc, constant)),
+        Operation::Constant(_, constant) => put(stack, constant_value(machine.alloc, constant)),
         Operation::Name(column, name) => {
-            put(stack, name_value(workspace, staged, *column, name.as_str()))
+            let name = name.as_str();
+            put(stack, name_value(machine.workspace, staged, *column, name))
         }
         Operation::Group(_) => Ok(()),
         Operation::EmptySlot => Ok(stack.push_empty_slot()?),
         Operation::Assign(_, name, _) => {
             let value = stack.top_value().clone()?;
-            staged.insert(alloc, name.as_str(), value)?;
+            staged.insert(machine.alloc, name.as_str(), value)?;
             Ok(())
         }
-        Operation::Dyadic(function, axis) => {
-            apply_dyadic(rt, alloc, pool, origin, stack, function, axis)
-        }
-        Operation::Monadic(function, axis) => {
-            apply_monadic(rt, alloc, pool, origin, stack, function, axis)
-        }
+        Operation::Dyadic(function, axis) => apply_dyadic(machine, stack, function, axis),
+        Operation::Monadic(function, axis) => apply_monadic(machine, stack, function, axis),
         Operation::Index(semicolons, brackets) => {
-            apply_index(rt, alloc, pool, origin, stack, semicolons, brackets)
+            apply_index(machine, stack, semicolons, brackets)
         }
         Operation::AssignAt(target) => {
-            let target = target.indexed_name();
-            apply_assign_at(rt, alloc, pool, workspace, staged, stack, target)
+            apply_assign_at(machine, staged, stack, target.indexed_name())
         }
     }
 }
 
 /// The value of a program. The line's assignments are staged.
 fn run<R: Threads + Sync, C: Cut + Sync, G: Gate + Sync>(
-    rt: &R,
-    alloc: Global,
-    pool: &Pool<C, G>,
-    workspace: &Workspace,
+    machine: &Machine<'_, R, C, G>,
     staged: &mut Names,
     program: &Program,
 ) -> Result<Rc<Array>, EvalStop>
     requires { staged.old ≡ empty }
-    ensures { (tree : Expr) → operations tree ≡ program.now → IsOutcome (meaning_of tree workspace.now) (staged_in staged.new workspace.now) result }
+    ensures { (tree : Expr) → operations tree ≡ program.now → IsOutcome (meaning_of tree machine.now.workspace.now) (staged_in staged.new machine.now.workspace.now) result }
 {
-    let mut stack = Stack::new(alloc);
+    let mut stack = Stack::new(machine.alloc);
     'operations: for operation in program.operations() {
-        match carry_out(rt, alloc, pool, workspace, staged, &mut stack, operation) {
+        match carry_out(machine, staged, &mut stack, operation) {
             Ok(()) => {}
             Err(stop) => return Err(stop),
         }
@@ -329,7 +309,7 @@ fn text_of(alloc: Global, program: &Program, value: &Array, width: u8) -> Result
 
 /// Evaluates a statement in a workspace.
 ///
-/// An assignment shows nothing, and another statement the text of its value, printed at the workspace's width. After a fault the
+/// An assignment shows nothing, and another statement the text of its value, printed at the workspace's width. After an error the
 /// assignments made before it are kept. What is not built so far is a syntax error, once its operands have values. After want of
 /// memory the workspace is as it was. The pool computes the elements of scalar functions, and is not seen in the answer.
 pub fn eval<R: Threads + Sync, C: Cut + Sync, G: Gate + Sync>(
@@ -342,15 +322,21 @@ pub fn eval<R: Threads + Sync, C: Cut + Sync, G: Gate + Sync>(
     ensures { (tree : Expr) → operations tree ≡ program.now → Evaluates tree workspace.old workspace.new result }
 {
     let mut staged = Names::new(alloc);
-    match run(rt, alloc, pool, workspace, &mut staged, program) {
+    let machine = Machine {
+        rt,
+        alloc,
+        pool,
+        workspace,
+    };
+    match run(&machine, &mut staged, program) {
         Ok(value) => {
             let shown = text_of(alloc, program, &value, workspace.width())?;
             workspace.keep(staged)?;
             Ok(shown)
         }
-        Err(EvalStop::Error { report, column }) => {
+        Err(EvalStop::Error { error, column }) => {
             workspace.keep(staged)?;
-            Err(EvalStop::Error { report, column })
+            Err(EvalStop::Error { error, column })
         }
         Err(EvalStop::Memory) => Err(EvalStop::Memory),
     }

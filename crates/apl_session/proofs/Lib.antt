@@ -2,7 +2,6 @@ pub mod WrittenLemmas
 pub mod LineLemmas
 pub mod RunLemmas
 pub mod SourceLemmas
-pub mod LineAnswers
 pub mod LawLemmas
 pub mod Steps
 pub mod SomeSteps

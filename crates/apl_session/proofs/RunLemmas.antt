@@ -12,8 +12,8 @@ use Rattle.apl_print.specs.Text.{line_feed}
 use Rattle.apl_session.specs.Lines.{lines_of, IsUnbroken}
 use Rattle.apl_session.specs.Run.{Answer, Semantics, IsAnswer, IsRun, text_of}
 use Rattle.apl_session.specs.LineAnswer.{IsLineAnswered}
-use Rattle.apl_session.specs.Outcome.{IsSourceText, AnswersAll, AnswersFront, AnswersLines}
-use Rattle.apl_session.specs.Progress.{Leads, IsUnheld, Progress, IsBlockAnswered}
+use Rattle.apl_session.specs.Outcome.{IsSourceText, AnswersAll, AnswersFront, AnswersLines, BeginsWithUnansweredLine}
+use Rattle.apl_session.specs.Progress.{Leads, Progress, IsBlockAnswered}
 use Rattle.apl_session.specs.declared.interpreter.Next.{Next}
 use Rattle.apl_session.specs.declared.interpreter.Next.TheVariants.{Go, End}
 use Rattle.apl_session.specs.declared.interpreter.RunFault.{RunFault}
@@ -251,15 +251,17 @@ module _ {W : Type 0} (semantics : Semantics W) where
       subst (λ result. IsLineAnswered semantics state last line a b result) is (answered (λ memory. other (sym is ∙ memory)))
 
   -- a line that could not be held: its beginning and what follows it
-  unheld : (most : ℕ) (held rest line after : List ℕ) → rest ≡ line ++ line_feed ∷ after → IsUnbroken (held ++ line) → 0 < length held
-      → length rest ≤ most → IsUnheld most (held ++ rest)
-  unheld most held rest line after is unbroken some few = record {
+  unanswered_line : (most : ℕ) (held rest line after : List ℕ) → rest ≡ line ++ line_feed ∷ after → IsUnbroken (held ++ line) → 0 < length held
+      → length rest ≤ most → BeginsWithUnansweredLine most (Some []) (held ++ rest)
+  unanswered_line most held rest line after is unbroken some few = record {
     front = held ++ line;
     more = line_feed ∷ after;
-    is_bytes = ap (λ rest. held ++ rest) is ∙ sym (append_assoc held line (line_feed ∷ after));
+    still = [];
+    is_bytes = ap (λ rest. held ++ rest) is ∙ sym (append_assoc held line (line_feed ∷ after)) ∙ ap (λ more. (held ++ line) ++ more) (sym (append-nil (line_feed ∷ after)));
     some = omega (arith, length-append {A = ℕ});
     unbroken = unbroken;
     few = omega (arith, length-append {A = ℕ}, ap length is);
+    is_source = refl;
   }
 
   -- the line's fault is the block's
@@ -274,21 +276,23 @@ module _ {W : Type 0} (semantics : Semantics W) where
   block_fails Memory state mid last most bytes held rest line after left a b c is unbroken few first answered memory =
       let same = memory refl in
       let far = subst (λ known. Progress semantics state mid bytes (held ++ rest) a known) (sym same.1) first in
-      (held ++ rest, subst (λ now. Progress semantics state now bytes (held ++ rest) a c) (sym same.0) far, unheld most held rest line after is unbroken same.2 few)
+      (held ++ rest, subst (λ now. Progress semantics state now bytes (held ++ rest) a c) (sym same.0) far, unanswered_line most held rest line after is unbroken same.2 few)
 
   -- the end of the block could not be held
-  pub end_unheld : (state mid : W) (most : ℕ) (bytes held rest : List ℕ) (a b : Option (List ℕ)) → IsUnbroken held → IsUnbroken rest → 0 < length rest
-      → Progress semantics state mid bytes (held ++ rest) a b → (left : List ℕ) × Progress semantics state mid bytes left a b × IsUnheld most left
-  end_unheld state mid most bytes held rest a b unbroken_held unbroken some first = (
+  pub end_unanswered : (state mid : W) (most : ℕ) (bytes held rest : List ℕ) (a b : Option (List ℕ)) → IsUnbroken held → IsUnbroken rest → 0 < length rest
+      → Progress semantics state mid bytes (held ++ rest) a b → (left : List ℕ) × Progress semantics state mid bytes left a b × BeginsWithUnansweredLine most (Some []) left
+  end_unanswered state mid most bytes held rest a b unbroken_held unbroken some first = (
     held ++ rest,
     first,
     record {
       front = held ++ rest;
       more = [];
+      still = [];
       is_bytes = sym (append-nil (held ++ rest));
       some = omega (arith, length-append {A = ℕ});
       unbroken = All-append (λ byte. byte ≢ line_feed) held rest unbroken_held unbroken;
       few = omega arith;
+      is_source = refl;
     },
   )
 

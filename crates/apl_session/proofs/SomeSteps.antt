@@ -17,7 +17,7 @@ use Rattle.apl_eval.specs.Workspace.{WorkspaceValue, with_origin, with_width, op
 use Rattle.apl_eval.specs.Meaning.{Outcome, done, failed, meaning_of, is_assignment}
 use Rattle.apl_eval.specs.Lawful.{IsLawful, IsLawfulOutcome}
 use Rattle.apl_session.specs.Run.{Answer, IsTotal}
-use Rattle.apl_session.specs.Step.{says, reports, obeyed, Prints, IsStatementAnswer, IsAnswerTo, session_semantics}
+use Rattle.apl_session.specs.Step.{text_answer, report_answer, command_answer, report_of, IsPrintedAnswer, IsStatementAnswer, IsAnswerTo, session_semantics}
 
 -- the laws of the crates below
 pub record StepLaws : Type 0 where
@@ -32,28 +32,28 @@ pub record StepLaws : Type 0 where
 module _ (laws : StepLaws) where
   -- a value is printed, unless the statement is an assignment
   some_done : (silent : Bool) (v : ArrayValue) (after : WorkspaceValue) → HasNumbersInRange v → IsLawful after
-      → (answer : Answer WorkspaceValue) × MatchBool silent (answer ≡ says [] after) (Prints v after answer) × IsLawful answer.after
-  some_done true v after numbers lawful = (says [] after, refl, lawful)
+      → (answer : Answer WorkspaceValue) × MatchBool silent (answer ≡ text_answer [] after) (IsPrintedAnswer v after answer) × IsLawful answer.after
+  some_done true v after numbers lawful = (text_answer [] after, refl, lawful)
   some_done false v after numbers lawful =
       let shown = laws.shown v after.width numbers lawful.least_width in
-      (says (encode_utf8_all shown.0) after, (shown.0, shown.1, refl), lawful)
+      (text_answer (encode_utf8_all shown.0) after, (shown.0, shown.1, refl), lawful)
 
   some_statement : (line : List ℕ) (tree : Expr) (outcome : Outcome ArrayValue) → IsLawfulOutcome outcome
       → (answer : Answer WorkspaceValue) × IsStatementAnswer line tree outcome answer × IsLawful answer.after
   some_statement line tree (done v after) (numbers, lawful) = some_done (is_assignment tree) v after numbers lawful
-  some_statement line tree (failed report column after) lawful = (reports report line column after, refl, lawful)
+  some_statement line tree (failed error column after) lawful = (report_answer (report_of error) line column after, refl, lawful)
 
-  obeyed_lawful : (state : WorkspaceValue) (line : List ℕ) (given : Command) → IsReading line (command given) → IsLawful state → IsLawful (obeyed given state).after
-  obeyed_lawful state line (SetOrigin origin) is lawful = laws.origin origin state lawful
-  obeyed_lawful state line (Width width) (characters, listed, (text, word, argument, has, parts, (spelled, digits, least, greatest))) lawful =
+  command_answer_lawful : (state : WorkspaceValue) (line : List ℕ) (given : Command) → IsReading line (command given) → IsLawful state → IsLawful (command_answer given state).after
+  command_answer_lawful state line (SetOrigin origin) is lawful = laws.origin origin state lawful
+  command_answer_lawful state line (Width width) (characters, listed, (text, word, argument, has, parts, (spelled, digits, least, greatest))) lawful =
       laws.width width state least greatest lawful
-  obeyed_lawful state line Clear is lawful = laws.opening
-  obeyed_lawful state line Off is lawful = lawful
-  obeyed_lawful state line Incorrect is lawful = lawful
+  command_answer_lawful state line Clear is lawful = laws.opening
+  command_answer_lawful state line Off is lawful = lawful
+  command_answer_lawful state line Incorrect is lawful = lawful
 
   some_answer : (state : WorkspaceValue) (line : List ℕ) (r : Reading) → IsReading line r → IsLawful state
       → (answer : Answer WorkspaceValue) × IsAnswerTo state line r answer × IsLawful answer.after
-  some_answer state line (command given) is lawful = (obeyed given state, refl, obeyed_lawful state line given is lawful)
+  some_answer state line (command given) is lawful = (command_answer given state, refl, command_answer_lawful state line given is lawful)
   some_answer state line (statement tree) (characters, listed, (not, (lexed, tree_is))) lawful =
       some_statement line tree (meaning_of tree state) (laws.outcome tree state (laws.constants characters (spells tree) lexed) lawful)
   some_answer state line blank is lawful = (_, refl, lawful)

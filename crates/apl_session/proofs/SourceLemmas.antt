@@ -1,11 +1,11 @@
 -- How a run comes out, by what the source tells.
-use Rattle.std.proofs.Common.{◌≡◌, ℕ, ◌≤◌, List, ◌++◌, length, take, Option, Some, refl, ap, ◌∙◌, subst, arith, append_assoc, append-nil}
+use Rattle.std.proofs.Common.{◌≡◌, ℕ, ◌≤◌, List, [], ◌++◌, length, take, Option, Some, refl, ap, ◌∙◌, subst, arith, append_assoc, append-nil}
 use Rattle.std.specs.Io.KnownBytes.{Consumes, Keeps, IsAtEnd}
 use Rattle.std.proofs.KnownBytes.{Consumes-trans, Consumes-kept, Consumes-whole}
 use Rattle.apl_session.specs.Lines.{IsUnbroken}
 use Rattle.apl_session.specs.Run.{Semantics}
-use Rattle.apl_session.specs.Outcome.{IsSourceText, AnswersAll, AnswersFront, AnswersLines, BeginsUnbroken, BeginsUnheld}
-use Rattle.apl_session.specs.Progress.{IsUnheld, Progress}
+use Rattle.apl_session.specs.Outcome.{IsSourceText, AnswersAll, AnswersFront, AnswersLines, BeginsUnbroken, BeginsWithUnansweredLine}
+use Rattle.apl_session.specs.Progress.{Progress}
 use Rattle.apl_session.proofs.RunLemmas.{Progress-trans, Progress-more, all_after, front_after, AnswersAll-source, AnswersFront-source, AnswersLines-source, left_of, IsSourceText-given, IsSourceText-left}
 
 -- a source that is at its end gave the whole text
@@ -21,12 +21,15 @@ nothing_more known before after given room n none gave gives =
     subst (Consumes known after) same all
 
 -- what could not be held, and after it what the source still has
-begins_unheld : (block most : ℕ) (rest : List ℕ) (after : Option (List ℕ)) → block ≤ most → IsUnheld block rest → BeginsUnheld most after (rest ++ left_of after)
-begins_unheld block most rest after within is = record {
+begins_before : (block most : ℕ) (rest : List ℕ) (after : Option (List ℕ)) → block ≤ most → BeginsWithUnansweredLine block (Some []) rest
+    → BeginsWithUnansweredLine most after (rest ++ left_of after)
+begins_before block most rest after within is = record {
   front = is.front;
   more = is.more;
   still = left_of after;
-  is_bytes = ap (λ rest. rest ++ left_of after) is.is_bytes ∙ append_assoc is.front is.more (left_of after);
+  is_bytes =
+      let whole : rest ≡ is.front ++ is.more = is.is_bytes ∙ ap (λ still. is.front ++ (is.more ++ still)) is.is_source ∙ ap (λ more. is.front ++ more) (append-nil is.more) in
+      ap (λ rest. rest ++ left_of after) whole ∙ append_assoc is.front is.more (left_of after);
   some = is.some;
   unbroken = is.unbroken;
   few = let few : length is.more ≤ block = is.few in omega arith;
@@ -63,12 +66,12 @@ module _ {W : Type 0} (semantics : Semantics W) where
 
   pub memory_within : (state mid last : W) (most : ℕ) (known before after : Option (List ℕ)) (given held block : List ℕ) (a b c : Option (List ℕ))
       → Consumes known before given → Consumes before after block → Progress semantics state mid given held a b
-      → ((rest : List ℕ) × Progress semantics mid last (held ++ block) rest b c × IsUnheld (length block) rest) → length block ≤ most
-      → AnswersLines semantics state known a c (BeginsUnheld most after)
+      → ((rest : List ℕ) × Progress semantics mid last (held ++ block) rest b c × BeginsWithUnansweredLine (length block) (Some []) rest) → length block ≤ most
+      → AnswersLines semantics state known a c (BeginsWithUnansweredLine most after)
   memory_within state mid last most known before after given held block a b c gave gives first second within =
       let whole = takes_more state mid last known before after given held block second.0 a b c gave gives first second.1 in
-      AnswersLines-source semantics state last whole.0 second.0 (left_of after) known a c (BeginsUnheld most after) (IsSourceText-given known after whole.0 whole.1) whole.2
-      (begins_unheld (length block) most second.0 after within second.2)
+      AnswersLines-source semantics state last whole.0 second.0 (left_of after) known a c (BeginsWithUnansweredLine most after) (IsSourceText-given known after whole.0 whole.1) whole.2
+      (begins_before (length block) most second.0 after within second.2)
 
   pub read_fails : (state mid : W) (known before after : Option (List ℕ)) (given held : List ℕ) (a b : Option (List ℕ))
       → Consumes known before given → Keeps before after → IsUnbroken held → Progress semantics state mid given held a b

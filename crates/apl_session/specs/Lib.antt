@@ -6,4 +6,4 @@ pub mod Outcome
 pub mod Progress
 pub mod Ending
 pub mod Step
-pub mod Given
+pub mod LineStep

@@ -54,7 +54,7 @@ pub record BeginsUnbroken (known : Option (List ℕ)) (bytes : List ℕ) : Type 
 
 -- These bytes begin with at least one byte of a line. After those come at most so many that were taken with them, and then
 -- what the source still has.
-pub record BeginsUnheld (most : ℕ) (known : Option (List ℕ)) (bytes : List ℕ) : Type 0 where
+pub record BeginsWithUnansweredLine (most : ℕ) (known : Option (List ℕ)) (bytes : List ℕ) : Type 0 where
   pub front : List ℕ
   pub more : List ℕ
   pub still : List ℕ

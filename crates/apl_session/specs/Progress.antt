@@ -1,10 +1,10 @@
 -- How far a run has come, in the middle of its text. No contract of a public function cites this file.
-use Rattle.std.specs.Prelude.{◌≡◌, ℕ, ◌<◌, ◌≤◌, List, [], ◌∷◌, ◌++◌, length, flat_map, All, Option, Some, false, Result, Ok, Err}
+use Rattle.std.specs.Prelude.{◌≡◌, ℕ, List, [], ◌∷◌, ◌++◌, flat_map, All, Option, Some, false, Result, Ok, Err}
 use Rattle.std.specs.Io.KnownBytes.{Appends}
 use Rattle.apl_print.specs.Text.{ended}
 use Rattle.apl_session.specs.Lines.{IsUnbroken}
 use Rattle.apl_session.specs.Run.{Answer, Semantics, IsAnswer, text_of}
-use Rattle.apl_session.specs.Outcome.{AnswersAll, AnswersFront}
+use Rattle.apl_session.specs.Outcome.{AnswersAll, AnswersFront, BeginsWithUnansweredLine}
 use Rattle.apl_session.specs.declared.interpreter.Next.{Next}
 use Rattle.apl_session.specs.declared.interpreter.Next.TheVariants.{Go, End}
 use Rattle.apl_session.specs.declared.interpreter.RunFault.{RunFault}
@@ -17,15 +17,6 @@ Leads semantics state [] (answer ∷ answers) last = ⊥
 Leads semantics state (line ∷ lines) [] last = ⊥
 Leads semantics state (line ∷ lines) (answer ∷ answers) last = IsAnswer semantics state line answer × (answer.ends ≡ false)
     × Leads semantics answer.after lines answers last
-
--- these bytes are at least one of a line, and after those at most so many more
-pub record IsUnheld (most : ℕ) (bytes : List ℕ) : Type 0 where
-  pub front : List ℕ
-  pub more : List ℕ
-  pub is_bytes : bytes ≡ front ++ more
-  pub some : 0 < length front
-  pub unbroken : IsUnbroken front
-  pub few : length more ≤ most
 
 module _ {W : Type 0} (semantics : Semantics W) where
   -- From one state to another, the whole lines at the front of the bytes were answered, and the rest is still to come.
@@ -44,5 +35,5 @@ module _ {W : Type 0} (semantics : Semantics W) where
   -- whatever follows, the whole run was written
   IsBlockAnswered state now most bytes held old new (Ok End) = (more : List ℕ) → AnswersAll semantics state (Some (bytes ++ more)) old new
   IsBlockAnswered state now most bytes held old new (Err Write) = (more : List ℕ) → AnswersFront semantics state (Some (bytes ++ more)) old new
-  IsBlockAnswered state now most bytes held old new (Err Memory) = (rest : List ℕ) × Progress state now bytes rest old new × IsUnheld most rest
+  IsBlockAnswered state now most bytes held old new (Err Memory) = (rest : List ℕ) × Progress state now bytes rest old new × BeginsWithUnansweredLine most (Some []) rest
   IsBlockAnswered state now most bytes held old new (Err Read) = ⊥

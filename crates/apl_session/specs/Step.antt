@@ -9,52 +9,64 @@ use Rattle.apl_print.specs.Replied.{reply_text}
 use Rattle.apl_print.specs.declared.replies.Reply.{Reply}
 use Rattle.apl_print.specs.declared.replies.Reply.TheVariants as reply
 use Rattle.apl_print.specs.declared.reports.Report.{Report}
-use Rattle.apl_print.specs.declared.reports.Report.TheVariants.{Syntax, Limit, Character}
+use Rattle.apl_print.specs.declared.reports.Report.TheVariants as report
 use Rattle.apl_print.specs.Shown.{IsShown}
 use Rattle.apl_array.specs.Array.{ArrayValue}
 use Rattle.apl_array.specs.Axes.{origin_number}
+use Rattle.apl_eval.specs.declared.error.EvalError.{EvalError}
+use Rattle.apl_eval.specs.declared.error.EvalError.TheVariants as error
 use Rattle.apl_eval.specs.Workspace.{WorkspaceValue, with_origin, with_width, opening_workspace}
 use Rattle.apl_eval.specs.Meaning.{Outcome, done, failed, meaning_of, is_assignment}
 use Rattle.apl_session.specs.Run.{Answer, Semantics}
 
 -- the answer that writes this text and leaves this workspace
-abbrev pub says : List ℕ → WorkspaceValue → Answer WorkspaceValue
-says text workspace = record { text = text; after = workspace; ends = false }
+abbrev pub text_answer : List ℕ → WorkspaceValue → Answer WorkspaceValue
+text_answer text workspace = record { text = text; after = workspace; ends = false }
 
--- the report at a column of the line
-abbrev pub reports : Report → List ℕ → ℕ → WorkspaceValue → Answer WorkspaceValue
-reports report line column workspace = says (report_text report line (Some column)) workspace
+-- the answer that writes the report at a column of the line
+abbrev pub report_answer : Report → List ℕ → ℕ → WorkspaceValue → Answer WorkspaceValue
+report_answer report line column workspace = text_answer (report_text report line (Some column)) workspace
 
 -- the answer that writes the value's text, at the width of the workspace
-abbrev pub Prints : ArrayValue → WorkspaceValue → Answer WorkspaceValue → Type 0
-Prints value workspace answer =
-    (characters : List ℕ) × IsShown value workspace.width characters × (answer ≡ says (encode_utf8_all characters) workspace)
+abbrev pub IsPrintedAnswer : ArrayValue → WorkspaceValue → Answer WorkspaceValue → Type 0
+IsPrintedAnswer value workspace answer =
+    (characters : List ℕ) × IsShown value workspace.width characters × (answer ≡ text_answer (encode_utf8_all characters) workspace)
 
--- the answer to a command is a reply
-abbrev pub replies : Reply → WorkspaceValue → Answer WorkspaceValue
-replies reply workspace = says (reply_text reply) workspace
+-- the answer that writes a reply
+abbrev pub reply_answer : Reply → WorkspaceValue → Answer WorkspaceValue
+reply_answer reply workspace = text_answer (reply_text reply) workspace
 
 -- A command's answer: a setting is told as it was and changed, the workspace is made as it was at first, or the run ends.
-abbrev pub obeyed : Command → WorkspaceValue → Answer WorkspaceValue
-obeyed (Origin origin) workspace = replies (reply.Was (origin_number workspace.origin)) (with_origin origin workspace)
-obeyed (Width width) workspace = replies (reply.Was workspace.width) (with_width width workspace)
-obeyed Clear workspace = replies reply.Clear opening_workspace
-obeyed Off workspace = record { text = []; after = workspace; ends = true }
-obeyed Incorrect workspace = replies reply.Incorrect workspace
+abbrev pub command_answer : Command → WorkspaceValue → Answer WorkspaceValue
+command_answer (Origin origin) workspace = reply_answer (reply.Was (origin_number workspace.origin)) (with_origin origin workspace)
+command_answer (Width width) workspace = reply_answer (reply.Was workspace.width) (with_width width workspace)
+command_answer Clear workspace = reply_answer reply.Clear opening_workspace
+command_answer Off workspace = record { text = []; after = workspace; ends = true }
+command_answer Incorrect workspace = reply_answer reply.Incorrect workspace
 
--- A statement's answer: an assignment writes nothing, another statement its value's text; a fault is reported.
+-- the report of an error of a statement
+abbrev pub report_of : EvalError → Report
+report_of error.Syntax = report.Syntax
+report_of error.Value = report.Value
+report_of error.Index = report.Index
+report_of error.Rank = report.Rank
+report_of error.Length = report.Length
+report_of error.Domain = report.Domain
+report_of error.Limit = report.Limit
+
+-- A statement's answer: an assignment writes nothing, another statement its value's text; an error is reported.
 abbrev pub IsStatementAnswer : List ℕ → Expr → Outcome ArrayValue → Answer WorkspaceValue → Type 0
-IsStatementAnswer line tree (done value after) answer = MatchBool (is_assignment tree) (answer ≡ says [] after) (Prints value after answer)
-IsStatementAnswer line tree (failed report column after) answer = answer ≡ reports report line column after
+IsStatementAnswer line tree (done value after) answer = MatchBool (is_assignment tree) (answer ≡ text_answer [] after) (IsPrintedAnswer value after answer)
+IsStatementAnswer line tree (failed error column after) answer = answer ≡ report_answer (report_of error) line column after
 
 -- the answer to a line that reads so
 abbrev pub IsAnswerTo : WorkspaceValue → List ℕ → Reading → Answer WorkspaceValue → Type 0
-IsAnswerTo workspace line blank answer = answer ≡ says [] workspace
-IsAnswerTo workspace line (command given) answer = answer ≡ obeyed given workspace
+IsAnswerTo workspace line blank answer = answer ≡ text_answer [] workspace
+IsAnswerTo workspace line (command given) answer = answer ≡ command_answer given workspace
 IsAnswerTo workspace line (statement tree) answer = IsStatementAnswer line tree (meaning_of tree workspace) answer
-IsAnswerTo workspace line (character bytes column) answer = answer ≡ reports Character (take bytes line) column workspace
-IsAnswerTo workspace line (syntax column) answer = answer ≡ reports Syntax line column workspace
-IsAnswerTo workspace line (limit column) answer = answer ≡ reports Limit line column workspace
+IsAnswerTo workspace line (character bytes column) answer = answer ≡ report_answer report.Character (take bytes line) column workspace
+IsAnswerTo workspace line (syntax column) answer = answer ≡ report_answer report.Syntax line column workspace
+IsAnswerTo workspace line (limit column) answer = answer ≡ report_answer report.Limit line column workspace
 
 abbrev pub IsStep : WorkspaceValue → List ℕ → Answer WorkspaceValue → Type 0
 IsStep workspace line answer = (reading : Reading) × IsReading line reading × IsAnswerTo workspace line reading answer

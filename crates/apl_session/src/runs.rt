@@ -4,7 +4,7 @@ ghost use Rattle.apl_print.specs.Failures.{one_more};
 ghost use Rattle.apl_session.specs.Lines.{IsUnbroken};
 ghost use Rattle.apl_session.specs.LineAnswer.{IsLineAnswered};
 ghost use Rattle.apl_session.specs.Step.{session_semantics};
-ghost use Rattle.apl_session.specs.Outcome.{AnswersAll, AnswersFront, AnswersLines, BeginsUnbroken, BeginsUnheld};
+ghost use Rattle.apl_session.specs.Outcome.{AnswersAll, AnswersFront, AnswersLines, BeginsUnbroken, BeginsWithUnansweredLine};
 ghost use Rattle.apl_session.specs.Progress.{IsBlockAnswered};
 
 use super::interpreter::{Interpreter, Next, RunFault};
@@ -93,7 +93,7 @@ pub(crate) fn run_with<R: Threads + Sync, C: Cut + Sync, G: Gate + Sync, I: Sour
     // The text of the first lines is written, and nothing else. What is left begins with a byte of the next line, after which
     // at most one block was taken.
     ensures memory { result ≡ Err RunFault.Memory → AnswersLines session_semantics interpreter.old (I.coming source.old)
-        (S.taken sink.old) (S.taken sink.new) (BeginsUnheld BLOCK (I.coming source.new)) }
+        (S.taken sink.old) (S.taken sink.new) (BeginsWithUnansweredLine BLOCK (I.coming source.new)) }
 
     // A fault of a device comes only where the device's count of failures rose in the call, and then it rose by one.
     ensures source_failed { result ≡ Err RunFault.Read → I.failures source.new ≡ one_more (I.failures source.old) }

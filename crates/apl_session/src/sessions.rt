@@ -7,14 +7,14 @@ ghost use Rattle.apl_print.specs.declared.replies.Reply.TheVariants.{Was};
 ghost use Rattle.apl_syntax.specs.Reading.{command as command_reading, statement, IsReading};
 ghost use Rattle.apl_eval.specs.Workspace.{opening_workspace};
 ghost use Rattle.apl_session.specs.Lines.{IsUnbroken};
-ghost use Rattle.apl_session.specs.LineAnswer.{IsLineAnswered, next_after};
-ghost use Rattle.apl_session.specs.Step.{session_semantics};
-ghost use Rattle.apl_session.specs.Given.{IsGiven};
+ghost use Rattle.apl_session.specs.LineAnswer.{IsLineOutcome, IsLineAnswered, next_after};
+ghost use Rattle.apl_session.specs.Step.{report_of, session_semantics};
+ghost use Rattle.apl_session.specs.LineStep.{IsLineStep};
 
 use super::interpreter::{Next, RunFault};
 use super::lines::trim_return;
 use apl_array::Origin;
-use apl_eval::{EvalStop, Shown, Workspace, eval};
+use apl_eval::{EvalError, EvalStop, Shown, Workspace, eval};
 use apl_grammar::Program;
 use apl_pool::{Cut, Gate, Pool};
 use apl_print::{
@@ -86,12 +86,12 @@ fn answer<R: Threads + Sync, C: Cut + Sync, G: Gate + Sync, S: Sink>(
     line: &[u8],
     sink: &mut S,
 ) -> Result<Next, RunFault>
-    ensures given { IsGiven workspace.old workspace.new line.now (S.taken sink.old) (S.taken sink.new) result }
+    ensures answered { IsLineOutcome IsLineStep workspace.old workspace.new line.now (S.taken sink.old) (S.taken sink.new) result }
     ensures failures { CountsFailure (S.failures sink.old) (S.failures sink.new) result }
 {
     match read(alloc, line) {
         Ok(Line::Blank) => Ok(Next::Go),
-        Ok(Line::Command(command)) => obey(workspace, command, line, sink),
+        Ok(Line::Command(command)) => answer_command(workspace, command, line, sink),
         Ok(Line::Statement(program)) => answer_statement(
             workspace, rt, alloc, pool, &program, line, sink,
         ),
@@ -115,14 +115,14 @@ fn answer<R: Threads + Sync, C: Cut + Sync, G: Gate + Sync, S: Sink>(
 }
 
 /// Answers a line that is this command.
-fn obey<S: Sink>(
+fn answer_command<S: Sink>(
     workspace: &mut Workspace,
     command: Command,
     line: &[u8],
     sink: &mut S,
 ) -> Result<Next, RunFault>
     requires { IsReading line.now (command_reading command) }
-    ensures given { IsGiven workspace.old workspace.new line.now (S.taken sink.old) (S.taken sink.new) result }
+    ensures answered { IsLineOutcome IsLineStep workspace.old workspace.new line.now (S.taken sink.old) (S.taken sink.new) result }
     ensures failures { CountsFailure (S.failures sink.old) (S.failures sink.new) result }
 {
     match command {
@@ -166,16 +166,31 @@ fn answer_statement<R: Threads + Sync, C: Cut + Sync, G: Gate + Sync, S: Sink>(
     sink: &mut S,
 ) -> Result<Next, RunFault>
     requires { (tree : Expr) × IsReading line.now (statement tree) × (operations tree ≡ program.now) }
-    ensures given { IsGiven workspace.old workspace.new line.now (S.taken sink.old) (S.taken sink.new) result }
+    ensures answered { IsLineOutcome IsLineStep workspace.old workspace.new line.now (S.taken sink.old) (S.taken sink.new) result }
     ensures failures { CountsFailure (S.failures sink.old) (S.failures sink.new) result }
 {
     match eval(workspace, rt, alloc, pool, program) {
         Ok(Shown::Silent) => Ok(Next::Go),
         Ok(Shown::Text(text)) => go_on(put_all(sink, text.as_bytes())),
-        Err(EvalStop::Error { report, column }) => {
-            go_on(put_report(sink, report, line, Some(column)))
+        Err(EvalStop::Error { error, column }) => {
+            go_on(put_report(sink, report_of(error), line, Some(column)))
         }
         Err(EvalStop::Memory) => go_on(put_report(sink, Report::WsFull, line, None)),
+    }
+}
+
+/// The report of an error of a statement.
+fn report_of(error: EvalError) -> Report
+    ensures { result ≡ report_of error }
+{
+    match error {
+        EvalError::Syntax => Report::Syntax,
+        EvalError::Value => Report::Value,
+        EvalError::Index => Report::Index,
+        EvalError::Rank => Report::Rank,
+        EvalError::Length => Report::Length,
+        EvalError::Domain => Report::Domain,
+        EvalError::Limit => Report::Limit,
     }
 }
 

@@ -1,4 +1,4 @@
-use Rattle.std.proofs.Common.{◌≡◌, ◌+◌, ◌∷◌, ◌++◌, ℕ, List, length, map, ◌∙◌, ap, Some}
+use Rattle.std.proofs.Common.{◌≡◌, ◌+◌, ◌∷◌, ◌++◌, List, length, map, ◌∙◌, ap, Some}
 use Rattle.std.specs.Prelude.{option_copied}
 use Rattle.apl_eval.specs.Functions.{index_result}
 use Rattle.apl_eval.specs.Meaning.{outcome_at}
@@ -11,7 +11,7 @@ pop_slots-requires g c =
     let count = length c.args.semicolons.now + 1 in
     let items = c.pop_value-array.new.self in
     let slots = below_value (HasSlotsAbove (λ (below : List Item). Unit {0}) count) c.args.stack.now c.pop_value-array.result.value items c.requires c.pop_value-array.ensures in
-    rw c.as_slice.ensures (enough_slots (λ (below : List Item). Unit {0}) count items slots)
+    enough_slots (λ (below : List Item). Unit {0}) count items slots
 
 pub returns : goal.returns
 returns g c w same_origin =
@@ -19,9 +19,9 @@ returns g c w same_origin =
     let slots = c.in_ok-slots.slots in
     let below = c.pop_slots.new.self in
     let stack : c.args.stack.now ≡ Some array ∷ slots ++ below = c.pop_value-array.ensures ∙ ap (λ items. Some array ∷ items) c.in_ok-slots.ensures.items in
-    let count : length slots ≡ length c.args.semicolons.now + 1 = c.in_ok-slots.ensures.count ∙ ap (λ (s : List ℕ). length s + 1) c.as_slice.ensures in
+    let count : length slots ≡ length c.args.semicolons.now + 1 = c.in_ok-slots.ensures.count in
     let is = step-index w c.args.semicolons.now c.args.brackets.now array slots below c.args.stack.now count stack in
-    let chosen : map option_copied c.as_slice-2.result.now ≡ slots = ap (map option_copied) c.as_slice-2.ensures.value ∙ c.in_ok-chosen.ensures in
+    let chosen : map option_copied c.as_slice.result.now ≡ slots = ap (map option_copied) c.as_slice.ensures.value ∙ c.in_ok-chosen.ensures in
     let wanted = index_result w.origin array slots in
     let answers = rw (← same_origin, c.deref.ensures, chosen) at c.index-answer.ensures in
     rw is (c.put.ensures (outcome_at c.args.brackets.now.left wanted w) w (c.outcome_at.ensures wanted w answers))

@@ -3,7 +3,7 @@ use Rattle.std.proofs.lemmas.List.Elements.{All-append, All-nil}
 use Rattle.apl_print.specs.Text.{line_feed}
 use Rattle.apl_session.specs.declared.interpreter.Next.TheVariants.{Go, End}
 use Rattle.apl_session.specs.Step.{session_semantics}
-use Rattle.apl_session.proofs.RunLemmas.{none_yet, few_after, block_goes_on, block_ends, block_fails, end_unheld, answered_as}
+use Rattle.apl_session.proofs.RunLemmas.{none_yet, few_after, block_goes_on, block_ends, block_fails, end_unanswered, answered_as}
 use Rattle.apl_session.proofs.runs.answer_block.Goals as goal
 
 pub lines-init : goal.lines-init
@@ -43,4 +43,4 @@ returns-in-Err-clause-outcome g c =
 pub returns-in-Err-extend_from_slice-clause-outcome : goal.returns-in-Err-extend_from_slice-clause-outcome
 returns-in-Err-extend_from_slice-clause-outcome g c =
     let some : 0 < length c.lines.rest.now = omega (arith, c.in-Err-extend_from_slice.ensures.full, c.lines.held.ok.0) in
-    end_unheld session_semantics _ _ _ _ c.lines.held.items c.lines.rest.now _ _ c.lines.invariant.unbroken c.in_default.ensures.none some c.lines.invariant.progress
+    end_unanswered session_semantics _ _ _ _ c.lines.held.items c.lines.rest.now _ _ c.lines.invariant.unbroken c.in_default.ensures.none some c.lines.invariant.progress

@@ -1,7 +1,7 @@
 use Rattle.std.proofs.Common.{◌≡◌, true, sym, ◌∙◌}
 use Rattle.apl_array.specs.Valences.{has_dyadic}
 use Rattle.apl_scalar.specs.Dyadic.{dyadic_answer}
-use Rattle.apl_eval.proofs.functions.dyadic_scalar.Goals as goal
+use Rattle.apl_eval.proofs.functions.Machine.dyadic_scalar.Goals as goal
 
 pub returns-in-Some : goal.returns-in-Some
 returns-in-Some g c =

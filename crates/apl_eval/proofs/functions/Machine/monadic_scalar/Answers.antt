@@ -1,7 +1,7 @@
 use Rattle.std.proofs.Common.{◌≡◌, true, sym, ◌∙◌}
 use Rattle.apl_array.specs.Valences.{has_monadic}
 use Rattle.apl_scalar.specs.Monadic.{monadic_answer}
-use Rattle.apl_eval.proofs.functions.monadic_scalar.Goals as goal
+use Rattle.apl_eval.proofs.functions.Machine.monadic_scalar.Goals as goal
 
 pub returns-in-Some : goal.returns-in-Some
 returns-in-Some g c =
