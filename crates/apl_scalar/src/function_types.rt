@@ -30,8 +30,8 @@ pub trait Function {
         ensures { result ≡ identity_of FUNCTION };
 }
 
-/// The call of a generic function at the type of a scalar function, for which `F` stands among the type arguments. This is the
-/// one list of the functions in code.
+/// The call of a generic function at the type of a scalar function, for which `F` stands first among the type arguments. No
+/// other code goes over the functions' types.
 #[macro_export]
 macro_rules! with_type {
     ($f:expr, $call:ident::<F $(, $parameter:ident)*>($($argument:expr),*)) => {
