@@ -85,24 +85,7 @@ sign_in (negsuc n) = minus_one_in
 compare_in : (f : ScalarFunction) (same : Bool) → IfOk (compare_elements f same) IsInRange
 compare_in Equal same = bit_in same
 compare_in NotEqual same = bit_in (not same)
-compare_in Plus same = tt
-compare_in Minus same = tt
-compare_in Times same = tt
-compare_in Divide same = tt
-compare_in Stile same = tt
-compare_in Star same = tt
-compare_in Bang same = tt
-compare_in Floor same = tt
-compare_in Ceiling same = tt
-compare_in And same = tt
-compare_in Or same = tt
-compare_in Nand same = tt
-compare_in Nor same = tt
-compare_in Less same = tt
-compare_in LessOrEqual same = tt
-compare_in GreaterOrEqual same = tt
-compare_in Greater same = tt
-compare_in Tilde same = tt
+compare_in _ same = tt
 
 -- the element at an index list, and 0 beside the array
 element_at_in : (a : ArrayValue) (index : List ℕ) → HasNumbersInRange a → IsElementInRange (element_at a index)
@@ -154,17 +137,7 @@ module _ (range : RangeLaw) where
   monadic_in Floor x h = h
   monadic_in Ceiling x h = h
   monadic_in Tilde x h = either (is_bit x) _ _ (bit_in (not (is_one x))) tt
-  monadic_in Star x h = tt
-  monadic_in And x h = tt
-  monadic_in Or x h = tt
-  monadic_in Nand x h = tt
-  monadic_in Nor x h = tt
-  monadic_in Less x h = tt
-  monadic_in LessOrEqual x h = tt
-  monadic_in Equal x h = tt
-  monadic_in GreaterOrEqual x h = tt
-  monadic_in Greater x h = tt
-  monadic_in NotEqual x h = tt
+  monadic_in _ x h = tt
 
   dyadic_in : (f : ScalarFunction) (x y : ℤ) → IsInRange x → IsInRange y → IfOk (dyadic_numbers f x y) IsInRange
   dyadic_in Plus x y h k = exact_in (x +ℤ y)

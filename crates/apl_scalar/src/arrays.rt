@@ -8,10 +8,10 @@ ghost use Rattle.apl_answer.specs.Pointwise.{IsAnswerOf};
 ghost use Rattle.apl_scalar.specs.Monadic.{monadic_answer, monadic_element};
 ghost use Rattle.apl_scalar.specs.Dyadic.{dyadic_answer, dyadic_number};
 
+use crate::elements::compare;
 use crate::extend::extended;
 use crate::operands::Pairs;
 use crate::passes::{fill_character_pairs, fill_number_pairs, fill_numbers, fill_uniform};
-use crate::tables::compare;
 use apl_answer::{OpFault, array_from_fill};
 use apl_array::{Array, ScalarFunction, Shape, places_match_index_lists};
 use apl_pool::{Cut, Fault, Gate, Pool, Stop};

@@ -1,29 +1,66 @@
-//! Each scalar function as a type of its own, so that a pass over an array is compiled for each
-//! function and does not choose between functions at each element.
+//! The scalar functions, each a type of its own with its bodies, so that a pass over an array is compiled
+//! for each function and does not choose between functions at each element.
+ghost use Rattle.apl_scalar.specs.Scalar.{bit};
 
-use crate::tables::dyadic_numbers;
+use crate::arithmetic::{combinations, factorial, limited, power, quotient, reciprocal, residue};
+use crate::truth::{and, bit, nand, negation, nor, or};
 use apl_array::ScalarFunction;
 use apl_pool::Fault;
 
-/// A type that names a scalar function.
+/// A type that names a scalar function, and has its bodies.
 pub trait Function {
     ghost use Rattle.std.specs.Prelude.{◌≡◌};
     ghost use Rattle.apl_array.specs.declared.function.ScalarFunction.{ScalarFunction};
-    ghost use Rattle.apl_scalar.specs.Scalar.{dyadic_numbers};
+    ghost use Rattle.apl_scalar.specs.Scalar.{monadic_number, dyadic_numbers, identity_of};
 
     ghost FUNCTION: { ScalarFunction };
 
     const FUNCTION: ScalarFunction;
 
+    /// The result of the monadic function of a number, and `Domain` where there is none. It takes no memory.
+    fn apply_monadic(right: i64) -> Result<i64, Fault>
+        ensures { result ≡ monadic_number FUNCTION right };
+
     /// The result of the dyadic function of two numbers. It takes no memory.
-    #[inline(always)]
     fn apply(left: i64, right: i64) -> Result<i64, Fault>
-        ensures { result ≡ dyadic_numbers FUNCTION left right }
-    {
-        dyadic_numbers(Self::FUNCTION, left, right)
-    }
+        ensures { result ≡ dyadic_numbers FUNCTION left right };
+
+    /// What the reduction of no element gives, where it gives something.
+    fn identity() -> Option<i64>
+        ensures { result ≡ identity_of FUNCTION };
 }
 
+/// The call of a generic function at the type of a scalar function, for which `F` stands first among the type arguments. No
+/// other code goes over the functions' types.
+#[macro_export]
+macro_rules! with_type {
+    ($f:expr, $call:ident::<F $(, $parameter:ident)*>($($argument:expr),*)) => {
+        match $f {
+            $crate::Prim::Plus => $call::<$crate::function_types::Plus $(, $parameter)*>($($argument),*),
+            $crate::Prim::Minus => $call::<$crate::function_types::Minus $(, $parameter)*>($($argument),*),
+            $crate::Prim::Times => $call::<$crate::function_types::Times $(, $parameter)*>($($argument),*),
+            $crate::Prim::Divide => $call::<$crate::function_types::Divide $(, $parameter)*>($($argument),*),
+            $crate::Prim::Stile => $call::<$crate::function_types::Stile $(, $parameter)*>($($argument),*),
+            $crate::Prim::Star => $call::<$crate::function_types::Star $(, $parameter)*>($($argument),*),
+            $crate::Prim::Bang => $call::<$crate::function_types::Bang $(, $parameter)*>($($argument),*),
+            $crate::Prim::Floor => $call::<$crate::function_types::Floor $(, $parameter)*>($($argument),*),
+            $crate::Prim::Ceiling => $call::<$crate::function_types::Ceiling $(, $parameter)*>($($argument),*),
+            $crate::Prim::And => $call::<$crate::function_types::And $(, $parameter)*>($($argument),*),
+            $crate::Prim::Or => $call::<$crate::function_types::Or $(, $parameter)*>($($argument),*),
+            $crate::Prim::Nand => $call::<$crate::function_types::Nand $(, $parameter)*>($($argument),*),
+            $crate::Prim::Nor => $call::<$crate::function_types::Nor $(, $parameter)*>($($argument),*),
+            $crate::Prim::Less => $call::<$crate::function_types::Less $(, $parameter)*>($($argument),*),
+            $crate::Prim::LessOrEqual => $call::<$crate::function_types::LessOrEqual $(, $parameter)*>($($argument),*),
+            $crate::Prim::Equal => $call::<$crate::function_types::Equal $(, $parameter)*>($($argument),*),
+            $crate::Prim::GreaterOrEqual => $call::<$crate::function_types::GreaterOrEqual $(, $parameter)*>($($argument),*),
+            $crate::Prim::Greater => $call::<$crate::function_types::Greater $(, $parameter)*>($($argument),*),
+            $crate::Prim::NotEqual => $call::<$crate::function_types::NotEqual $(, $parameter)*>($($argument),*),
+            $crate::Prim::Tilde => $call::<$crate::function_types::Tilde $(, $parameter)*>($($argument),*),
+        }
+    };
+}
+
+/// `+`: the number itself, and the sum.
 #[derive(Clone, Copy)]
 pub struct Plus;
 
@@ -33,8 +70,23 @@ impl Function for Plus {
     ghost FUNCTION = { Named };
 
     const FUNCTION: ScalarFunction = ScalarFunction::Plus;
+
+    #[inline(always)]
+    fn apply_monadic(right: i64) -> Result<i64, Fault> {
+        Ok(right)
+    }
+
+    #[inline(always)]
+    fn apply(left: i64, right: i64) -> Result<i64, Fault> {
+        limited(left.checked_add(right))
+    }
+
+    fn identity() -> Option<i64> {
+        Some(0)
+    }
 }
 
+/// `-`: the number with the other sign, and the difference.
 #[derive(Clone, Copy)]
 pub struct Minus;
 
@@ -44,8 +96,23 @@ impl Function for Minus {
     ghost FUNCTION = { Named };
 
     const FUNCTION: ScalarFunction = ScalarFunction::Minus;
+
+    #[inline(always)]
+    fn apply_monadic(right: i64) -> Result<i64, Fault> {
+        limited(right.checked_neg())
+    }
+
+    #[inline(always)]
+    fn apply(left: i64, right: i64) -> Result<i64, Fault> {
+        limited(left.checked_sub(right))
+    }
+
+    fn identity() -> Option<i64> {
+        Some(0)
+    }
 }
 
+/// `×`: the sign, and the product.
 #[derive(Clone, Copy)]
 pub struct Times;
 
@@ -55,8 +122,23 @@ impl Function for Times {
     ghost FUNCTION = { Named };
 
     const FUNCTION: ScalarFunction = ScalarFunction::Times;
+
+    #[inline(always)]
+    fn apply_monadic(right: i64) -> Result<i64, Fault> {
+        Ok(right.signum())
+    }
+
+    #[inline(always)]
+    fn apply(left: i64, right: i64) -> Result<i64, Fault> {
+        limited(left.checked_mul(right))
+    }
+
+    fn identity() -> Option<i64> {
+        Some(1)
+    }
 }
 
+/// `÷`: the reciprocal, and the quotient.
 #[derive(Clone, Copy)]
 pub struct Divide;
 
@@ -66,8 +148,23 @@ impl Function for Divide {
     ghost FUNCTION = { Named };
 
     const FUNCTION: ScalarFunction = ScalarFunction::Divide;
+
+    #[inline(always)]
+    fn apply_monadic(right: i64) -> Result<i64, Fault> {
+        reciprocal(right)
+    }
+
+    #[inline(always)]
+    fn apply(left: i64, right: i64) -> Result<i64, Fault> {
+        quotient(left, right)
+    }
+
+    fn identity() -> Option<i64> {
+        Some(1)
+    }
 }
 
+/// `|`: the magnitude, and the residue.
 #[derive(Clone, Copy)]
 pub struct Stile;
 
@@ -77,8 +174,23 @@ impl Function for Stile {
     ghost FUNCTION = { Named };
 
     const FUNCTION: ScalarFunction = ScalarFunction::Stile;
+
+    #[inline(always)]
+    fn apply_monadic(right: i64) -> Result<i64, Fault> {
+        limited(right.checked_abs())
+    }
+
+    #[inline(always)]
+    fn apply(left: i64, right: i64) -> Result<i64, Fault> {
+        Ok(residue(left, right))
+    }
+
+    fn identity() -> Option<i64> {
+        Some(0)
+    }
 }
 
+/// `*`: the power.
 #[derive(Clone, Copy)]
 pub struct Star;
 
@@ -88,8 +200,23 @@ impl Function for Star {
     ghost FUNCTION = { Named };
 
     const FUNCTION: ScalarFunction = ScalarFunction::Star;
+
+    #[inline(always)]
+    fn apply_monadic(_right: i64) -> Result<i64, Fault> {
+        Err(Fault::Domain)
+    }
+
+    #[inline(always)]
+    fn apply(left: i64, right: i64) -> Result<i64, Fault> {
+        power(left, right)
+    }
+
+    fn identity() -> Option<i64> {
+        Some(1)
+    }
 }
 
+/// `!`: the factorial, and the combinations.
 #[derive(Clone, Copy)]
 pub struct Bang;
 
@@ -99,8 +226,23 @@ impl Function for Bang {
     ghost FUNCTION = { Named };
 
     const FUNCTION: ScalarFunction = ScalarFunction::Bang;
+
+    #[inline(always)]
+    fn apply_monadic(right: i64) -> Result<i64, Fault> {
+        factorial(right)
+    }
+
+    #[inline(always)]
+    fn apply(left: i64, right: i64) -> Result<i64, Fault> {
+        combinations(left, right)
+    }
+
+    fn identity() -> Option<i64> {
+        Some(1)
+    }
 }
 
+/// `⌊`: the number itself, and the lesser.
 #[derive(Clone, Copy)]
 pub struct Floor;
 
@@ -110,8 +252,23 @@ impl Function for Floor {
     ghost FUNCTION = { Named };
 
     const FUNCTION: ScalarFunction = ScalarFunction::Floor;
+
+    #[inline(always)]
+    fn apply_monadic(right: i64) -> Result<i64, Fault> {
+        Ok(right)
+    }
+
+    #[inline(always)]
+    fn apply(left: i64, right: i64) -> Result<i64, Fault> {
+        Ok(if right < left { right } else { left })
+    }
+
+    fn identity() -> Option<i64> {
+        Some(i64::MAX)
+    }
 }
 
+/// `⌈`: the number itself, and the greater.
 #[derive(Clone, Copy)]
 pub struct Ceiling;
 
@@ -121,8 +278,23 @@ impl Function for Ceiling {
     ghost FUNCTION = { Named };
 
     const FUNCTION: ScalarFunction = ScalarFunction::Ceiling;
+
+    #[inline(always)]
+    fn apply_monadic(right: i64) -> Result<i64, Fault> {
+        Ok(right)
+    }
+
+    #[inline(always)]
+    fn apply(left: i64, right: i64) -> Result<i64, Fault> {
+        Ok(if right < left { left } else { right })
+    }
+
+    fn identity() -> Option<i64> {
+        Some(i64::MIN)
+    }
 }
 
+/// `∧` of truth values.
 #[derive(Clone, Copy)]
 pub struct And;
 
@@ -132,8 +304,23 @@ impl Function for And {
     ghost FUNCTION = { Named };
 
     const FUNCTION: ScalarFunction = ScalarFunction::And;
+
+    #[inline(always)]
+    fn apply_monadic(_right: i64) -> Result<i64, Fault> {
+        Err(Fault::Domain)
+    }
+
+    #[inline(always)]
+    fn apply(left: i64, right: i64) -> Result<i64, Fault> {
+        and(left, right)
+    }
+
+    fn identity() -> Option<i64> {
+        Some(1)
+    }
 }
 
+/// `∨` of truth values.
 #[derive(Clone, Copy)]
 pub struct Or;
 
@@ -143,8 +330,23 @@ impl Function for Or {
     ghost FUNCTION = { Named };
 
     const FUNCTION: ScalarFunction = ScalarFunction::Or;
+
+    #[inline(always)]
+    fn apply_monadic(_right: i64) -> Result<i64, Fault> {
+        Err(Fault::Domain)
+    }
+
+    #[inline(always)]
+    fn apply(left: i64, right: i64) -> Result<i64, Fault> {
+        or(left, right)
+    }
+
+    fn identity() -> Option<i64> {
+        Some(0)
+    }
 }
 
+/// `⍲` of truth values.
 #[derive(Clone, Copy)]
 pub struct Nand;
 
@@ -154,8 +356,23 @@ impl Function for Nand {
     ghost FUNCTION = { Named };
 
     const FUNCTION: ScalarFunction = ScalarFunction::Nand;
+
+    #[inline(always)]
+    fn apply_monadic(_right: i64) -> Result<i64, Fault> {
+        Err(Fault::Domain)
+    }
+
+    #[inline(always)]
+    fn apply(left: i64, right: i64) -> Result<i64, Fault> {
+        nand(left, right)
+    }
+
+    fn identity() -> Option<i64> {
+        None
+    }
 }
 
+/// `⍱` of truth values.
 #[derive(Clone, Copy)]
 pub struct Nor;
 
@@ -165,8 +382,23 @@ impl Function for Nor {
     ghost FUNCTION = { Named };
 
     const FUNCTION: ScalarFunction = ScalarFunction::Nor;
+
+    #[inline(always)]
+    fn apply_monadic(_right: i64) -> Result<i64, Fault> {
+        Err(Fault::Domain)
+    }
+
+    #[inline(always)]
+    fn apply(left: i64, right: i64) -> Result<i64, Fault> {
+        nor(left, right)
+    }
+
+    fn identity() -> Option<i64> {
+        None
+    }
 }
 
+/// `<`: 1 where the left number is less, else 0.
 #[derive(Clone, Copy)]
 pub struct Less;
 
@@ -176,8 +408,23 @@ impl Function for Less {
     ghost FUNCTION = { Named };
 
     const FUNCTION: ScalarFunction = ScalarFunction::Less;
+
+    #[inline(always)]
+    fn apply_monadic(_right: i64) -> Result<i64, Fault> {
+        Err(Fault::Domain)
+    }
+
+    #[inline(always)]
+    fn apply(left: i64, right: i64) -> Result<i64, Fault> {
+        Ok(bit(left < right))
+    }
+
+    fn identity() -> Option<i64> {
+        Some(0)
+    }
 }
 
+/// `≤`: 1 where the left number is less or equal, else 0.
 #[derive(Clone, Copy)]
 pub struct LessOrEqual;
 
@@ -187,8 +434,23 @@ impl Function for LessOrEqual {
     ghost FUNCTION = { Named };
 
     const FUNCTION: ScalarFunction = ScalarFunction::LessOrEqual;
+
+    #[inline(always)]
+    fn apply_monadic(_right: i64) -> Result<i64, Fault> {
+        Err(Fault::Domain)
+    }
+
+    #[inline(always)]
+    fn apply(left: i64, right: i64) -> Result<i64, Fault> {
+        Ok(bit(left <= right))
+    }
+
+    fn identity() -> Option<i64> {
+        Some(1)
+    }
 }
 
+/// `=`: 1 where the numbers are equal, else 0.
 #[derive(Clone, Copy)]
 pub struct Equal;
 
@@ -198,8 +460,23 @@ impl Function for Equal {
     ghost FUNCTION = { Named };
 
     const FUNCTION: ScalarFunction = ScalarFunction::Equal;
+
+    #[inline(always)]
+    fn apply_monadic(_right: i64) -> Result<i64, Fault> {
+        Err(Fault::Domain)
+    }
+
+    #[inline(always)]
+    fn apply(left: i64, right: i64) -> Result<i64, Fault> {
+        Ok(bit(left == right))
+    }
+
+    fn identity() -> Option<i64> {
+        Some(1)
+    }
 }
 
+/// `≥`: 1 where the left number is greater or equal, else 0.
 #[derive(Clone, Copy)]
 pub struct GreaterOrEqual;
 
@@ -209,8 +486,23 @@ impl Function for GreaterOrEqual {
     ghost FUNCTION = { Named };
 
     const FUNCTION: ScalarFunction = ScalarFunction::GreaterOrEqual;
+
+    #[inline(always)]
+    fn apply_monadic(_right: i64) -> Result<i64, Fault> {
+        Err(Fault::Domain)
+    }
+
+    #[inline(always)]
+    fn apply(left: i64, right: i64) -> Result<i64, Fault> {
+        Ok(bit(left >= right))
+    }
+
+    fn identity() -> Option<i64> {
+        Some(1)
+    }
 }
 
+/// `>`: 1 where the left number is greater, else 0.
 #[derive(Clone, Copy)]
 pub struct Greater;
 
@@ -220,8 +512,23 @@ impl Function for Greater {
     ghost FUNCTION = { Named };
 
     const FUNCTION: ScalarFunction = ScalarFunction::Greater;
+
+    #[inline(always)]
+    fn apply_monadic(_right: i64) -> Result<i64, Fault> {
+        Err(Fault::Domain)
+    }
+
+    #[inline(always)]
+    fn apply(left: i64, right: i64) -> Result<i64, Fault> {
+        Ok(bit(left > right))
+    }
+
+    fn identity() -> Option<i64> {
+        Some(0)
+    }
 }
 
+/// `≠`: 1 where the numbers differ, else 0.
 #[derive(Clone, Copy)]
 pub struct NotEqual;
 
@@ -231,8 +538,23 @@ impl Function for NotEqual {
     ghost FUNCTION = { Named };
 
     const FUNCTION: ScalarFunction = ScalarFunction::NotEqual;
+
+    #[inline(always)]
+    fn apply_monadic(_right: i64) -> Result<i64, Fault> {
+        Err(Fault::Domain)
+    }
+
+    #[inline(always)]
+    fn apply(left: i64, right: i64) -> Result<i64, Fault> {
+        Ok(bit(left != right))
+    }
+
+    fn identity() -> Option<i64> {
+        Some(0)
+    }
 }
 
+/// `~`: the negation of a truth value.
 #[derive(Clone, Copy)]
 pub struct Tilde;
 
@@ -242,4 +564,18 @@ impl Function for Tilde {
     ghost FUNCTION = { Named };
 
     const FUNCTION: ScalarFunction = ScalarFunction::Tilde;
+
+    #[inline(always)]
+    fn apply_monadic(right: i64) -> Result<i64, Fault> {
+        negation(right)
+    }
+
+    #[inline(always)]
+    fn apply(_left: i64, _right: i64) -> Result<i64, Fault> {
+        Err(Fault::Domain)
+    }
+
+    fn identity() -> Option<i64> {
+        None
+    }
 }

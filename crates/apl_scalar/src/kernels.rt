@@ -2,9 +2,9 @@
 ghost use Rattle.std.specs.Prelude.{ℕ, ◌≤◌, length};
 ghost use Rattle.apl_pool.specs.declared.kernel.TheConstants.{MOST_PLACES};
 
+use crate::elements::dyadic_elements;
 use crate::function_types::Function;
 use crate::operands::Operand;
-use crate::tables::{dyadic_elements, monadic_number};
 use apl_pool::{Fault, Kernel};
 use std::marker::PhantomData;
 
@@ -31,7 +31,7 @@ impl<F: Function> Kernel for NumberKernel<'_, F> {
     }
 
     fn at(&self, place: usize) -> Result<i64, Fault> {
-        monadic_number(F::FUNCTION, self.numbers[place])
+        F::apply_monadic(self.numbers[place])
     }
 }
 
@@ -61,7 +61,7 @@ impl<L: Operand, R: Operand, F: Function> Kernel for PairsKernel<L, R, F> {
     }
 
     fn at(&self, place: usize) -> Result<i64, Fault> {
-        dyadic_elements(F::FUNCTION, self.left.at(place), self.right.at(place))
+        dyadic_elements::<F>(self.left.at(place), self.right.at(place))
     }
 }
 

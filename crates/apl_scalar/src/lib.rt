@@ -6,17 +6,17 @@
 
 mod arithmetic;
 mod arrays;
+mod elements;
 mod extend;
 pub mod function_types;
 mod kernels;
 mod laws;
 mod operands;
 mod passes;
-mod tables;
 mod truth;
 
 pub use apl_answer::{OpFault, answer_is_each_outcome};
 pub use apl_array::ScalarFunction as Prim;
 pub use arrays::{dyadic, monadic};
+pub use elements::{apply1, apply2, identity};
 pub use laws::answers_are_in_range;
-pub use tables::{apply1, apply2, identity};

@@ -1,18 +1,15 @@
 //! The passes over numbers and over characters, one compiled for each function.
-ghost use Rattle.std.specs.Prelude.{◌≡◌, ℕ, pos, ◌≤◌, length, map, IfOk, IfErr, slice_index_or, IsTrue};
+ghost use Rattle.std.specs.Prelude.{◌≡◌, ℕ, pos, ◌≤◌, length, map, IfOk, IfErr, slice_index_or};
 ghost use Rattle.apl_pool.specs.declared.kernel.TheConstants.{MOST_PLACES};
 ghost use Rattle.apl_array.specs.declared.array.Elem.TheVariants.{Int, Chr};
-ghost use Rattle.apl_array.specs.Valences.{has_monadic, has_dyadic};
 ghost use Rattle.apl_pool.specs.Pool.{AreValues, IsStopOf};
 ghost use Rattle.apl_scalar.specs.Scalar.{monadic_number, dyadic_of};
 ghost use Rattle.apl_scalar.specs.Operands.{pair_at};
 
-use crate::function_types::{
-    And, Bang, Ceiling, Divide, Equal, Floor, Function, Greater, GreaterOrEqual, Less, LessOrEqual,
-    Minus, Nand, Nor, NotEqual, Or, Plus, Star, Stile, Tilde, Times,
-};
+use crate::function_types::{Equal, Function, NotEqual};
 use crate::kernels::{NumberKernel, PairsKernel, UniformKernel};
 use crate::operands::{Operand, Pairs, Value, Whole};
+use crate::with_type;
 use apl_answer::Element;
 use apl_array::ScalarFunction;
 use apl_pool::{Cut, Fault, Gate, Pool, Stop};
@@ -114,23 +111,11 @@ pub(crate) fn fill_numbers<R: Threads + Sync, C: Cut + Sync, G: Gate + Sync>(
     f: ScalarFunction,
     numbers: &[i64],
 ) -> Result<Vec<i64>, Stop>
-    requires valence { IsTrue (has_monadic f) }
-    requires most { length numbers.now ≤ MOST_PLACES }
+    requires { length numbers.now ≤ MOST_PLACES }
     ensures values { IfOk result (λ v. AreValues (λ place. monadic_number f (slice_index_or numbers.now place (pos 0))) (length numbers.now) v.items) }
     ensures stop { IfErr result (IsStopOf (λ place. monadic_number f (slice_index_or numbers.now place (pos 0))) (length numbers.now)) }
 {
-    match f {
-        ScalarFunction::Plus => fill_each::<Plus, R, C, G>(rt, alloc, pool, numbers),
-        ScalarFunction::Minus => fill_each::<Minus, R, C, G>(rt, alloc, pool, numbers),
-        ScalarFunction::Times => fill_each::<Times, R, C, G>(rt, alloc, pool, numbers),
-        ScalarFunction::Divide => fill_each::<Divide, R, C, G>(rt, alloc, pool, numbers),
-        ScalarFunction::Stile => fill_each::<Stile, R, C, G>(rt, alloc, pool, numbers),
-        ScalarFunction::Bang => fill_each::<Bang, R, C, G>(rt, alloc, pool, numbers),
-        ScalarFunction::Floor => fill_each::<Floor, R, C, G>(rt, alloc, pool, numbers),
-        ScalarFunction::Ceiling => fill_each::<Ceiling, R, C, G>(rt, alloc, pool, numbers),
-        ScalarFunction::Tilde => fill_each::<Tilde, R, C, G>(rt, alloc, pool, numbers),
-        _ => unreachable!(),
-    }
+    with_type!(f, fill_each::<F, R, C, G>(rt, alloc, pool, numbers))
 }
 
 /// A dyadic function of each pair of numbers.
@@ -141,36 +126,10 @@ pub(crate) fn fill_number_pairs<R: Threads + Sync, C: Cut + Sync, G: Gate + Sync
     f: ScalarFunction,
     pairs: &Pairs<i64>,
 ) -> Result<Vec<i64>, Stop>
-    requires { IsTrue (has_dyadic f) }
     ensures values { IfOk result (λ v. AreValues (λ place. pair_at f (map Int pairs.now.left.now) pairs.now.left_is_whole (map Int pairs.now.right.now) pairs.now.right_is_whole place) pairs.now.count v.items) }
     ensures stop { IfErr result (IsStopOf (λ place. pair_at f (map Int pairs.now.left.now) pairs.now.left_is_whole (map Int pairs.now.right.now) pairs.now.right_is_whole place) pairs.now.count) }
 {
-    match f {
-        ScalarFunction::Plus => fill_pairs::<Plus, i64, R, C, G>(rt, alloc, pool, pairs),
-        ScalarFunction::Minus => fill_pairs::<Minus, i64, R, C, G>(rt, alloc, pool, pairs),
-        ScalarFunction::Times => fill_pairs::<Times, i64, R, C, G>(rt, alloc, pool, pairs),
-        ScalarFunction::Divide => fill_pairs::<Divide, i64, R, C, G>(rt, alloc, pool, pairs),
-        ScalarFunction::Stile => fill_pairs::<Stile, i64, R, C, G>(rt, alloc, pool, pairs),
-        ScalarFunction::Star => fill_pairs::<Star, i64, R, C, G>(rt, alloc, pool, pairs),
-        ScalarFunction::Bang => fill_pairs::<Bang, i64, R, C, G>(rt, alloc, pool, pairs),
-        ScalarFunction::Floor => fill_pairs::<Floor, i64, R, C, G>(rt, alloc, pool, pairs),
-        ScalarFunction::Ceiling => fill_pairs::<Ceiling, i64, R, C, G>(rt, alloc, pool, pairs),
-        ScalarFunction::And => fill_pairs::<And, i64, R, C, G>(rt, alloc, pool, pairs),
-        ScalarFunction::Or => fill_pairs::<Or, i64, R, C, G>(rt, alloc, pool, pairs),
-        ScalarFunction::Nand => fill_pairs::<Nand, i64, R, C, G>(rt, alloc, pool, pairs),
-        ScalarFunction::Nor => fill_pairs::<Nor, i64, R, C, G>(rt, alloc, pool, pairs),
-        ScalarFunction::Less => fill_pairs::<Less, i64, R, C, G>(rt, alloc, pool, pairs),
-        ScalarFunction::LessOrEqual => fill_pairs::<LessOrEqual, i64, R, C, G>(
-            rt, alloc, pool, pairs,
-        ),
-        ScalarFunction::Equal => fill_pairs::<Equal, i64, R, C, G>(rt, alloc, pool, pairs),
-        ScalarFunction::GreaterOrEqual => fill_pairs::<GreaterOrEqual, i64, R, C, G>(
-            rt, alloc, pool, pairs,
-        ),
-        ScalarFunction::Greater => fill_pairs::<Greater, i64, R, C, G>(rt, alloc, pool, pairs),
-        ScalarFunction::NotEqual => fill_pairs::<NotEqual, i64, R, C, G>(rt, alloc, pool, pairs),
-        ScalarFunction::Tilde => unreachable!(),
-    }
+    with_type!(f, fill_pairs::<F, i64, R, C, G>(rt, alloc, pool, pairs))
 }
 
 /// A dyadic function of each pair of characters.

@@ -8,8 +8,7 @@ use Rattle.apl_tokens.specs.declared.token.Glyph.{Glyph}
 use Rattle.apl_tokens.specs.declared.token.Glyph.TheVariants.{Scalar, Rho}
 use Rattle.apl_tokens.specs.declared.token.Lexeme.{Lexeme}
 use Rattle.apl_tokens.specs.declared.token.Lexeme.TheVariants.{Constant, Name, Function, Dot, Jot, Arrow, OpenParen, CloseParen, OpenBracket, CloseBracket, Semicolon}
-use Rattle.apl_tokens.specs.Symbols.{scalar_character, symbol_of, character_of}
-use Rattle.apl_tokens.specs.SymbolLexemes.{symbol_lexemes, found, lexeme_in, symbol_lexeme}
+use Rattle.apl_tokens.specs.Symbols.{scalar_character, symbol_of, character_of, symbol_lexemes, found, lexeme_in, symbol_lexeme}
 
 in_lexemes : (lexemes : List Lexeme) (c : ℕ) (k : Lexeme) → lexeme_in lexemes c ≡ Some k → character_of k ≡ Some c
 in_lexemes [] c k e = absurd cc

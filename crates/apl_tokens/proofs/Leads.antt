@@ -5,8 +5,7 @@ use Rattle.std.specs.Bool.{passes}
 use Rattle.std.proofs.lemmas.Bool.Decides.{nat_tests}
 use Rattle.apl_tokens.specs.declared.token.Lexeme.{Lexeme}
 use Rattle.apl_tokens.specs.declared.token.Lexeme.TheVariants.{Constant, Name}
-use Rattle.apl_tokens.specs.Symbols.{is_digit, is_letter, is_blank, is_quote, quote, character_of}
-use Rattle.apl_tokens.specs.SymbolLexemes.{symbol_lexeme, symbol_lexemes, lexeme_in, found}
+use Rattle.apl_tokens.specs.Symbols.{is_digit, is_letter, is_blank, is_quote, quote, character_of, symbol_lexeme, symbol_lexemes, lexeme_in, found}
 use Rattle.apl_tokens.proofs.Found.{lexeme_found}
 use Rattle.apl_tokens.specs.Lexis.{BeginsWithNo, IsNumeral, plain, negative, Numeral, AreNumerals, IsSymbol, IsToken, IsEnd, BeginsWithNoToken, IsBeyondLimit}
 

@@ -13,8 +13,7 @@ use Rattle.apl_tokens.proofs.Quotes.{no_quotation, doubled-append}
 use Rattle.apl_array.specs.Array.{number_array, character_array}
 use Rattle.apl_tokens.specs.declared.token.Lexeme.{Lexeme}
 use Rattle.apl_tokens.specs.declared.token.Lexeme.TheVariants.{Constant, Name}
-use Rattle.apl_tokens.specs.Symbols.{is_letter, is_name_character, quote, is_quote}
-use Rattle.apl_tokens.specs.SymbolLexemes.{symbol_lexeme}
+use Rattle.apl_tokens.specs.Symbols.{is_letter, is_name_character, quote, is_quote, symbol_lexeme}
 use Rattle.apl_tokens.proofs.Found.{character_found, lexeme_found}
 use Rattle.apl_tokens.specs.Fronts.{AllPass}
 use Rattle.apl_array.specs.Shape.{most_elements}

@@ -9,8 +9,7 @@ use Rattle.apl_array.specs.Range.{IsInRange, least_number, greatest_number}
 use Rattle.apl_tokens.specs.declared.token.Token.{Token}
 use Rattle.apl_tokens.specs.declared.token.Lexeme.{Lexeme}
 use Rattle.apl_tokens.specs.declared.token.Lexeme.TheVariants.{Constant, Name}
-use Rattle.apl_tokens.specs.Symbols.{is_digit, is_letter, is_name_character, is_blank, quote, is_quote, comment_mark}
-use Rattle.apl_tokens.specs.SymbolLexemes.{symbol_lexeme}
+use Rattle.apl_tokens.specs.Symbols.{is_digit, is_letter, is_name_character, is_blank, quote, is_quote, comment_mark, symbol_lexeme}
 use Rattle.apl_tokens.proofs.Found.{character_found}
 use Rattle.apl_tokens.specs.Fronts.{AllPass}
 use Rattle.apl_array.specs.Shape.{most_elements}

@@ -1,5 +1,4 @@
 pub mod Symbols
-pub mod SymbolLexemes
 pub mod Fronts
 pub mod Lexis
 pub mod Stops

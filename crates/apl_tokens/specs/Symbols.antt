@@ -1,5 +1,5 @@
 -- The listed symbols, and the tokens of one symbol.
-use Rattle.std.specs.Prelude.{◌==◌, ◌||◌, ◌&&◌, nat_le, ℕ, Bool, List, [], ◌∷◌, Option, Some, None}
+use Rattle.std.specs.Prelude.{◌==◌, ◌||◌, ◌&&◌, nat_le, ℕ, Bool, List, [], ◌∷◌, ◌++◌, map, Option, Some, None, if◌then◌else◌}
 use Rattle.std.specs.List.{list_any}
 use Rattle.apl_array.specs.declared.function.ScalarFunction.{ScalarFunction}
 use Rattle.apl_array.specs.declared.function.ScalarFunction.TheVariants.{Plus, Minus, Times, Divide, Stile, Star, Bang, Floor, Ceiling, And, Or, Nand, Nor, Less, LessOrEqual, Equal, GreaterOrEqual, Greater, NotEqual, Tilde}
@@ -62,6 +62,12 @@ scalar_character Greater = 62  -- >
 scalar_character NotEqual = 0x2260  -- ≠
 scalar_character Tilde = 126  -- ~
 
+-- the same names as a list, and so below: the token of a character is looked up among all
+abbrev pub scalar_functions : List ScalarFunction
+scalar_functions =
+    Plus ∷ Minus ∷ Times ∷ Divide ∷ Stile ∷ Star ∷ Bang ∷ Floor ∷ Ceiling ∷ And
+    ∷ Or ∷ Nand ∷ Nor ∷ Less ∷ LessOrEqual ∷ Equal ∷ GreaterOrEqual ∷ Greater ∷ NotEqual ∷ Tilde ∷ []
+
 -- a function's symbol: its character, and its class in the grammar
 abbrev pub symbol_of : Glyph → ℕ × Class
 symbol_of (Scalar f) = (scalar_character f, class.Scalar f)
@@ -83,6 +89,12 @@ symbol_of BackslashBar = (0x2340, class.Backslash)  -- ⍀
 symbol_of UpTack = (0x22A5, class.DyadicOnly)  -- ⊥
 symbol_of DownTack = (0x22A4, class.DyadicOnly)  -- ⊤
 
+abbrev pub glyphs : List Glyph
+glyphs =
+    map Scalar scalar_functions
+    ++ (Rho ∷ Comma ∷ Iota ∷ Epsilon ∷ UpArrow ∷ DownArrow ∷ CircleStile ∷ CircleBar ∷ Transpose
+    ∷ GradeUp ∷ GradeDown ∷ Slash ∷ SlashBar ∷ Backslash ∷ BackslashBar ∷ UpTack ∷ DownTack ∷ [])
+
 abbrev pub class_of : Glyph → Class
 class_of glyph = (symbol_of glyph).1
 
@@ -98,6 +110,22 @@ character_of OpenBracket = Some 91
 character_of CloseBracket = Some 93
 character_of Semicolon = Some 59
 character_of _ = None
+
+abbrev pub symbol_lexemes : List Lexeme
+symbol_lexemes = map Function glyphs ++ (Dot ∷ Jot ∷ Arrow ∷ OpenParen ∷ CloseParen ∷ OpenBracket ∷ CloseBracket ∷ Semicolon ∷ [])
+
+-- the lexeme where the character is its own, else what is found among others
+abbrev pub found : Option ℕ → Lexeme → Option Lexeme → ℕ → Option Lexeme
+found (Some character) lexeme others c = if c == character then Some lexeme else others
+found None lexeme others c = others
+
+abbrev pub lexeme_in : List Lexeme → ℕ → Option Lexeme
+lexeme_in [] c = None
+lexeme_in (lexeme ∷ lexemes) c = found (character_of lexeme) lexeme (lexeme_in lexemes c) c
+
+-- the token that a character is by itself
+abbrev pub symbol_lexeme : ℕ → Option Lexeme
+symbol_lexeme c = lexeme_in symbol_lexemes c
 
 -- the listed symbols that are not ASCII: ¯ × ÷ ← ↑ ↓ ∆ ∊ ∘ ∧ ∨ ≠ ≤ ≥ ⊖ ⊤ ⊥ ⌈ ⌊ ⌽ ⌿ ⍀ ⍉ ⍋ ⍒ ⍙ ⍝ ⍱ ⍲ ⍳ ⍴
 abbrev pub non_ascii_symbols : List ℕ

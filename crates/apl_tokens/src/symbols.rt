@@ -1,7 +1,6 @@
 // The listed symbols, and the tokens of one symbol.
 ghost use Rattle.std.specs.Prelude.{◌≡◌, ◌==◌};
-ghost use Rattle.apl_tokens.specs.Symbols.{is_digit, is_letter, is_name_character, is_blank, is_quote, comment_mark, is_listed_ascii, is_listed};
-ghost use Rattle.apl_tokens.specs.SymbolLexemes.{symbol_lexeme};
+ghost use Rattle.apl_tokens.specs.Symbols.{is_digit, is_letter, is_name_character, is_blank, is_quote, comment_mark, is_listed_ascii, is_listed, symbol_lexeme};
 
 use crate::token::{Glyph, Lexeme};
 use apl_array::ScalarFunction;

@@ -1,0 +1,80 @@
+//! The scalar functions of elements.
+ghost use Rattle.std.specs.Prelude.{◌≡◌, Bool, not, IsTrue};
+ghost use Rattle.apl_array.specs.Valences.{has_monadic, has_dyadic};
+ghost use Rattle.apl_scalar.specs.Scalar.{monadic_of, dyadic_of, compare_elements, identity_of, as_element, bit};
+
+use crate::function_types::Function;
+use crate::truth::bit;
+use crate::with_type;
+use apl_array::{Elem, ScalarFunction};
+use apl_pool::Fault;
+
+/// A monadic function of an element.
+#[inline(always)]
+fn monadic_element<F: Function>(x: Elem) -> Result<i64, Fault>
+    ensures { result ≡ monadic_of F.FUNCTION x }
+{
+    match x {
+        Elem::Int(x) => F::apply_monadic(x),
+        Elem::Chr(_) => Err(Fault::Domain),
+    }
+}
+
+/// A dyadic function of two elements.
+#[inline(always)]
+pub(crate) fn dyadic_elements<F: Function>(x: Elem, y: Elem) -> Result<i64, Fault>
+    ensures { result ≡ dyadic_of F.FUNCTION x y }
+{
+    match (x, y) {
+        (Elem::Int(x), Elem::Int(y)) => F::apply(x, y),
+        (Elem::Chr(c), Elem::Chr(d)) => compare(F::FUNCTION, c == d),
+        _ => compare(F::FUNCTION, false),
+    }
+}
+
+/// A dyadic function where a character is among the arguments.
+#[inline(always)]
+pub(crate) fn compare(f: ScalarFunction, same: bool) -> Result<i64, Fault>
+    ensures { result ≡ compare_elements f same }
+{
+    match f {
+        ScalarFunction::Equal => Ok(bit(same)),
+        ScalarFunction::NotEqual => Ok(bit(!same)),
+        _ => Err(Fault::Domain),
+    }
+}
+
+fn own_identity<F: Function>() -> Option<i64>
+    ensures { result ≡ identity_of F.FUNCTION }
+{
+    F::identity()
+}
+
+/// The result of a monadic scalar function of an element. It takes no memory.
+pub fn apply1(f: ScalarFunction, x: Elem) -> Result<Elem, Fault>
+    requires { IsTrue (has_monadic f) }
+    ensures { result ≡ as_element (monadic_of f x) }
+{
+    match with_type!(f, monadic_element::<F>(x)) {
+        Ok(z) => Ok(Elem::Int(z)),
+        Err(fault) => Err(fault),
+    }
+}
+
+/// The result of a dyadic scalar function of two elements. It takes no memory.
+pub fn apply2(f: ScalarFunction, x: Elem, y: Elem) -> Result<Elem, Fault>
+    requires { IsTrue (has_dyadic f) }
+    ensures { result ≡ as_element (dyadic_of f x y) }
+{
+    match with_type!(f, dyadic_elements::<F>(x, y)) {
+        Ok(z) => Ok(Elem::Int(z)),
+        Err(fault) => Err(fault),
+    }
+}
+
+/// What the reduction of no element by a dyadic function gives, where it gives something.
+pub fn identity(f: ScalarFunction) -> Option<i64>
+    ensures { result ≡ identity_of f }
+{
+    with_type!(f, own_identity::<F>())
+}
