@@ -28,12 +28,12 @@ module _ {W : Type 0} (semantics : Semantics W) where
     pub leads : Leads semantics state lines answers now
     pub written : Appends old new (text_of answers)
 
-  -- What a block of the text does, of at most so many bytes: bytes is what was held before and the block, and held what is
-  -- held after.
+  -- What a block of the text does, of at most so many bytes: bytes is the rest before it and the block, and rest is the rest
+  -- after it.
   abbrev pub IsBlockAnswered : W → W → ℕ → List ℕ → List ℕ → Option (List ℕ) → Option (List ℕ) → Result Next RunFault → Type 0
-  IsBlockAnswered state now most bytes held old new (Ok Go) = Progress state now bytes held old new × IsUnbroken held
+  IsBlockAnswered state now most bytes rest old new (Ok Go) = Progress state now bytes rest old new × IsUnbroken rest
   -- whatever follows, the whole run was written
-  IsBlockAnswered state now most bytes held old new (Ok End) = (more : List ℕ) → AnswersAll semantics state (Some (bytes ++ more)) old new
-  IsBlockAnswered state now most bytes held old new (Err Write) = (more : List ℕ) → AnswersFront semantics state (Some (bytes ++ more)) old new
-  IsBlockAnswered state now most bytes held old new (Err Memory) = (rest : List ℕ) × Progress state now bytes rest old new × BeginsWithUnansweredLine most (Some []) rest
-  IsBlockAnswered state now most bytes held old new (Err Read) = ⊥
+  IsBlockAnswered state now most bytes rest old new (Ok End) = (more : List ℕ) → AnswersAll semantics state (Some (bytes ++ more)) old new
+  IsBlockAnswered state now most bytes rest old new (Err Write) = (more : List ℕ) → AnswersFront semantics state (Some (bytes ++ more)) old new
+  IsBlockAnswered state now most bytes rest old new (Err Memory) = (left : List ℕ) × Progress state now bytes left old new × BeginsWithUnansweredLine most (Some []) left
+  IsBlockAnswered state now most bytes rest old new (Err Read) = ⊥

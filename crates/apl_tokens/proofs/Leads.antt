@@ -5,8 +5,8 @@ use Rattle.std.specs.Bool.{passes}
 use Rattle.std.proofs.lemmas.Bool.Decides.{nat_tests}
 use Rattle.apl_tokens.specs.declared.token.Lexeme.{Lexeme}
 use Rattle.apl_tokens.specs.declared.token.Lexeme.TheVariants.{Constant, Name}
-use Rattle.apl_tokens.specs.Symbols.{is_digit, is_letter, is_blank, is_quote, quote, character_of, symbol_lexeme, symbol_lexemes, lexeme_in, found}
-use Rattle.apl_tokens.proofs.Found.{lexeme_found}
+use Rattle.apl_tokens.specs.Symbols.{is_digit, is_letter, is_blank, is_quote, quote, character_of, symbol_lexeme, symbol_lexemes, lexeme_in, lexeme_or}
+use Rattle.apl_tokens.proofs.OneSymbol.{lexeme_found}
 use Rattle.apl_tokens.specs.Lexis.{BeginsWithNo, IsNumeral, plain, negative, Numeral, AreNumerals, IsSymbol, IsToken, IsEnd, BeginsWithNoToken, IsBeyondLimit}
 
 pub data Lead : Type 0 where
@@ -73,7 +73,7 @@ signs_lead (lexeme ∷ lexemes) c k h e =
         (ap lead (eqb→eq c d (passes (c == d) t)) ∙ sign_from (lead d) first, ap is_symbol (sym same) ∙ second)
     by_test d false t first second below e = below e
 
-    by_character : (o : Option ℕ) → has_sign o ≡ true → is_symbol lexeme ≡ true → (lexeme_in lexemes c ≡ Some k → (lead c ≡ sign) × (is_symbol k ≡ true)) → found o lexeme (lexeme_in lexemes c) c ≡ Some k → (lead c ≡ sign) × (is_symbol k ≡ true)
+    by_character : (o : Option ℕ) → has_sign o ≡ true → is_symbol lexeme ≡ true → (lexeme_in lexemes c ≡ Some k → (lead c ≡ sign) × (is_symbol k ≡ true)) → lexeme_or o lexeme (lexeme_in lexemes c) c ≡ Some k → (lead c ≡ sign) × (is_symbol k ≡ true)
     by_character (Some d) first second below e = by_test d (c == d) refl first second below e
     by_character None first second below e = below e
 

@@ -3,7 +3,7 @@ pub mod Rows
 pub mod Texts
 pub mod Stopped
 pub mod Quotes
-pub mod Found
+pub mod OneSymbol
 pub mod Leads
 pub mod OneToken
 pub mod Lines

@@ -14,7 +14,7 @@ use Rattle.apl_array.specs.Array.{number_array, character_array}
 use Rattle.apl_tokens.specs.declared.token.Lexeme.{Lexeme}
 use Rattle.apl_tokens.specs.declared.token.Lexeme.TheVariants.{Constant, Name}
 use Rattle.apl_tokens.specs.Symbols.{is_letter, is_name_character, quote, is_quote, symbol_lexeme}
-use Rattle.apl_tokens.proofs.Found.{character_found, lexeme_found}
+use Rattle.apl_tokens.proofs.OneSymbol.{character_found, lexeme_found}
 use Rattle.apl_tokens.specs.Fronts.{AllPass}
 use Rattle.apl_array.specs.Shape.{most_elements}
 use Rattle.apl_tokens.specs.Lexis.{BeginsWithNo, IsNumeral, Numeral, AreNumerals, HasNoNextNumeral, EndsNumerals, constant_shape, doubled, IsSymbol, BeginsWithNoToken, IsBeyondLimit}

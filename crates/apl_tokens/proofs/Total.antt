@@ -10,7 +10,7 @@ use Rattle.apl_tokens.specs.declared.token.Token.{Token}
 use Rattle.apl_tokens.specs.declared.token.Lexeme.{Lexeme}
 use Rattle.apl_tokens.specs.declared.token.Lexeme.TheVariants.{Constant, Name}
 use Rattle.apl_tokens.specs.Symbols.{is_digit, is_letter, is_name_character, is_blank, quote, is_quote, comment_mark, symbol_lexeme}
-use Rattle.apl_tokens.proofs.Found.{character_found}
+use Rattle.apl_tokens.proofs.OneSymbol.{character_found}
 use Rattle.apl_tokens.specs.Fronts.{AllPass}
 use Rattle.apl_array.specs.Shape.{most_elements}
 use Rattle.apl_tokens.specs.Lexis.{BeginsWithNo, number_of_digits, IsNumeral, plain, negative, negated, Numeral, AreNumerals, EndsNumerals, HasNoNextNumeral, AreInRange, constant_shape, doubled, quoted, IsToken, LexesUpTo, IsEnd, Lexes, BeginsWithNoToken, FirstOutOfRange, here, later, IsBeyondLimit, HasLexicalFault, HasLimitFault}

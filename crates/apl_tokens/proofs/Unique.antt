@@ -7,7 +7,7 @@ use Rattle.apl_tokens.specs.declared.token.Token.{Token}
 use Rattle.apl_tokens.specs.declared.token.Lexeme.{Lexeme}
 use Rattle.apl_tokens.specs.declared.token.Lexeme.TheVariants.{Constant, Name}
 use Rattle.apl_tokens.specs.Symbols.{is_digit, is_letter, is_name_character, is_blank, quote, is_quote, symbol_lexeme}
-use Rattle.apl_tokens.proofs.Found.{lexeme_found}
+use Rattle.apl_tokens.proofs.OneSymbol.{lexeme_found}
 use Rattle.apl_tokens.specs.Fronts.{AllPass}
 use Rattle.apl_array.specs.Shape.{most_elements}
 use Rattle.apl_tokens.specs.Lexis.{BeginsWithNo, number_of_digits, AreDigits, IsNumeral, plain, negative, negated, AreBlanks, Numeral, AreNumerals, EndsNumerals, HasNoNextNumeral, AreInRange, constant_shape, IsNumberConstant, doubled, quoted, IsTextConstant, IsName, IsSymbol, IsToken, LexesUpTo, IsEnd, Lexes, BeginsWithNoToken, FirstOutOfRange, here, later, IsNumberBeyondLimit, IsTextBeyondLimit, IsBeyondLimit, HasLexicalFault, HasLimitFault}

@@ -114,14 +114,14 @@ character_of _ = None
 abbrev pub symbol_lexemes : List Lexeme
 symbol_lexemes = map Function glyphs ++ (Dot ∷ Jot ∷ Arrow ∷ OpenParen ∷ CloseParen ∷ OpenBracket ∷ CloseBracket ∷ Semicolon ∷ [])
 
--- the lexeme where the character is its own, else what is found among others
-abbrev pub found : Option ℕ → Lexeme → Option Lexeme → ℕ → Option Lexeme
-found (Some character) lexeme others c = if c == character then Some lexeme else others
-found None lexeme others c = others
+-- the lexeme where the character is its own, else the other
+abbrev pub lexeme_or : Option ℕ → Lexeme → Option Lexeme → ℕ → Option Lexeme
+lexeme_or (Some character) lexeme other c = if c == character then Some lexeme else other
+lexeme_or None lexeme other c = other
 
 abbrev pub lexeme_in : List Lexeme → ℕ → Option Lexeme
 lexeme_in [] c = None
-lexeme_in (lexeme ∷ lexemes) c = found (character_of lexeme) lexeme (lexeme_in lexemes c) c
+lexeme_in (lexeme ∷ lexemes) c = lexeme_or (character_of lexeme) lexeme (lexeme_in lexemes c) c
 
 -- the token that a character is by itself
 abbrev pub symbol_lexeme : ℕ → Option Lexeme

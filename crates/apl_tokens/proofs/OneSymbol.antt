@@ -8,7 +8,7 @@ use Rattle.apl_tokens.specs.declared.token.Glyph.{Glyph}
 use Rattle.apl_tokens.specs.declared.token.Glyph.TheVariants.{Scalar, Rho}
 use Rattle.apl_tokens.specs.declared.token.Lexeme.{Lexeme}
 use Rattle.apl_tokens.specs.declared.token.Lexeme.TheVariants.{Constant, Name, Function, Dot, Jot, Arrow, OpenParen, CloseParen, OpenBracket, CloseBracket, Semicolon}
-use Rattle.apl_tokens.specs.Symbols.{scalar_character, symbol_of, character_of, symbol_lexemes, found, lexeme_in, symbol_lexeme}
+use Rattle.apl_tokens.specs.Symbols.{scalar_character, symbol_of, character_of, symbol_lexemes, lexeme_or, lexeme_in, symbol_lexeme}
 
 in_lexemes : (lexemes : List Lexeme) (c : ℕ) (k : Lexeme) → lexeme_in lexemes c ≡ Some k → character_of k ≡ Some c
 in_lexemes [] c k e = absurd cc
@@ -20,7 +20,7 @@ in_lexemes (lexeme ∷ lexemes) c k e = by_character (character_of lexeme) refl 
         ap character_of (sym same) ∙ is ∙ ap Some (sym (eqb→eq c d (passes (c == d) t)))
     by_test d false is t below e = below e
 
-    by_character : (o : Option ℕ) → character_of lexeme ≡ o → (lexeme_in lexemes c ≡ Some k → character_of k ≡ Some c) → found o lexeme (lexeme_in lexemes c) c ≡ Some k → character_of k ≡ Some c
+    by_character : (o : Option ℕ) → character_of lexeme ≡ o → (lexeme_in lexemes c ≡ Some k → character_of k ≡ Some c) → lexeme_or o lexeme (lexeme_in lexemes c) c ≡ Some k → character_of k ≡ Some c
     by_character (Some d) is below e = by_test d (c == d) is refl below e
     by_character None is below e = below e
 
