@@ -5,9 +5,10 @@ use Rattle.std.proofs.lemmas.List.Elements.{All-from_get_or}
 use Rattle.apl_array.specs.declared.array.Elem.{Elem}
 use Rattle.apl_array.specs.declared.array.Elem.TheVariants.{Int}
 use Rattle.apl_array.specs.declared.array.Kind.{Kind}
-use Rattle.apl_array.specs.Shape.{IsIndexOf, count_of, place_of, index_at}
+use Rattle.apl_array.specs.Shape.{IsShape, IsIndexOf, count_of, place_of, index_at}
 use Rattle.apl_array.specs.Array.{ArrayValue, IsArray, element_in}
 use Rattle.apl_array.specs.Range.{IsElementInRange, HasNumbersInRange}
+use Rattle.apl_array.specs.Limits.{IsWithinLimits}
 use Rattle.apl_pool.specs.declared.kernel.Fault.{Fault}
 use Rattle.apl_pool.specs.declared.kernel.Fault.TheVariants.{Domain, Limit, Index}
 use Rattle.apl_answer.specs.Faults.{op_fault_of}
@@ -151,3 +152,18 @@ module _ (places : PlacesLaw) (shape : List ℕ) (outcome : List ℕ → Result 
       (λ k inside.
       let below : k < count_of shape = omega (arith, all.len, len) in
       subst Q (sym (get_or-outcomes shape outcome k e below) ∙ all.each k (omega (arith, below, len))) (each (index_at shape k) (places.lawful shape k below))))
+
+  -- and those of a lawful shape an array within all limits
+  pub within_limits_from_answer : (kind : Kind) (a : ArrayValue) → IsShape shape
+      → ((index : List ℕ) → IsIndexOf shape index → IfOk (outcome index) IsElementInRange) → answer_of shape outcome kind ≡ Ok a → IsWithinLimits a
+  unfolding outcomes made
+  within_limits_from_answer kind a lawful each is =
+      let parts = shaped_elements shape kind (all_or_first outcomes) a is in
+      let all = each_from_all d e outcomes parts.0 parts.1 in
+      let P : ArrayValue → Type 0 = λ b. IsWithinLimits b in
+      let Q : ArrayValue → Type 0 = λ b. HasNumbersInRange b in
+      subst P (sym parts.2) record {
+        shape = lawful;
+        len = all.len ∙ len;
+        numbers = subst Q parts.2 (in_range_from_answer kind a each is);
+      }

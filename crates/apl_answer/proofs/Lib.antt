@@ -2,3 +2,4 @@ pub mod Gathering
 pub mod Places
 pub mod Answers
 pub mod Examples
+pub mod Passed

@@ -1,5 +1,5 @@
 -- What a function of arrays answers, as a row of a table: checks in order, and the shape, the kind and the elements of the result.
-use Rattle.std.specs.Prelude.{ℕ, List, [], ◌∷◌, Bool, Result, Ok, Err, if◌then◌else◌}
+use Rattle.std.specs.Prelude.{◌≡◌, ℕ, List, [], ◌∷◌, Bool, true, Result, Ok, Err, if◌then◌else◌}
 use Rattle.apl_array.specs.declared.array.Elem.{Elem}
 use Rattle.apl_array.specs.declared.array.Kind.{Kind}
 use Rattle.apl_array.specs.Array.{ArrayValue}
@@ -21,6 +21,11 @@ pub record Row : Type 0 where
 -- a row in which no place has a fault
 abbrev pub array_row : List Check → List ℕ → Kind → (List ℕ → Elem) → Row
 array_row checks shape kind element = record { checks = checks; shape = shape; kind = kind; outcome = λ index. Ok (element index) }
+
+-- none of the checks fails
+abbrev pub HavePassed : List Check → Type 0
+HavePassed [] = Unit {0}
+HavePassed (check ∷ checks) = (check.0 ≡ true) × HavePassed checks
 
 -- the refusal of the first check that fails, else the answer
 abbrev pub first_failure_or : List Check → Result ArrayValue OpFault → Result ArrayValue OpFault

@@ -12,4 +12,4 @@ mod laws;
 pub use element::Element;
 pub use fault::OpFault;
 pub use fill::{array_from_fill, fill_array};
-pub use laws::{answer_is_each_outcome, answer_is_in_range};
+pub use laws::{answer_is_each_outcome, answer_is_in_range, answer_is_within_limits};

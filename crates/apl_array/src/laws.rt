@@ -4,7 +4,7 @@ ghost use Rattle.std.specs.Prelude.{◌≡◌, ◌↔◌, ◌<◌, ◌+◌, ◌*
 ghost use Rattle.std.specs.List.{range_with_len};
 ghost use Rattle.std.specs.Int.{w64};
 ghost use Rattle.apl_array.specs.Range.{IsInRange, in_range};
-ghost use Rattle.apl_array.specs.Shape.{IsShape, IsIndexOf, count_of, place_of, index_at};
+ghost use Rattle.apl_array.specs.Shape.{IsShape, is_shape, IsIndexOf, count_of, place_of, index_at};
 ghost use Rattle.apl_array.specs.Transposition.{strides, inner_product, source_index, transposed_shape, source_strides, AreAxesInto};
 ghost use Rattle.apl_array.specs.Array.{ArrayValue, IsArray, HaveSameElements};
 
@@ -111,6 +111,11 @@ pub fn transposed_index_has_place()
     ensures shape { (source axes : List ℕ) (rank : ℕ) → IsShape source → length axes ≡ length source → All (λ axis. axis < rank) axes
         → ((axis : ℕ) → axis < rank → Contains axes axis) → IsShape (transposed_shape rank axes source) }
     ensures reversed { (index : List ℕ) → source_index (reverse (range_with_len 0 (length index))) index ≡ reverse index }
+{}
+
+/// The test decides what is a shape.
+pub fn shape_is_decided()
+    ensures { (lengths : List ℕ) → (is_shape lengths ≡ true) ↔ IsShape lengths }
 {}
 
 /// The test decides what is in the range, and the range is what 64 bits hold.

@@ -3,4 +3,5 @@ pub mod StackLemmas
 pub mod StepLemmas
 pub mod Endings
 pub mod LawfulLemmas
-pub mod RangeLemmas
+pub mod LimitLemmas
+pub mod GlyphLemmas

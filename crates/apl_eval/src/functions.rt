@@ -1,18 +1,20 @@
 //! Functions of arrays.
 ghost use Rattle.std.specs.Prelude.{◌≡◌, Result, map, option_copied};
+ghost use Rattle.apl_array.specs.declared.axis.Axis.TheVariants.{At};
 ghost use Rattle.apl_array.specs.Array.{ArrayValue};
 ghost use Rattle.apl_answer.specs.declared.fault.OpFault.{OpFault};
 ghost use Rattle.apl_answer.specs.Pointwise.{IsAnswerOf};
-ghost use Rattle.apl_eval.specs.Functions.{caret_column, scalar_function, result_of, monadic_scalar, dyadic_scalar, monadic_result, dyadic_result, index_result, assign_at_result};
+ghost use Rattle.apl_eval.specs.Functions.{caret_column, result_of, default_axis, monadic_scalar, dyadic_scalar, monadic_along, dyadic_along, monadic_plain, dyadic_plain, monadic_result, dyadic_result, index_result, assign_at_result};
 ghost use Rattle.apl_eval.specs.Refusals.{Answers};
 
 use super::error::EvalError;
 use super::workspace::Workspace;
 use apl_answer::OpFault;
-use apl_array::Array;
+use apl_array::{Array, Axis};
 use apl_grammar::Form;
 use apl_pool::{Cut, Gate, Pool};
 use apl_scalar::Prim;
+use apl_struct::axis_number;
 use apl_tokens::Glyph;
 use std::alloc::Global;
 use std::thread::Threads;
@@ -53,23 +55,23 @@ pub(crate) fn caret_column(form: Form) -> usize
     }
 }
 
-/// The scalar function of a glyph, if it has one.
-fn scalar_function(glyph: Glyph) -> Option<Prim>
-    ensures { result ≡ scalar_function glyph }
-{
-    match glyph {
-        Glyph::Scalar(function) => Some(function),
-        _ => None,
-    }
-}
-
-/// What a scalar function answered, its fault as an error.
+/// What a function answered, its fault as an error.
 fn result_of(answer: Result<Array, OpFault>) -> Result<Array, Refusal>
     ensures { (wanted : Result ArrayValue OpFault) → IsAnswerOf wanted answer → Answers (result_of wanted) result }
 {
     match answer {
         Ok(array) => Ok(array),
         Err(fault) => Err(Refusal::from(fault)),
+    }
+}
+
+/// The axis that a function works along where no axis argument stands.
+fn default_axis(glyph: Glyph) -> Axis
+    ensures { result ≡ default_axis glyph }
+{
+    match glyph {
+        Glyph::CircleBar | Glyph::SlashBar | Glyph::BackslashBar => Axis::First,
+        _ => Axis::Last,
     }
 }
 
@@ -83,32 +85,102 @@ pub(crate) struct Machine<'a, R: Threads + Sync, C: Cut + Sync, G: Gate + Sync> 
 }
 
 impl<'a, R: Threads + Sync, C: Cut + Sync, G: Gate + Sync> Machine<'a, R, C, G> {
+    /// The axis of this number.
+    fn axis_at(&self, number: i64) -> Axis
+        ensures { result ≡ At number self.now.workspace.now.origin }
+    {
+        Axis::At {
+            number,
+            origin: self.workspace.origin(),
+        }
+    }
+
     /// A scalar function of one array.
-    fn monadic_scalar(&self, function: Option<Prim>, right: &Array) -> Result<Array, Refusal>
+    fn monadic_scalar(&self, function: Prim, right: &Array) -> Result<Array, Refusal>
         ensures { Answers (monadic_scalar function right.now) result }
     {
-        match function {
-            Some(function) if function.is_monadic() => result_of(apl_scalar::monadic(
-                self.rt, self.alloc, self.pool, function, right,
-            )),
+        if !function.is_monadic() {
+            return Err(Refusal::Error(EvalError::Syntax));
+        }
+        result_of(apl_scalar::monadic(self.rt, self.alloc, self.pool, function, right))
+    }
+
+    /// A scalar function of two arrays.
+    fn dyadic_scalar(&self, function: Prim, left: &Array, right: &Array) -> Result<Array, Refusal>
+        ensures { Answers (dyadic_scalar function left.now right.now) result }
+    {
+        if !function.is_dyadic() {
+            return Err(Refusal::Error(EvalError::Syntax));
+        }
+        result_of(apl_scalar::dyadic(self.rt, self.alloc, self.pool, function, left, right))
+    }
+
+    /// A function of one array along an axis.
+    fn monadic_along(&self, glyph: Glyph, axis: Axis, b: &Array) -> Result<Array, Refusal>
+        ensures { Answers (monadic_along glyph axis b.now) result }
+    {
+        let (rt, alloc, pool) = (self.rt, self.alloc, self.pool);
+        match glyph {
+            Glyph::CircleStile | Glyph::CircleBar => {
+                result_of(apl_struct::reverse(rt, alloc, pool, b, axis))
+            }
             _ => Err(Refusal::Error(EvalError::Syntax)),
         }
     }
 
-    /// A scalar function of two arrays.
-    fn dyadic_scalar(
-        &self,
-        function: Option<Prim>,
-        left: &Array,
-        right: &Array,
-    ) -> Result<Array, Refusal>
-        ensures { Answers (dyadic_scalar function left.now right.now) result }
+    /// A function of one array where no axis argument stands.
+    fn monadic_plain(&self, glyph: Glyph, b: &Array) -> Result<Array, Refusal>
+        ensures { Answers (monadic_plain self.now.workspace.now.origin glyph b.now) result }
     {
-        match function {
-            Some(function) if function.is_dyadic() => result_of(apl_scalar::dyadic(
-                self.rt, self.alloc, self.pool, function, left, right,
-            )),
+        let (rt, alloc, pool) = (self.rt, self.alloc, self.pool);
+        let origin = self.workspace.origin();
+        match glyph {
+            Glyph::Scalar(function) => self.monadic_scalar(function, b),
+            Glyph::Rho => result_of(apl_struct::shape_of(rt, alloc, pool, b)),
+            Glyph::Comma => result_of(apl_struct::ravel(rt, alloc, pool, b)),
+            Glyph::Iota => result_of(apl_struct::iota(rt, alloc, pool, b, origin)),
+            Glyph::Transpose => result_of(apl_struct::transpose(rt, alloc, pool, b)),
+            Glyph::GradeUp => result_of(apl_struct::grade_up(rt, alloc, pool, b, origin)),
+            Glyph::GradeDown => result_of(apl_struct::grade_down(rt, alloc, pool, b, origin)),
+            _ => self.monadic_along(glyph, default_axis(glyph), b),
+        }
+    }
+
+    /// A function of two arrays along an axis.
+    fn dyadic_along(&self, glyph: Glyph, axis: Axis, a: &Array, b: &Array) -> Result<Array, Refusal>
+        ensures { Answers (dyadic_along glyph axis a.now b.now) result }
+    {
+        let (rt, alloc, pool) = (self.rt, self.alloc, self.pool);
+        match glyph {
+            Glyph::Comma => result_of(apl_struct::catenate(rt, alloc, pool, a, b, axis)),
+            Glyph::CircleStile | Glyph::CircleBar => {
+                result_of(apl_struct::rotate(rt, alloc, pool, a, b, axis))
+            }
+            Glyph::Slash | Glyph::SlashBar => {
+                result_of(apl_struct::compress(rt, alloc, pool, a, b, axis))
+            }
+            Glyph::Backslash | Glyph::BackslashBar => {
+                result_of(apl_struct::expand(rt, alloc, pool, a, b, axis))
+            }
             _ => Err(Refusal::Error(EvalError::Syntax)),
+        }
+    }
+
+    /// A function of two arrays where no axis argument stands.
+    fn dyadic_plain(&self, glyph: Glyph, a: &Array, b: &Array) -> Result<Array, Refusal>
+        ensures { Answers (dyadic_plain self.now.workspace.now.origin glyph a.now b.now) result }
+    {
+        let (rt, alloc, pool) = (self.rt, self.alloc, self.pool);
+        let origin = self.workspace.origin();
+        match glyph {
+            Glyph::Scalar(function) => self.dyadic_scalar(function, a, b),
+            Glyph::Rho => result_of(apl_struct::reshape(rt, alloc, pool, a, b)),
+            Glyph::Iota => result_of(apl_struct::index_of(rt, alloc, pool, a, b, origin)),
+            Glyph::Epsilon => result_of(apl_struct::member(rt, alloc, pool, a, b)),
+            Glyph::UpArrow => result_of(apl_struct::take(rt, alloc, pool, a, b)),
+            Glyph::DownArrow => result_of(apl_struct::drop(rt, alloc, pool, a, b)),
+            Glyph::Transpose => result_of(apl_struct::transpose_by(rt, alloc, pool, a, b, origin)),
+            _ => self.dyadic_along(glyph, default_axis(glyph), a, b),
         }
     }
 
@@ -123,9 +195,12 @@ impl<'a, R: Threads + Sync, C: Cut + Sync, G: Gate + Sync> Machine<'a, R, C, G> 
         ensures { Answers (monadic_result self.now.workspace.now.origin form (option_copied axis.entry) right.now) result }
     {
         match (form, axis) {
-            (Form::Plain { glyph, .. }, None) => self.monadic_scalar(scalar_function(glyph), right),
-            (Form::Plain { .. }, Some(_))
-            | (Form::Reduce { .. } | Form::Inner { .. } | Form::Outer { .. }, _) => {
+            (Form::Plain { glyph, .. }, None) => self.monadic_plain(glyph, right),
+            (Form::Plain { glyph, .. }, Some(axis)) => {
+                let axis = self.axis_at(axis_number(axis)?);
+                self.monadic_along(glyph, axis, right)
+            }
+            (Form::Reduce { .. } | Form::Inner { .. } | Form::Outer { .. }, _) => {
                 Err(Refusal::Error(EvalError::Syntax))
             }
         }
@@ -143,11 +218,12 @@ impl<'a, R: Threads + Sync, C: Cut + Sync, G: Gate + Sync> Machine<'a, R, C, G> 
         ensures { Answers (dyadic_result self.now.workspace.now.origin form (option_copied axis.entry) left.now right.now) result }
     {
         match (form, axis) {
-            (Form::Plain { glyph, .. }, None) => {
-                self.dyadic_scalar(scalar_function(glyph), left, right)
+            (Form::Plain { glyph, .. }, None) => self.dyadic_plain(glyph, left, right),
+            (Form::Plain { glyph, .. }, Some(axis)) => {
+                let axis = self.axis_at(axis_number(axis)?);
+                self.dyadic_along(glyph, axis, left, right)
             }
-            (Form::Plain { .. }, Some(_))
-            | (Form::Reduce { .. } | Form::Inner { .. } | Form::Outer { .. }, _) => {
+            (Form::Reduce { .. } | Form::Inner { .. } | Form::Outer { .. }, _) => {
                 Err(Refusal::Error(EvalError::Syntax))
             }
         }
@@ -158,7 +234,9 @@ impl<'a, R: Threads + Sync, C: Cut + Sync, G: Gate + Sync> Machine<'a, R, C, G> 
     pub(crate) fn index(&self, array: &Array, slots: &[Option<&Array>]) -> Result<Array, Refusal>
         ensures { Answers (index_result self.now.workspace.now.origin array.now (map option_copied slots.now)) result }
     {
-        Err(Refusal::Error(EvalError::Syntax))
+        let (rt, alloc, pool) = (self.rt, self.alloc, self.pool);
+        let origin = self.workspace.origin();
+        result_of(apl_struct::select(rt, alloc, pool, array, slots, origin))
     }
 
     /// A name's array, if it has one, with the value in the place of the elements that the slots choose.
@@ -171,6 +249,13 @@ impl<'a, R: Threads + Sync, C: Cut + Sync, G: Gate + Sync> Machine<'a, R, C, G> 
     ) -> Result<Array, Refusal>
         ensures { Answers (assign_at_result self.now.workspace.now.origin (option_copied array.entry) (map option_copied slots.now) value.now) result }
     {
-        Err(Refusal::Error(EvalError::Syntax))
+        let (rt, alloc, pool) = (self.rt, self.alloc, self.pool);
+        let origin = self.workspace.origin();
+        match array {
+            Some(array) => result_of(apl_struct::replace(
+                rt, alloc, pool, array, slots, value, origin,
+            )),
+            None => Err(Refusal::Error(EvalError::Value)),
+        }
     }
 }

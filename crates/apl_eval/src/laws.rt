@@ -1,7 +1,7 @@
 //! What is true of all statements in lawful workspaces.
 ghost use Rattle.std.specs.Prelude.{ℕ, ◌≤◌, Result};
 ghost use Rattle.apl_array.specs.declared.axis.Origin.{Origin};
-ghost use Rattle.apl_tokens.specs.Constants.{HasConstantsInRange};
+ghost use Rattle.apl_tokens.specs.Constants.{HasConstantsWithinLimits};
 ghost use Rattle.apl_grammar.specs.Tree.{Expr, spells};
 ghost use Rattle.apl_print.specs.Width.{least_width, most_width};
 ghost use Rattle.apl_eval.specs.declared.statement.Shown.{Shown};
@@ -11,16 +11,18 @@ ghost use Rattle.apl_eval.specs.Meaning.{meaning_of};
 ghost use Rattle.apl_eval.specs.Evaluates.{Evaluates};
 ghost use Rattle.apl_eval.specs.Lawful.{IsLawful, IsLawfulOutcome};
 
-use apl_scalar::answers_are_in_range;
+use apl_scalar::answers_are_within_limits;
+use apl_struct::structural_answers_are_within_limits;
 
-/// A new workspace is lawful. Settings and statements keep it so, and the numbers of a statement's value are in the range.
+/// A new workspace is lawful. Settings and statements keep it so, and a statement's value is within all limits.
 pub fn lawful_stays()
     ensures opening { IsLawful opening_workspace }
     ensures origin { (origin : Origin) (w : WorkspaceValue) → IsLawful w → IsLawful (with_origin origin w) }
     ensures width { (width : ℕ) (w : WorkspaceValue) → least_width ≤ width → width ≤ most_width → IsLawful w → IsLawful (with_width width w) }
-    ensures outcome { (tree : Expr) (w : WorkspaceValue) → HasConstantsInRange (spells tree) → IsLawful w → IsLawfulOutcome (meaning_of tree w) }
-    ensures evaluated { (tree : Expr) (old new : WorkspaceValue) (result : Result Shown EvalStop) → HasConstantsInRange (spells tree)
+    ensures outcome { (tree : Expr) (w : WorkspaceValue) → HasConstantsWithinLimits (spells tree) → IsLawful w → IsLawfulOutcome (meaning_of tree w) }
+    ensures evaluated { (tree : Expr) (old new : WorkspaceValue) (result : Result Shown EvalStop) → HasConstantsWithinLimits (spells tree)
         → IsLawful old → Evaluates tree old new result → IsLawful new }
 {
-    answers_are_in_range();
+    answers_are_within_limits();
+    structural_answers_are_within_limits();
 }

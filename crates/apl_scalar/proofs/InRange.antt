@@ -88,7 +88,7 @@ compare_in NotEqual same = bit_in (not same)
 compare_in _ same = tt
 
 -- the element at an index list, and 0 beside the array
-element_at_in : (a : ArrayValue) (index : List ℕ) → HasNumbersInRange a → IsElementInRange (element_at a index)
+pub element_at_in : (a : ArrayValue) (index : List ℕ) → HasNumbersInRange a → IsElementInRange (element_at a index)
 element_at_in a index h =
     let place = place_of a.shape index in
     ⊎_elim
@@ -96,7 +96,7 @@ element_at_in a index h =
     (λ past. rw (get_or_past a.ravel place (Int (pos 0)) past) zero_in)
     (cases_lt place (length a.ravel))
 
-as_element_in : (r : Result ℤ Fault) → IfOk r IsInRange → IfOk (as_element r) IsElementInRange
+pub as_element_in : (r : Result ℤ Fault) → IfOk r IsInRange → IfOk (as_element r) IsElementInRange
 as_element_in (Ok z) h = h
 as_element_in (Err fault) h = tt
 

@@ -5,3 +5,4 @@ pub mod Residues
 pub mod Sources
 pub mod Places
 pub mod InRange
+pub mod WithinLimits

@@ -3,12 +3,13 @@ ghost use Rattle.std.specs.Prelude.{◌≡◌, Ok, IfOk};
 ghost use Rattle.apl_array.specs.declared.array.Elem.{Elem};
 ghost use Rattle.apl_array.specs.Array.{ArrayValue};
 ghost use Rattle.apl_array.specs.Range.{IsInRange, IsElementInRange, HasNumbersInRange};
+ghost use Rattle.apl_array.specs.Limits.{IsWithinLimits};
 ghost use Rattle.apl_scalar.specs.Scalar.{monadic_of, dyadic_of};
 ghost use Rattle.apl_scalar.specs.Monadic.{monadic_answer};
 ghost use Rattle.apl_scalar.specs.Dyadic.{dyadic_answer};
 ghost use Rattle.apl_array.specs.declared.function.ScalarFunction.{ScalarFunction};
 
-use apl_answer::answer_is_in_range;
+use apl_answer::{answer_is_in_range, answer_is_within_limits};
 use apl_array::range_is_decided;
 
 /// The answers to arguments whose numbers are in the range have their numbers in the range.
@@ -22,4 +23,15 @@ pub fn answers_are_in_range()
 {
     range_is_decided();
     answer_is_in_range();
+}
+
+/// The answers to arguments within all limits are within all limits.
+pub fn answers_are_within_limits()
+    ensures monadic { (f : ScalarFunction) (b answer : ArrayValue) → IsWithinLimits b
+        → monadic_answer f b ≡ Ok answer → IsWithinLimits answer }
+    ensures dyadic { (f : ScalarFunction) (a b answer : ArrayValue) → IsWithinLimits a → IsWithinLimits b
+        → dyadic_answer f a b ≡ Ok answer → IsWithinLimits answer }
+{
+    range_is_decided();
+    answer_is_within_limits();
 }

@@ -4,9 +4,10 @@ use Rattle.std.specs.Prelude.{Bool, true, false, MatchBool, encode_utf8_all}
 use Rattle.apl_array.specs.declared.axis.Origin.{Origin}
 use Rattle.apl_array.specs.Array.{ArrayValue}
 use Rattle.apl_array.specs.Range.{HasNumbersInRange}
+use Rattle.apl_array.specs.Limits.{IsWithinLimits}
 use Rattle.apl_tokens.specs.declared.token.Token.{Token}
 use Rattle.apl_tokens.specs.Lexis.{Lexes}
-use Rattle.apl_tokens.specs.Constants.{HasConstantsInRange}
+use Rattle.apl_tokens.specs.Constants.{HasConstantsWithinLimits}
 use Rattle.apl_grammar.specs.Tree.{Expr, spells}
 use Rattle.apl_print.specs.Shown.{IsShown}
 use Rattle.apl_print.specs.Width.{least_width, most_width}
@@ -22,25 +23,25 @@ use Rattle.apl_session.specs.Step.{text_answer, report_answer, command_answer, r
 -- the laws of the crates below
 pub record StepLaws : Type 0 where
   pub reading : (line : List ℕ) → (reading : Reading) × IsReading line reading
-  pub constants : (characters : List ℕ) (tokens : List Token) → Lexes characters tokens → HasConstantsInRange tokens
+  pub constants : (characters : List ℕ) (tokens : List Token) → Lexes characters tokens → HasConstantsWithinLimits tokens
   pub opening : IsLawful opening_workspace
   pub origin : (origin : Origin) (w : WorkspaceValue) → IsLawful w → IsLawful (with_origin origin w)
   pub width : (width : ℕ) (w : WorkspaceValue) → least_width ≤ width → width ≤ most_width → IsLawful w → IsLawful (with_width width w)
-  pub outcome : (tree : Expr) (w : WorkspaceValue) → HasConstantsInRange (spells tree) → IsLawful w → IsLawfulOutcome (meaning_of tree w)
+  pub outcome : (tree : Expr) (w : WorkspaceValue) → HasConstantsWithinLimits (spells tree) → IsLawful w → IsLawfulOutcome (meaning_of tree w)
   pub shown : (a : ArrayValue) (width : ℕ) → HasNumbersInRange a → least_width ≤ width → (text : List ℕ) × IsShown a width text
 
 module _ (laws : StepLaws) where
   -- a value is printed, unless the statement is an assignment
-  some_done : (silent : Bool) (v : ArrayValue) (after : WorkspaceValue) → HasNumbersInRange v → IsLawful after
+  some_done : (silent : Bool) (v : ArrayValue) (after : WorkspaceValue) → IsWithinLimits v → IsLawful after
       → (answer : Answer WorkspaceValue) × MatchBool silent (answer ≡ text_answer [] after) (IsPrintedAnswer v after answer) × IsLawful answer.after
-  some_done true v after numbers lawful = (text_answer [] after, refl, lawful)
-  some_done false v after numbers lawful =
-      let shown = laws.shown v after.width numbers lawful.least_width in
+  some_done true v after limits lawful = (text_answer [] after, refl, lawful)
+  some_done false v after limits lawful =
+      let shown = laws.shown v after.width limits.numbers lawful.least_width in
       (text_answer (encode_utf8_all shown.0) after, (shown.0, shown.1, refl), lawful)
 
   some_statement : (line : List ℕ) (tree : Expr) (outcome : Outcome ArrayValue) → IsLawfulOutcome outcome
       → (answer : Answer WorkspaceValue) × IsStatementAnswer line tree outcome answer × IsLawful answer.after
-  some_statement line tree (done v after) (numbers, lawful) = some_done (is_assignment tree) v after numbers lawful
+  some_statement line tree (done v after) (limits, lawful) = some_done (is_assignment tree) v after limits lawful
   some_statement line tree (failed error column after) lawful = (report_answer (report_of error) line column after, refl, lawful)
 
   command_answer_lawful : (state : WorkspaceValue) (line : List ℕ) (given : Command) → IsReading line (command given) → IsLawful state → IsLawful (command_answer given state).after

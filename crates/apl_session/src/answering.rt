@@ -14,7 +14,7 @@ use apl_eval::lawful_stays;
 use apl_pool::{Cut, Gate, Pool};
 use apl_print::{Sink, shown_always, shown_once};
 use apl_syntax::{one_reading, some_reading};
-use apl_tokens::constants_are_in_range;
+use apl_tokens::constants_are_within_limits;
 use std::alloc::Global;
 use std::thread::Threads;
 
@@ -77,7 +77,7 @@ pub fn some_step()
 {
     one_step();
     some_reading();
-    constants_are_in_range();
+    constants_are_within_limits();
     lawful_stays();
     shown_always();
 }

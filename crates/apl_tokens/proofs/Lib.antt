@@ -10,4 +10,4 @@ pub mod Lines
 pub mod Unique
 pub mod Total
 pub mod FrontTotal
-pub mod InRange
+pub mod WithinLimits

@@ -1,15 +1,15 @@
--- The numbers of constants.
+-- The limits of constants.
 use Rattle.std.specs.Prelude.{List, All}
-use Rattle.apl_array.specs.Range.{HasNumbersInRange}
+use Rattle.apl_array.specs.Limits.{IsWithinLimits}
 use Rattle.apl_tokens.specs.declared.token.Token.{Token}
 use Rattle.apl_tokens.specs.declared.token.Lexeme.{Lexeme}
 use Rattle.apl_tokens.specs.declared.token.Lexeme.TheVariants.{Constant}
 
--- if it is a constant, its numbers are in the range
-abbrev pub IsLexemeInRange : Lexeme → Type 0
-IsLexemeInRange (Constant value) = HasNumbersInRange value
-IsLexemeInRange _ = Unit {0}
+-- if it is a constant, its array is within all limits
+abbrev pub IsLexemeWithinLimits : Lexeme → Type 0
+IsLexemeWithinLimits (Constant value) = IsWithinLimits value
+IsLexemeWithinLimits _ = Unit {0}
 
--- the numbers of all constants among the tokens are in the range
-abbrev pub HasConstantsInRange : List Token → Type 0
-HasConstantsInRange tokens = All (λ t. IsLexemeInRange t.lexeme) tokens
+-- all constants among the tokens are within all limits
+abbrev pub HasConstantsWithinLimits : List Token → Type 0
+HasConstantsWithinLimits tokens = All (λ t. IsLexemeWithinLimits t.lexeme) tokens

@@ -1,10 +1,10 @@
-// Laws of the definitions: a line has one front, its characters one list of tokens or one fault, and the tokens have no number
-// outside the range.
+// Laws of the definitions: a line has one front, its characters one list of tokens or one fault, and its constants are
+// within all limits.
 ghost use Rattle.std.specs.Prelude.{◌≡◌, ◌⊎◌, ℕ, List};
 ghost use Rattle.apl_tokens.specs.declared.token.Token.{Token};
 ghost use Rattle.apl_tokens.specs.Fronts.{IsFront};
 ghost use Rattle.apl_tokens.specs.Lexis.{Lexes, HasLexicalFault, HasLimitFault};
-ghost use Rattle.apl_tokens.specs.Constants.{HasConstantsInRange};
+ghost use Rattle.apl_tokens.specs.Constants.{HasConstantsWithinLimits};
 
 /// The front of a line and what follows it are one.
 pub fn front_is_unique()
@@ -31,7 +31,7 @@ pub fn lexing_is_unique()
     ensures one_kind { (characters : List ℕ) (c d : ℕ) → HasLexicalFault characters c → HasLimitFault characters d → ⊥ }
 {}
 
-/// The constants of tokens that characters have are in the range.
-pub fn constants_are_in_range()
-    ensures { (characters : List ℕ) (tokens : List Token) → Lexes characters tokens → HasConstantsInRange tokens }
+/// The constants of tokens that characters have are within all limits.
+pub fn constants_are_within_limits()
+    ensures { (characters : List ℕ) (tokens : List Token) → Lexes characters tokens → HasConstantsWithinLimits tokens }
 {}

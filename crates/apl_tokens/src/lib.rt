@@ -9,7 +9,7 @@ mod token;
 
 pub use fronts::{FrontStop, front};
 pub use laws::{
-    constants_are_in_range, front_is_total, front_is_unique, lexing_is_total, lexing_is_unique,
+    constants_are_within_limits, front_is_total, front_is_unique, lexing_is_total, lexing_is_unique,
 };
 pub use lexer::{LexicalStop, blanks_before, tokens};
 pub use symbols::is_digit;

@@ -3,7 +3,7 @@ use apl_array::{
     Array, Elem, Kind, MOST_ELEMENTS, Shape, ShapeError, changed_axis_has_place,
     elements_determine_array, inserted_index_has_place, joined_index_has_place,
     place_is_sum_of_strides, places_match_index_lists, range_is_decided, replaced_index_has_place,
-    reversed_index_is_lawful, split_index_has_place, transposed_index_has_place,
+    reversed_index_is_lawful, shape_is_decided, split_index_has_place, transposed_index_has_place,
 };
 use std::test::Fail;
 
@@ -29,6 +29,7 @@ fn places(rt: HostRuntime) -> Result<(), Fail> {
     let shape = Shape::new(rt.alloc(), &[2, 3, 4])?.copy(rt.alloc())?;
     assert!(rt; shape.rank() == 3 && shape.count() == 24);
     assert!(rt; shape.axis(1) == 3 && shape.lengths()[2] == 4);
+    assert!(rt; shape.inner(0) == 12 && shape.inner(1) == 4 && shape.inner(2) == 1);
     assert!(rt; shape.place(&[1, 2, 3]) == 23 && shape.place(&[1, 0, 2]) == 14);
     for place in 0..24 {
         assert!(rt;
@@ -42,6 +43,7 @@ fn places(rt: HostRuntime) -> Result<(), Fail> {
 
 #[test]
 fn laws_of_places() {
+    shape_is_decided();
     places_match_index_lists();
     inserted_index_has_place();
     replaced_index_has_place();

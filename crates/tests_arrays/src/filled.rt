@@ -4,7 +4,9 @@ ghost use Rattle.apl_pool.specs.declared.kernel.TheConstants.{MOST_PLACES};
 
 use crate::scalars::Answer::{self, Is, Stops};
 use crate::scalars::is_answer;
-use apl_answer::{OpFault, answer_is_each_outcome, answer_is_in_range, fill_array};
+use apl_answer::{
+    OpFault, answer_is_each_outcome, answer_is_in_range, answer_is_within_limits, fill_array,
+};
 use apl_array::Shape;
 use apl_pool::{Every, Fault, Kernel, MOST_PLACES, Open, Pool};
 use std::test::Fail;
@@ -82,6 +84,7 @@ fn numbers(rt: HostRuntime) -> Result<(), Fail> {
     }
     answer_is_each_outcome();
     answer_is_in_range();
+    answer_is_within_limits();
     Ok(())
 }
 

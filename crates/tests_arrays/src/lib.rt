@@ -1,4 +1,4 @@
-//! Tests of arrays, of the scalar functions, and of printed values.
+//! Tests of arrays, of the scalar and the structural functions, and of printed values.
 #![tactic(auto)]
 
 #[cfg(test)]
@@ -11,3 +11,5 @@ mod filled;
 mod printed;
 #[cfg(test)]
 mod scalars;
+#[cfg(test)]
+mod structures;

@@ -1,7 +1,10 @@
 //! The scalar functions of arrays of several shapes, by several workers.
 use apl_array::{Array, Shape};
 use apl_pool::{Every, Open, Pool};
-use apl_scalar::{OpFault, Prim, answer_is_each_outcome, answers_are_in_range, dyadic, monadic};
+use apl_scalar::{
+    OpFault, Prim, answer_is_each_outcome, answers_are_in_range, answers_are_within_limits, dyadic,
+    monadic,
+};
 use std::alloc::Global;
 use std::process::Abort;
 use std::test::Fail;
@@ -209,6 +212,7 @@ fn two_arguments(rt: HostRuntime) -> Result<(), Fail> {
     )?;
     answer_is_each_outcome();
     answers_are_in_range();
+    answers_are_within_limits();
     Ok(())
 }
 

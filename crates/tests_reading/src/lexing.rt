@@ -1,7 +1,7 @@
 //! Tokens of lines, as text: each token with its column, or the stop.
 use apl_array::ScalarFunction;
 use apl_tokens::{
-    Class, Constant, Glyph, Lexeme, Token, blanks_before, constants_are_in_range, front,
+    Class, Constant, Glyph, Lexeme, Token, blanks_before, constants_are_within_limits, front,
     front_is_total, front_is_unique, is_digit, lexing_is_total, lexing_is_unique, tokens,
 };
 use std::alloc::{AllocError, Global};
@@ -197,5 +197,5 @@ fn laws() {
     front_is_unique();
     lexing_is_total();
     lexing_is_unique();
-    constants_are_in_range();
+    constants_are_within_limits();
 }

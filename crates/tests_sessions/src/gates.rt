@@ -108,6 +108,66 @@ const FUNCTIONS: [(&str, &str); 28] = [
     ("A≠A", "0 0\n"),
 ];
 
+/// What the structural functions get: numbers of axis lengths, no elements, and one row of all elements of `A`.
+const ARGUMENTS: &str = "Z←T⍴''\nM←S⍴A\n";
+
+/// Structural functions of `A`, whose elements are all 1, of its count `N`, of the shape `S` of `M`, which is its elements as
+/// a row, and of `Z` without a row. Each has as many elements as `A`; here is what it is for two of them.
+const STRUCTURES: [(&str, &str); 52] = [
+    ("S⍴A", "1 1\n"),
+    ("N⍴3", "3 3\n"),
+    (",M", "1 1\n"),
+    ("⍳N", "1 2\n"),
+    ("⌽A", "1 1\n"),
+    ("⌽M", "1 1\n"),
+    ("⌽[1]M", "1 1\n"),
+    ("⊖A", "1 1\n"),
+    ("⊖M", "1 1\n"),
+    ("⊖[2]M", "1 1\n"),
+    ("⍉A", "1 1\n"),
+    ("⍉M", "1\n1\n"),
+    ("⍋A", "1 2\n"),
+    ("⍒A", "1 2\n"),
+    ("A,''", "1 1\n"),
+    ("'',A", "1 1\n"),
+    ("M,[1]Z", "1 1\n"),
+    ("Z,[1]A", "1 1\n"),
+    ("A⍳A", "1 1\n"),
+    ("A⍳M", "1 1\n"),
+    ("A∊A", "1 1\n"),
+    ("M∊3", "0 0\n"),
+    ("N↑A", "1 1\n"),
+    ("N↑''", "  \n"),
+    ("S↑M", "1 1\n"),
+    ("0↓A", "1 1\n"),
+    ("0 0↓M", "1 1\n"),
+    ("1⌽A", "1 1\n"),
+    ("1⌽[1]M", "1 1\n"),
+    ("A⊖M", "1 1\n"),
+    ("1⊖[2]M", "1 1\n"),
+    ("1⍉A", "1 1\n"),
+    ("2 1⍉M", "1\n1\n"),
+    ("A/A", "1 1\n"),
+    ("A/3", "3 3\n"),
+    ("1/[1]M", "1 1\n"),
+    ("1⌿M", "1 1\n"),
+    ("A⌿[2]M", "1 1\n"),
+    ("A\\A", "1 1\n"),
+    ("1\\[1]M", "1 1\n"),
+    ("1⍀M", "1 1\n"),
+    ("A⍀[2]M", "1 1\n"),
+    ("A[A]", "1 1\n"),
+    ("A[]", "1 1\n"),
+    ("M[1;]", "1 1\n"),
+    ("M[;A]", "1 1\n"),
+    ("M[;]", "1 1\n"),
+    ("(M)[A;1]", "1 1\n"),
+    ("A[1]←1", ""),
+    ("A[A]←A", ""),
+    ("M[1;]←A", ""),
+    ("M[;]←1", ""),
+];
+
 /// Answers a session by two workers and pieces of this length. Says whether it wrote the text, and both pieces met
 /// at each of so many functions.
 fn meets<R: Threads + Sync>(
@@ -157,5 +217,29 @@ fn each_scalar_function_uses_the_pool(rt: HostRuntime) -> Result<(), Fail> {
     assert!(rt; meets(&rt, alloc, 1, two.as_str(), 28, texts.as_str()));
     assert!(rt; meets(&rt, alloc, 1024, some.as_str(), 29, ""));
     assert!(rt; meets(&rt, alloc, HALF, many.as_str(), 3, ""));
+    Ok(())
+}
+
+#[test]
+fn each_structural_function_uses_the_pool(rt: HostRuntime) -> Result<(), Fail> {
+    let alloc = rt.alloc();
+    let mut two = String::from_str(alloc, "N←2\nS←1 2\nT←0 2\nA←1 1\n")?;
+    two.push_str(ARGUMENTS)?;
+    let mut texts = String::new(alloc);
+    let mut some = ones(alloc, 2048)?;
+    some.push_str("N←2048\nS←1 2048\nT←0 2048\n")?;
+    some.push_str(ARGUMENTS)?;
+    for (function, text) in &STRUCTURES {
+        write!(two, "{function}\n")?;
+        texts.push_str(text)?;
+        write!(some, "B←{function}\n")?;
+    }
+    two.push_str("⍴M\n")?;
+    texts.push_str("1 2\n")?;
+    let mut many = ones(alloc, 2 * HALF)?;
+    many.push_str("B←⌽A\nB←A,''\nB←A[A]\nA[1]←2\n")?;
+    assert!(rt; meets(&rt, alloc, 1, two.as_str(), 54, texts.as_str()));
+    assert!(rt; meets(&rt, alloc, 1024, some.as_str(), 54, ""));
+    assert!(rt; meets(&rt, alloc, HALF, many.as_str(), 5, ""));
     Ok(())
 }

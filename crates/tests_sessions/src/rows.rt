@@ -1,4 +1,5 @@
 //! Whole sessions, and what they write.
+mod structures;
 mod tables;
 
 use apl_pool::{Every, Open, Pool};
@@ -8,7 +9,12 @@ use std::alloc::{AllocError, Global};
 use std::process::Abort;
 use std::test::Fail;
 use std::thread::Threads;
-use tables::{CARETS, COMMANDS, FORMS_TO_COME, LINES, NUMERALS, SCALARS, TEXTS, UNLISTED, VALUES};
+use structures::{
+    AXES, BUILT, CHOSEN, EXTENDED, FOUND, INDEXED, JOINED, LIMITS, MOVED, PRINTED, TAKEN, WORKED,
+};
+use tables::{
+    CARETS, COMMANDS, FORMS_TO_COME, LINES, NUMERALS, OPERANDS, SCALARS, TEXTS, UNLISTED, VALUES,
+};
 
 /// Whether a session writes exactly this on a pool, by takes and puts of at most so many bytes.
 fn writes<R: Threads + Sync>(
@@ -66,7 +72,17 @@ fn check_on<R: Abort + Threads + Sync>(
 
 #[test]
 fn statements(rt: HostRuntime) {
-    for sessions in [VALUES.as_slice(), &SCALARS, &FORMS_TO_COME] {
+    for sessions in [VALUES.as_slice(), &SCALARS, &OPERANDS, &FORMS_TO_COME] {
+        check(&rt, rt.alloc(), sessions);
+    }
+}
+
+#[test]
+fn structural_functions(rt: HostRuntime) {
+    for sessions in [
+        WORKED, EXTENDED, AXES, BUILT, JOINED, TAKEN, MOVED, CHOSEN, FOUND, INDEXED, PRINTED,
+        LIMITS,
+    ] {
         check(&rt, rt.alloc(), sessions);
     }
 }

@@ -251,26 +251,41 @@ pub(super) const CARETS: [(&str, &str); 50] = [
     ("1  ←3\n", "SYNTAX ERROR\n      1  ←3\n      ∧\n"),
 ];
 
-/// Forms that are not evaluated yet: their operands are, and then their caret is shown.
-pub(super) const FORMS_TO_COME: [(&str, &str); 18] = [
-    ("⍴3\n", "SYNTAX ERROR\n      ⍴3\n      ∧\n"),
-    ("1 2[1]\n", "SYNTAX ERROR\n      1 2[1]\n         ∧\n"),
-    ("Q[1]←2\n", "SYNTAX ERROR\n      Q[1]←2\n          ∧\n"),
+/// Operands have values before a function is looked at, and before its axis is judged.
+pub(super) const OPERANDS: [(&str, &str); 15] = [
+    ("⍴3\n", "\n"),
+    ("1 2[1]\n", "1\n"),
     ("Q[B]←2\n", "VALUE ERROR\n      Q[B]←2\n        ∧\n"),
     ("Q[1]←B\n", "VALUE ERROR\n      Q[1]←B\n           ∧\n"),
     ("⍴B\n", "VALUE ERROR\n      ⍴B\n       ∧\n"),
     ("C⍴A←3\nA\n", "VALUE ERROR\n      C⍴A←3\n      ∧\n3\n"),
-    ("⌽[9]1 2\n", "SYNTAX ERROR\n      ⌽[9]1 2\n      ∧\n"),
+    ("⌽[9]1 2\n", "INDEX ERROR\n      ⌽[9]1 2\n      ∧\n"),
     ("⌽[B]1 2\n", "VALUE ERROR\n      ⌽[B]1 2\n        ∧\n"),
     ("B[1]\n", "VALUE ERROR\n      B[1]\n      ∧\n"),
-    ("1∘.+2\n", "SYNTAX ERROR\n      1∘.+2\n        ∧\n"),
-    ("+/1 2\n", "SYNTAX ERROR\n      +/1 2\n       ∧\n"),
     ("1÷B\n", "VALUE ERROR\n      1÷B\n        ∧\n"),
-    ("1+.×2\n", "SYNTAX ERROR\n      1+.×2\n        ∧\n"),
-    ("1⌽[9]1 2\n", "SYNTAX ERROR\n      1⌽[9]1 2\n       ∧\n"),
-    ("A←4 5\nA[;]\n", "SYNTAX ERROR\n      A[;]\n       ∧\n"),
+    ("A←4 5\nA[;]\n", "RANK ERROR\n      A[;]\n       ∧\n"),
     ("B⍴A←3\nA\n", "VALUE ERROR\n      B⍴A←3\n      ∧\n3\n"),
     ("Q[D;D←2]\nD\n", "VALUE ERROR\n      Q[D;D←2]\n      ∧\n2\n"),
+    (
+        "Q[C←7]←B\nC\n",
+        "VALUE ERROR\n      Q[C←7]←B\n             ∧\nVALUE ERROR\n      C\n      ∧\n",
+    ),
+    (
+        "A⌽[C←1]B←1 2\nB\nC\n",
+        "VALUE ERROR\n      A⌽[C←1]B←1 2\n      ∧\n1 2\n1\n",
+    ),
+];
+
+/// Forms that are not evaluated yet: their operands are, and then their caret is shown.
+pub(super) const FORMS_TO_COME: [(&str, &str); 8] = [
+    ("1∘.+2\n", "SYNTAX ERROR\n      1∘.+2\n        ∧\n"),
+    ("+/1 2\n", "SYNTAX ERROR\n      +/1 2\n       ∧\n"),
+    ("+/[9]1 2\n", "SYNTAX ERROR\n      +/[9]1 2\n       ∧\n"),
+    ("+⌿B\n", "VALUE ERROR\n      +⌿B\n        ∧\n"),
+    ("1+.×2\n", "SYNTAX ERROR\n      1+.×2\n        ∧\n"),
+    ("2⊥1 0 1\n", "SYNTAX ERROR\n      2⊥1 0 1\n       ∧\n"),
+    ("2 2⊤3\n", "SYNTAX ERROR\n      2 2⊤3\n         ∧\n"),
+    ("B⊤A←3\nA\n", "VALUE ERROR\n      B⊤A←3\n      ∧\n3\n"),
 ];
 
 /// Commands.

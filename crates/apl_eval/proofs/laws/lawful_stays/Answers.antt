@@ -1,12 +1,34 @@
-use Rattle.apl_eval.proofs.LawfulLemmas.{ResultsInRange, opening_lawful, origin_lawful, width_lawful, outcome_lawful, evaluated_lawful}
-use Rattle.apl_eval.proofs.RangeLemmas.{AnswersInRange, results_in_range}
+use Rattle.apl_eval.proofs.LawfulLemmas.{ResultsWithinLimits, opening_lawful, origin_lawful, width_lawful, outcome_lawful, evaluated_lawful}
+use Rattle.apl_eval.proofs.LimitLemmas.{ScalarAnswersWithinLimits, StructuralAnswersWithinLimits, results_within_limits}
 use Rattle.apl_eval.proofs.laws.lawful_stays.Goals as goal
 
-results : goal.After-answers_are_in_range → ResultsInRange
+results : goal.After-structural_answers_are_within_limits → ResultsWithinLimits
 results c =
-    let law = c.answers_are_in_range.ensures in
-    let answers : AnswersInRange = record { monadic = law.monadic; dyadic = law.dyadic } in
-    results_in_range answers
+    let scalar = c.answers_are_within_limits.ensures in
+    let structural = c.structural_answers_are_within_limits.ensures in
+    let scalar_answers : ScalarAnswersWithinLimits = record { monadic = scalar.monadic; dyadic = scalar.dyadic } in
+    let structural_answers : StructuralAnswersWithinLimits = record {
+      shape_of = structural.shape_of;
+      ravel = structural.ravel;
+      iota = structural.iota;
+      reverse = structural.reverse;
+      transpose = structural.transpose;
+      grade_up = structural.grade_up;
+      grade_down = structural.grade_down;
+      reshape = structural.reshape;
+      catenate = structural.catenate;
+      take = structural.take;
+      drop = structural.drop;
+      rotate = structural.rotate;
+      transpose_by = structural.transpose_by;
+      compress = structural.compress;
+      expand = structural.expand;
+      index_of = structural.index_of;
+      member = structural.member;
+      select = structural.select;
+      replace = structural.replace;
+    } in
+    results_within_limits scalar_answers structural_answers
 
 pub returns-clause-opening : goal.returns-clause-opening
 returns-clause-opening c = opening_lawful

@@ -1,0 +1,82 @@
+-- Scalars that serve as vectors.
+use Rattle.std.proofs.Common.{◌≡◌, pos, ℕ, ◌+◌, ◌*◌, ◌%◌, ◌<◌, true, false, Bool, List, [], ◌∷◌, length, take, drop, slice_index, refl, ap, sym, ◌∙◌, eq-eqb, arith}
+use Rattle.std.specs.Prelude.{slice_set, Option, Some, None, option_map, IfSome, ◌≤◌, ◌^◌, max}
+use Rattle.std.proofs.Math.Nat.{div-one, mod-eq_of_lt, mul-le-mul}
+use Rattle.std.proofs.lemmas.Bool.{eqb-true}
+use Rattle.std.proofs.lemmas.List.{get_or-replicate, length-set, nil_from_length}
+use Rattle.std.proofs.lemmas.List.Elements.{All-set, All-get_or, All-replicate}
+use Rattle.apl_array.specs.declared.array.Elem.TheVariants.{Int}
+use Rattle.apl_array.specs.Array.{ArrayValue, IsArray}
+use Rattle.apl_array.specs.Shape.{IsShape, count_of, index_at}
+use Rattle.apl_answer.specs.Arguments.{is_scalar, rank_of, fill_of, only_element}
+use Rattle.apl_struct.specs.Compressing.{as_vector}
+use Rattle.apl_struct.specs.Gathered.{filled_at}
+use Rattle.apl_struct.specs.Gathering.{element_or_fill}
+use Rattle.apl_struct.proofs.Filled.{get_or-within}
+
+-- the shape of a scalar that serves as a vector of n
+abbrev pub vector_shape : ℕ → List ℕ → List ℕ
+vector_shape n [] = n ∷ []
+vector_shape n (m ∷ shape) = m ∷ shape
+
+shape_of_vector : (n : ℕ) (b : ArrayValue) (shape : List ℕ) → b.shape ≡ shape → (as_vector n b).shape ≡ vector_shape n shape
+shape_of_vector n b [] is =
+    let scalar : is_scalar b ≡ true = grind (arith, ap length is) in
+    rw scalar refl
+shape_of_vector n b (m ∷ shape) is =
+    let vector : is_scalar b ≡ false = grind (arith, ap length is) in
+    rw vector is
+
+pub vector_shape_is : (n : ℕ) (b : ArrayValue) → (as_vector n b).shape ≡ vector_shape n b.shape
+vector_shape_is n b = shape_of_vector n b b.shape refl
+
+pub vector_axis : (n k : ℕ) (shape : List ℕ) → k < max 1 (length shape) → k < length (vector_shape n shape)
+vector_axis n k [] axis = axis
+vector_axis n k (m ∷ shape) axis = grind (arith, axis)
+
+pub vector_lawful : (n : ℕ) (shape : List ℕ) → n ≤ 2 ^ 30 → IsShape shape → IsShape (vector_shape n shape)
+vector_lawful n [] most lawful = record {
+  rank = omega arith;
+  axes = All-replicate (λ x. x ≤ 2 ^ 30) 1 n most;
+  count = omega (arith, most);
+}
+vector_lawful n (m ∷ shape) most lawful = lawful
+
+same_by : (b : ArrayValue) (n m k : ℕ) (scalar : Bool) → is_scalar b ≡ scalar → k < max 1 (rank_of b) → n ≡ slice_index (as_vector m b).shape k → as_vector n b ≡ as_vector m b
+same_by b n m k true e axis is =
+    let none : length b.shape ≡ 0 = eqb-true (length b.shape) 0 e in
+    let first : k ≡ 0 = grind (arith, axis, none) in
+    let lengths : n ≡ m = rw (e, first) at is in
+    ap (λ x. as_vector x b) lengths
+same_by b n m k false e axis is = rw e refl
+
+-- a vector's length says nothing of an array that is none
+pub vector_same : (b : ArrayValue) (n m k : ℕ) → k < max 1 (rank_of b) → n ≡ slice_index (as_vector m b).shape k → as_vector n b ≡ as_vector m b
+vector_same b n m k axis is = same_by b n m k (is_scalar b) refl axis is
+
+pub vector_filled : (b : ArrayValue) (n m place : ℕ) (j : Option ℕ) → IsArray b → length b.shape ≡ 0 → IfSome j (λ i. i < n)
+    → filled_at b (option_map (λ i. 0) j) ≡ element_or_fill (as_vector n b) (option_map (slice_set (index_at (m ∷ []) place) 0) j)
+vector_filled b n m place None array none within = refl
+vector_filled b n m place (Some i) array none within =
+    let scalar : is_scalar b ≡ true = eq-eqb (length b.shape) 0 none in
+    let one : count_of b.shape ≡ 1 = ap count_of (nil_from_length b.shape none) in
+    let first = get_or-within b.ravel 0 (fill_of b.kind) (Int (pos 0)) (omega (arith, array.len, one)) in
+    rw scalar (first ∙ sym (get_or-replicate n (i * 1 + 0) (only_element b) (Int (pos 0)) (omega (arith, within))))
+
+pub vector_index : (m place : ℕ) → place < m → slice_index (index_at (m ∷ []) place) 0 ≡ place
+vector_index m place inside = ap (λ p. p % m) (div-one place) ∙ mod-eq_of_lt inside
+
+pub shrunk : (shape : List ℕ) (k m : ℕ) → k < length shape → m ≤ slice_index shape k
+    → count_of (slice_set shape k m) ≡ count_of (take k shape) * m * count_of (drop (k + 1) shape)
+    → count_of shape ≡ count_of (take k shape) * slice_index shape k * count_of (drop (k + 1) shape)
+    → IsShape shape → IsShape (slice_set shape k m)
+shrunk shape k m axis shorter changed same lawful =
+    let n = slice_index shape k in
+    let n_most : n ≤ 2 ^ 30 = All-get_or (λ x. x ≤ 2 ^ 30) shape k 0 axis lawful.axes in
+    let fewer : count_of (take k shape) * m * count_of (drop (k + 1) shape) ≤ count_of (take k shape) * n * count_of (drop (k + 1) shape) =
+    mul-le-mul (mul-le-mul (omega arith) shorter) (omega arith) in
+    record {
+      rank = omega (arith, lawful.rank, length-set shape k m);
+      axes = All-set (λ x. x ≤ 2 ^ 30) shape k m (omega (arith, shorter, n_most)) lawful.axes;
+      count = omega (arith, changed, same, fewer, lawful.count);
+    }

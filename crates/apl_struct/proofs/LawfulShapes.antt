@@ -1,0 +1,48 @@
+-- Shapes that are lawful because another is.
+use Rattle.std.proofs.Common.{◌≡◌, ℕ, zero, suc, ◌-◌, ◌<◌, ◌≤◌, Bool, true, false, if◌then◌else◌, List, [], ◌∷◌, length, reverse, slice_index, slice_set, sym, subst, ⊎_elim, le_refl, mul-le-mul_left, mul-le-mul_right, arith}
+use Rattle.std.proofs.lemmas.Bool.{cases_lt}
+use Rattle.std.proofs.lemmas.List.{length-reverse, get_or-reverse, get_or_past, length-set}
+use Rattle.std.proofs.lemmas.List.Elements.{All-nil, All-cons, All-set}
+use Rattle.apl_array.specs.Shape.{IsShape, most_elements, count_of}
+
+pub lawful_vector : (n : ℕ) → n ≤ most_elements → IsShape (n ∷ [])
+lawful_vector n most = record {
+  rank = omega arith;
+  axes = All-cons (λ m. m ≤ most_elements) n [] most (All-nil (λ m. m ≤ most_elements));
+  count = omega (arith, most);
+}
+
+pub lawful_reverse : (shape : List ℕ) → count_of (reverse shape) ≡ count_of shape → IsShape shape → IsShape (reverse shape)
+lawful_reverse shape same lawful = record {
+  rank = omega (arith, lawful.rank, length-reverse shape);
+  axes = λ k d inside.
+      let below : k < length shape = omega (arith, inside, length-reverse shape) in
+      let P : ℕ → Type 0 = λ n. n ≤ most_elements in
+      subst P (sym (get_or-reverse shape k d below)) (lawful.axes (length shape - 1 - k) d (omega (arith, below)));
+  count = omega (arith, lawful.count, same);
+}
+
+-- an axis, of which there may be none
+pub axis_most : (shape : List ℕ) (k : ℕ) → IsShape shape → slice_index shape k ≤ most_elements
+axis_most shape k lawful =
+    ⊎_elim
+    (λ within. lawful.axes k 0 within)
+    (λ past. rw (get_or_past shape k 0 past) (omega arith))
+    (cases_lt k (length shape))
+
+count_narrowed : (shape : List ℕ) (k m : ℕ) → m ≤ slice_index shape k → count_of (slice_set shape k m) ≤ count_of shape
+count_narrowed [] k m less = le_refl 1
+count_narrowed (n ∷ ns) zero m less = mul-le-mul_right (count_of ns) less
+count_narrowed (n ∷ ns) (suc k) m less = mul-le-mul_left n (count_narrowed ns k m less)
+
+-- an axis becomes no longer
+pub lawful_narrowed : (shape : List ℕ) (k m : ℕ) → m ≤ slice_index shape k → IsShape shape → IsShape (slice_set shape k m)
+lawful_narrowed shape k m less lawful = record {
+  rank = omega (arith, lawful.rank, length-set shape k m);
+  axes = All-set (λ n. n ≤ most_elements) shape k m (omega (arith, less, axis_most shape k lawful)) lawful.axes;
+  count = omega (arith, lawful.count, count_narrowed shape k m less);
+}
+
+pub either_lawful : (b : Bool) (left right : List ℕ) → IsShape left → IsShape right → IsShape (if b then left else right)
+either_lawful true left right h k = h
+either_lawful false left right h k = k

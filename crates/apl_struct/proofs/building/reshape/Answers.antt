@@ -1,0 +1,26 @@
+use Rattle.std.proofs.Common.{◌≡◌, true, List, ℕ, Ok, map, ◌==◌, sym, ap, subst, ◌∙◌, rules}
+use Rattle.std.specs.Prelude.{◌||◌}
+use Rattle.std.specs.List.{list_all}
+use Rattle.apl_array.specs.Axes.{place_number}
+use Rattle.apl_array.specs.Shape.{is_shape, count_of, place_of}
+use Rattle.apl_array.specs.Array.{element_in}
+use Rattle.apl_answer.specs.Arguments.{is_list, is_natural, has_elements, numbers_of, size_of}
+use Rattle.apl_answer.specs.Pointwise.{answer_of, IsAnswerOf}
+use Rattle.apl_struct.specs.Building.{reshape_source, reshape_row}
+use Rattle.apl_struct.proofs.Passing.{answered}
+use Rattle.apl_struct.proofs.building.reshape.Goals as goal
+
+pub returns : goal.returns
+returns g c =
+    let a = c.args.a.now in
+    let b = c.args.b.now in
+    let row = reshape_row a b in
+    let shape = map place_number (numbers_of a) in
+    let numbers : numbers_of a ≡ c.in-Some.numbers.now = c.in-Some.ensures.1 in
+    let list : is_list a ≡ true = search rules in
+    let natural : list_all is_natural (numbers_of a) ≡ true = search rules in
+    let shapes : c.in_ok-shape.shape ≡ shape = c.in_ok-shape.ensures.1 ∙ ap (map place_number) (sym numbers) in
+    let lawful : is_shape shape ≡ true = ap (λ ns. is_shape (map place_number ns)) numbers ∙ c.in_ok-shape.ensures.0 in
+    let fits : (has_elements b || (count_of shape == 0)) ≡ true = search rules in
+    let P : List ℕ → Type 0 = λ s. IsAnswerOf (answer_of s (λ index. Ok (element_in b (reshape_source (size_of b) (place_of s index)))) b.kind) c.gather_round.result in
+    answered row.checks (answer_of row.shape row.outcome row.kind) c.gather_round.result (list, (c.in-Some.ensures.0, (natural, (lawful, (fits, tt))))) (subst P shapes c.gather_round.ensures)

@@ -1,0 +1,24 @@
+use Rattle.std.proofs.Common.{◌≡◌, ℕ, List, Ok, ◌<◌, ◌+◌, slice_index, slice_set, length, w64, to_z, of_z, ap, sym, subst, ◌∙◌, arith, rules}
+use Rattle.apl_array.specs.Array.{element_at}
+use Rattle.apl_answer.specs.Pointwise.{answer_of, IsAnswerOf}
+use Rattle.apl_struct.specs.Moving.{rotated_index}
+use Rattle.apl_struct.specs.Rotation.{wrapped}
+use Rattle.apl_struct.proofs.workers.Workers.rotate_all.Goals as goal
+
+pub returns : goal.returns
+returns g c = λ element told.
+    let b = c.args.b.now in
+    let k = c.args.k in
+    let z = c.args.rotation in
+    let n = c.axis-length.result in
+    let same : to_z w64 (of_z w64 z) ≡ z = search rules in
+    let shapes : c.in_ok-shape.shape ≡ b.shape = search rules in
+    let n_is : n ≡ slice_index b.shape k = c.axis-length.ensures.length ∙ ap (λ s. slice_index s k) shapes in
+    let P : List ℕ → Type 0 = λ s. IsAnswerOf (answer_of s (λ index. Ok (element index)) b.kind) c.gather_along.result in
+    subst P shapes
+    (c.gather_along.ensures element (λ index lawful.
+    let i = slice_index index k in
+    let inside : i < n = omega (arith, c.axis-length.ensures.length, lawful.below k (omega (arith, c.requires, ap length shapes))) in
+    let rotated : wrapped n (i + c.rotation_within-by.result) ≡ rotated_index z (slice_index b.shape k) i =
+    sym (c.rotation_within-by.ensures.each i inside) ∙ ap (λ y. rotated_index y n i) same ∙ ap (λ m. rotated_index z m i) n_is in
+    ap (λ j. element_at b (slice_set index k j)) rotated ∙ told index))

@@ -1,0 +1,39 @@
+use Rattle.std.proofs.Common.{◌≡◌, List, ℕ, ap, sym, subst, ◌∙◌, arith}
+use Rattle.std.specs.Prelude.{option_map}
+use Rattle.apl_array.specs.Shape.{IsIndexOf, count_of, place_of, index_at}
+use Rattle.apl_struct.specs.Gathered.{filled_at}
+use Rattle.apl_struct.specs.Gathering.{element_or_fill}
+use Rattle.apl_struct.specs.Shaped.{with_shape}
+use Rattle.apl_struct.specs.Taking.{take_source}
+use Rattle.apl_struct.proofs.Taken.{taken_none_of_empty, taken_element}
+use Rattle.apl_struct.proofs.workers.Workers.take_from.Goals as goal
+
+pub returns-then-count-eq0 : goal.returns-then-count-eq0
+returns-then-count-eq0 g c = λ element same. c.gather.ensures element (λ place inside. absurd (omega (arith, inside, c.if-count-eq0.true, c.count-count.ensures.count)))
+
+pub returns-then-count-eq0-2 : goal.returns-then-count-eq0-2
+returns-then-count-eq0-2 g c = λ element same.
+    let argument = c.args.argument.now in
+    let none : count_of argument ≡ 0 = omega arith in
+    c.gather-then-count-eq0-2.ensures element
+    (λ place inside.
+    let lawful = c.places_match_index_lists.ensures.lawful c.args.shape place inside in
+    let P : List ℕ → Type 0 = λ s. IsIndexOf s (index_at c.args.shape place) in
+    sym (ap (element_or_fill (with_shape argument c.args.b.now))
+    (taken_none_of_empty c.args.numbers.now argument (index_at c.args.shape place) c.requires.len (subst P c.requires.shape lawful) none))
+    ∙ same (index_at c.args.shape place) lawful)
+
+pub returns : goal.returns
+returns g c = λ element same.
+    let b = c.args.b.now in
+    let argument = c.args.argument.now in
+    let numbers = c.args.numbers.now in
+    c.gather_walk.ensures element
+    (λ place inside.
+    let index = index_at c.args.shape place in
+    let lawful = c.places_match_index_lists.ensures.lawful c.args.shape place inside in
+    let P : List ℕ → Type 0 = λ s. IsIndexOf s index in
+    ap (filled_at b) (c.in_ok-walk.ensures.place place ∙ sym (ap (λ s. option_map (place_of argument) (take_source numbers argument (index_at s place))) c.requires.shape))
+    ∙ taken_element c.places_match_index_lists.ensures.below b argument numbers index c.kind-kind.ensures.lawful c.count.ensures.lawful c.requires.count c.requires.len
+    (subst P c.requires.shape lawful)
+    ∙ same index lawful)

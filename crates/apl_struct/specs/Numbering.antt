@@ -1,0 +1,37 @@
+-- The choice that stays at a place. No contract of a public function cites this file.
+use Rattle.std.specs.Prelude.{◌≡◌, ℕ, zero, suc, ◌+◌, ◌*◌, ◌<◌, ◌==◌, ◌||◌, true, not, List, [], ◌∷◌, length, if◌then◌else◌, slice_index_or}
+use Rattle.apl_array.specs.declared.array.Elem.{Elem}
+use Rattle.apl_array.specs.Shape.{count_of}
+use Rattle.apl_array.specs.Array.{ArrayValue}
+use Rattle.apl_answer.specs.Arguments.{fill_of, rank_of, has_elements, has_one_element, is_same_kind, is_same_shape}
+use Rattle.apl_answer.specs.declared.fault.OpFault.TheVariants.{Rank, Length, Domain}
+use Rattle.apl_answer.specs.Rows.{Check}
+
+-- of the first n choices the last that is of place p: the number of its value from 1, or 0 for none. The values of
+-- neighbouring choices are `step` apart
+abbrev pub last_number : (choice : ℕ → ℕ) (step p n : ℕ) → ℕ
+last_number choice step p zero = 0
+last_number choice step p (suc n) = if choice n == p then n * step + 1 else last_number choice step p n
+
+-- the value of that number, and the element at the place for 0
+abbrev pub value_numbered : {T : Type 0} (elements values : List T) (fill : T) (number place : ℕ) → T
+value_numbered elements values fill zero place = slice_index_or elements place fill
+value_numbered elements values fill (suc number) place = slice_index_or values number fill
+
+abbrev pub element_numbered : (a b : ArrayValue) (number place : ℕ) → Elem
+element_numbered a b number place = value_numbered a.ravel b.ravel (fill_of a.kind) number place
+
+-- what is asked of the values, and of their kind
+abbrev pub replacement_checks : (a b : ArrayValue) (selected : List ℕ) → List Check
+replacement_checks a b selected =
+    (has_one_element b.shape || (rank_of b == length selected), Rank) ∷ (has_one_element b.shape || is_same_shape b.shape selected, Length)
+    ∷ (not (has_elements b) || is_same_kind a.kind b.kind, Domain) ∷ []
+
+-- how far apart the values of neighbouring choices are
+abbrev pub value_step : ArrayValue → ℕ
+value_step b = if has_one_element b.shape then 0 else 1
+
+-- values that fit in the place of the chosen ones: one for each, or one for all
+pub record IsReplacement (a b : ArrayValue) (selected : List ℕ) : Type 0 where
+  pub each : (has_one_element b.shape || is_same_shape b.shape selected) ≡ true
+  pub kind : 0 < count_of b.shape → a.kind ≡ b.kind

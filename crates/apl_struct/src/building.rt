@@ -1,0 +1,292 @@
+//! Shapes, elements in row order, other shapes, and numbers from the origin.
+ghost use Rattle.std.specs.Prelude.{◌≡◌, ◌≤◌, ◌<◌, ◌==◌, ◌⊎◌, ◌||◌, [], ◌∷◌, map, not, true, false, Ok, MatchResult};
+ghost use Rattle.std.specs.List.{list_all};
+ghost use Rattle.apl_array.specs.Axes.{origin_number, place_number};
+ghost use Rattle.apl_array.specs.Shape.{is_shape, count_of, place_of};
+ghost use Rattle.apl_array.specs.Array.{element_in};
+ghost use Rattle.apl_array.specs.declared.shape.TheConstants.{MOST_ELEMENTS};
+ghost use Rattle.apl_pool.specs.declared.kernel.TheConstants.{MOST_PLACES};
+ghost use Rattle.apl_answer.specs.declared.fault.OpFault.TheVariants.{Limit, Memory};
+ghost use Rattle.apl_answer.specs.Arguments.{has_elements, is_natural, size_of};
+ghost use Rattle.apl_answer.specs.Pointwise.{answer_of, IsAnswerOf};
+ghost use Rattle.apl_answer.specs.Rows.{Answers};
+ghost use Rattle.apl_struct.specs.Building.{shape_of_row, ravel_row, reshape_source, reshape_row, iota_row};
+
+use crate::arguments::numbers_among;
+use crate::gather::{Same, Source};
+use crate::workers::Workers;
+use apl_answer::{OpFault, fill_array};
+use apl_array::{Array, MOST_AXES, MOST_ELEMENTS, Origin, Shape, places_match_index_lists};
+use apl_pool::{Cut, Fault, Gate, Kernel, Pool};
+use smallvec::SmallVec;
+use std::alloc::Global;
+use std::thread::Threads;
+
+/// The shape of a vector.
+pub(crate) fn vector_shape(alloc: Global, length: usize) -> Shape
+    requires { length ≤ MOST_ELEMENTS }
+    ensures { result ≡ length ∷ [] }
+{
+    let Ok(shape) = Shape::new(alloc, &[length]) else {
+        unreachable!()
+    };
+    shape
+}
+
+/// The lengths of a shape.
+#[derive(Drop)]
+struct Lengths<'a> {
+    shape: &'a Shape,
+}
+
+impl Kernel for Lengths<'_> {
+    ghost use Rattle.std.specs.Prelude.{Ok, pos, length, slice_index};
+
+    type Out = i64;
+
+    ghost place_count = { λ k. length k.shape.now };
+
+    ghost outcome = { λ k place. Ok (pos (slice_index k.shape.now place)) };
+
+    fn count(&self) -> usize {
+        self.shape.rank()
+    }
+
+    #[inline(always)]
+    fn at(&self, place: usize) -> Result<i64, Fault> {
+        Ok(self.shape.axis(place) as i64)
+    }
+}
+
+/// The vector of the axis lengths.
+pub fn shape_of<R: Threads + Sync, C: Cut + Sync, G: Gate + Sync>(
+    rt: &R,
+    alloc: Global,
+    pool: &Pool<C, G>,
+    b: &Array,
+) -> Result<Array, OpFault>
+    ensures { Answers (shape_of_row b.now) result }
+{
+    let shape = vector_shape(alloc, b.shape().rank());
+    fill_array(rt, alloc, pool, shape, &Lengths { shape: b.shape() })
+}
+
+/// The vector of the elements in row order.
+pub fn ravel<R: Threads + Sync, C: Cut + Sync, G: Gate + Sync>(
+    rt: &R,
+    alloc: Global,
+    pool: &Pool<C, G>,
+    b: &Array,
+) -> Result<Array, OpFault>
+    ensures { Answers (ravel_row b.now) result }
+{
+    let workers = Workers { rt, alloc, pool };
+    let count = b.shape().count();
+    workers.gather(vector_shape(alloc, count), b, Same { count })
+}
+
+/// The elements in row order, again and again.
+#[derive(Drop)]
+struct Round {
+    count: usize,
+    size: u32,
+    ghost most: { count ≤ MOST_PLACES },
+    ghost some: { 0 < size },
+}
+
+impl Source for Round {
+    ghost use Rattle.std.specs.Prelude.{Some};
+
+    ghost place_count = { λ s. s.count };
+
+    ghost source = { λ s place. Some (reshape_source s.size place) };
+
+    fn count(&self) -> usize {
+        self.count
+    }
+
+    #[inline(always)]
+    fn at(&self, place: usize) -> Option<usize> {
+        Some((place as u32 % self.size) as usize)
+    }
+}
+
+/// The only element everywhere.
+#[derive(Drop)]
+pub(crate) struct Only {
+    pub count: usize,
+    ghost most: { count ≤ MOST_PLACES },
+}
+
+impl Source for Only {
+    ghost use Rattle.std.specs.Prelude.{Some};
+
+    ghost place_count = { λ s. s.count };
+
+    ghost source = { λ s place. Some 0 };
+
+    fn count(&self) -> usize {
+        self.count
+    }
+
+    #[inline(always)]
+    fn at(&self, _place: usize) -> Option<usize> {
+        Some(0)
+    }
+}
+
+impl<R: Threads + Sync, C: Cut + Sync, G: Gate + Sync> Workers<'_, R, C, G> {
+    /// The array of this shape with the elements of an argument in row order, again and again.
+    fn gather_round(&self, shape: Shape, b: &Array) -> Result<Array, OpFault>
+        requires { (has_elements b.now || (count_of shape == 0)) ≡ true }
+        ensures { IsAnswerOf (answer_of shape (λ index. Ok (element_in b.now (reshape_source (size_of b.now) (place_of shape index)))) b.now.kind) result }
+    {
+        places_match_index_lists();
+        let count = shape.count();
+        let size = b.shape().count();
+        if count <= size {
+            self.gather(shape, b, Same { count })
+        } else if size == 1 {
+            self.gather(shape, b, Only { count })
+        } else {
+            let size = size as u32;
+            self.gather(shape, b, Round { count, size })
+        }
+    }
+}
+
+/// The place that a number is, and 0 for a negative one.
+fn place_number(number: i64) -> usize
+    ensures { result ≡ place_number number }
+{
+    number.max(0) as usize
+}
+
+/// Whether all numbers are 0 and above.
+fn are_natural(numbers: &[i64]) -> bool
+    ensures { result ≡ list_all is_natural numbers.now }
+{
+    numbers.iter().all(|number| *number >= 0)
+}
+
+/// The shape with these lengths, each from 0 up. It is refused where it passes a limit (`Limit`).
+fn shape_with(alloc: Global, lengths: &[i64]) -> Result<Shape, OpFault>
+    ensures { MatchResult result
+        (λ shape. (is_shape (map place_number lengths.now) ≡ true) × (shape ≡ map place_number lengths.now))
+        (λ fault. (fault ≡ Memory) ⊎ ((fault ≡ Limit) × (is_shape (map place_number lengths.now) ≡ false))) }
+{
+    if lengths.len() > MOST_AXES {
+        return Err(OpFault::Limit);
+    }
+    let lengths: SmallVec<usize, MOST_AXES> = lengths
+        .iter()
+        .map(|length| place_number(*length))
+        .collect(alloc)?;
+    match Shape::new(alloc, lengths.as_slice()) {
+        Ok(shape) => Ok(shape),
+        Err(_) => Err(OpFault::Limit),
+    }
+}
+
+/// Whether an array of one shape can be made of the elements of one of another, again and again.
+fn can_fill(own: &Shape, shape: &Shape) -> bool
+    ensures { result ≡ (not (count_of own.now == 0) || (count_of shape.now == 0)) }
+{
+    own.count() > 0 || shape.count() == 0
+}
+
+/// The array of shape `a` with the elements of `b` in row order, again and again. `a` is judged
+/// first: its rank (`Rank`), its kind and its numbers (`Domain`), the limits (`Limit`). An array
+/// with elements is not made of none (`Length`).
+pub fn reshape<R: Threads + Sync, C: Cut + Sync, G: Gate + Sync>(
+    rt: &R,
+    alloc: Global,
+    pool: &Pool<C, G>,
+    a: &Array,
+    b: &Array,
+) -> Result<Array, OpFault>
+    ensures { Answers (reshape_row a.now b.now) result }
+{
+    let workers = Workers { rt, alloc, pool };
+    if a.shape().rank() > 1 {
+        return Err(OpFault::Rank);
+    }
+    let Some(numbers) = numbers_among(a) else {
+        return Err(OpFault::Domain);
+    };
+    if !are_natural(numbers) {
+        return Err(OpFault::Domain);
+    }
+    let shape = shape_with(alloc, numbers)?;
+    if !can_fill(b.shape(), &shape) {
+        return Err(OpFault::Length);
+    }
+    workers.gather_round(shape, b)
+}
+
+/// The number of the first index.
+pub(crate) fn origin_number(origin: Origin) -> usize
+    ensures { result ≡ origin_number origin }
+{
+    match origin {
+        Origin::Zero => 0,
+        Origin::One => 1,
+    }
+}
+
+/// Numbers one after the other.
+#[derive(Drop)]
+struct Consecutive {
+    count: usize,
+    first: usize,
+    ghost most: { count ≤ MOST_PLACES },
+    ghost low: { first ≤ 1 },
+}
+
+impl Kernel for Consecutive {
+    ghost use Rattle.std.specs.Prelude.{Ok, pos, ◌+◌};
+
+    type Out = i64;
+
+    ghost place_count = { λ k. k.count };
+
+    ghost outcome = { λ k place. Ok (pos (k.first + place)) };
+
+    fn count(&self) -> usize {
+        self.count
+    }
+
+    #[inline(always)]
+    fn at(&self, place: usize) -> Result<i64, Fault> {
+        Ok((self.first + place) as i64)
+    }
+}
+
+/// The numbers from the origin on, as many as `n` says. `n` is judged first: its rank (`Rank`), its
+/// length (`Length`), its kind and its number (`Domain`), the limit (`Limit`).
+pub fn iota<R: Threads + Sync, C: Cut + Sync, G: Gate + Sync>(
+    rt: &R,
+    alloc: Global,
+    pool: &Pool<C, G>,
+    n: &Array,
+    origin: Origin,
+) -> Result<Array, OpFault>
+    ensures { Answers (iota_row n.now origin) result }
+{
+    if n.shape().rank() > 1 {
+        return Err(OpFault::Rank);
+    }
+    if n.shape().count() != 1 {
+        return Err(OpFault::Length);
+    }
+    let Some(numbers) = numbers_among(n) else {
+        return Err(OpFault::Domain);
+    };
+    if !are_natural(numbers) {
+        return Err(OpFault::Domain);
+    }
+    let shape = shape_with(alloc, numbers)?;
+    let count = shape.count();
+    let first = origin_number(origin);
+    fill_array(rt, alloc, pool, shape, &Consecutive { count, first })
+}

@@ -1,0 +1,46 @@
+//! The structural functions: those that build, join, order, select, index and search arrays.
+//!
+//! They are those of the APL\360 User's Manual (1968).
+#![tactic(auto)]
+
+mod along;
+mod arguments;
+mod axes;
+mod building;
+mod choose;
+mod compressing;
+mod divisor;
+mod finding;
+mod gather;
+mod indexing;
+mod joining;
+mod laws;
+mod lines;
+mod moving;
+mod named;
+mod ordering;
+mod permuting;
+mod reached;
+mod replacing;
+mod rotating;
+mod searching;
+mod selecting;
+mod sorting;
+mod taking;
+mod walk;
+mod windows;
+mod workers;
+
+pub use axes::axis_number;
+pub use building::{iota, ravel, reshape, shape_of};
+pub use compressing::{compress, expand};
+pub use indexing::select;
+pub use joining::catenate;
+pub use laws::{one_grade, structural_answers_are_within_limits};
+pub use moving::reverse;
+pub use ordering::{grade_down, grade_up};
+pub use permuting::{transpose, transpose_by};
+pub use replacing::replace;
+pub use rotating::rotate;
+pub use searching::{index_of, member};
+pub use taking::{drop, take};

@@ -1,0 +1,206 @@
+//! Permuted axes, and diagonals.
+ghost use Rattle.std.specs.Prelude.{◌≡◌, ℕ, ◌+◌, ◌*◌, ◌^◌, ◌<◌, ◌≤◌, List, [], All, Ok, Some, IfOk, MatchOption, true, length, sum, reverse};
+ghost use Rattle.std.specs.List.{range_with_len};
+ghost use Rattle.apl_array.specs.declared.array.Elem.{Elem};
+ghost use Rattle.apl_array.specs.Array.{element_at};
+ghost use Rattle.apl_array.specs.Shape.{IsShape, IsIndexOf, count_of, index_at};
+ghost use Rattle.apl_array.specs.Transposition.{AreAxesInto, strides, becoming, least, inner_product, source_index, transposed_shape, source_strides};
+ghost use Rattle.apl_pool.specs.declared.kernel.TheConstants.{MOST_PLACES};
+ghost use Rattle.apl_answer.specs.Pointwise.{answer_of, IsAnswerOf};
+ghost use Rattle.apl_answer.specs.Rows.{Answers};
+ghost use Rattle.apl_struct.specs.declared.windows.TheConstants.{MOST_STEP};
+ghost use Rattle.apl_struct.specs.Moving.{are_all_named, named_axes, transpose_row, transpose_by_row};
+ghost use Rattle.apl_struct.specs.Windows.{extent_of, walked, windows_of};
+
+use crate::arguments::numbers_among;
+use crate::gather::Same;
+use crate::named::{are_all_named, are_from_origin, axes_named, named_axes};
+use crate::windows::{MOST_STEP, Walk, Window};
+use crate::workers::Workers;
+use apl_answer::OpFault;
+use apl_array::{
+    Array, Origin, Shape, places_match_index_lists, reversed_index_is_lawful,
+    transposed_index_has_place,
+};
+use apl_pool::{Cut, Gate, Pool};
+use std::alloc::{AllocError, Global};
+use std::thread::Threads;
+
+/// By how much a step along axis `j` of the result moves the place in the argument: by a step along
+/// each axis that becomes it.
+fn stride_along(argument: &Shape, axes: &[usize], j: usize) -> usize
+    requires some { 0 < count_of argument.now }
+    requires len { length axes.now ≡ length argument.now }
+    ensures sum { result ≡ sum (becoming j axes.now (strides argument.now)) }
+    ensures lawful { IsShape argument.now }
+{
+    let mut stride = 0;
+    for k in (0..argument.rank()).rev() {
+        if axes[k] == j {
+            stride += argument.inner(k);
+        }
+    }
+    stride
+}
+
+/// The walk over an argument whose axes become those of this shape.
+fn transposed_walk(
+    alloc: Global,
+    shape: &Shape,
+    argument: &Shape,
+    axes: &[usize],
+) -> Result<Walk, AllocError>
+    requires into { AreAxesInto argument.now axes.now shape.now }
+    requires some { 0 < count_of shape.now }
+    requires argument_some { 0 < count_of argument.now }
+    ensures extent { IfOk result (λ walk. extent_of (windows_of walk) ≡ count_of shape.now) }
+    ensures place { IfOk result (λ walk. (place : ℕ) → walked (windows_of walk) place
+        ≡ Some (inner_product (index_at shape.now place) (source_strides (length shape.now) axes.now argument.now))) }
+{
+    let mut walk = Walk::new(alloc);
+    for j in (0..shape.rank()).rev() {
+        let stride = stride_along(argument, axes, j);
+        walk = walk.with(Window::whole(shape.axis(j), stride))?;
+    }
+    Ok(walk)
+}
+
+impl<R: Threads + Sync, C: Cut + Sync, G: Gate + Sync> Workers<'_, R, C, G> {
+    /// The array of this shape to whose axes those of an argument become.
+    fn transposed(&self, shape: Shape, b: &Array, axes: &[usize]) -> Result<Array, OpFault>
+        requires into { AreAxesInto b.now.shape axes.now shape }
+        ensures { (element : List ℕ → Elem) → ((index : List ℕ) → IsIndexOf shape index → element_at b.now (source_index axes.now index) ≡ element index)
+            → IsAnswerOf (answer_of shape (λ index. Ok (element index)) b.now.kind) result }
+    {
+        places_match_index_lists();
+        transposed_index_has_place();
+        // An array that was asked something is known to be lawful.
+        let _kind = b.kind();
+        let count = shape.count();
+        if count == 0 {
+            return self.gather(shape, b, Same { count });
+        }
+        let walk = transposed_walk(self.alloc, &shape, b.shape(), axes)?;
+        self.gather_walk(shape, b, walk)
+    }
+}
+
+/// The axes in reverse order.
+pub fn transpose<R: Threads + Sync, C: Cut + Sync, G: Gate + Sync>(
+    rt: &R,
+    alloc: Global,
+    pool: &Pool<C, G>,
+    b: &Array,
+) -> Result<Array, OpFault>
+    ensures { Answers (transpose_row b.now) result }
+{
+    reversed_index_is_lawful();
+    transposed_index_has_place();
+    let argument = b.shape();
+    let axes = reversed_axes(alloc, argument.rank())?;
+    let lengths = reversed_lengths(alloc, argument.lengths())?;
+    let Ok(shape) = Shape::new(alloc, lengths.as_slice()) else {
+        unreachable!()
+    };
+    Workers { rt, alloc, pool }.transposed(shape, b, axes.as_slice())
+}
+
+fn reversed_lengths(alloc: Global, lengths: &[usize]) -> Result<Vec<usize>, AllocError>
+    ensures { IfOk result (λ reversed. reversed.items ≡ reverse lengths.now) }
+{
+    lengths.iter().rev().copied().collect(alloc)
+}
+
+fn reversed_axes(alloc: Global, rank: usize) -> Result<Vec<usize>, AllocError>
+    ensures { IfOk result (λ axes. axes.items ≡ reverse (range_with_len 0 rank)) }
+{
+    let mut axes = Vec::with_capacity(alloc, rank)?;
+    for k in 0..rank {
+        axes.push(rank - 1 - k)?;
+    }
+    Ok(axes)
+}
+
+/// The axes as `a` names them, counted from the origin: axis `i` of `b` becomes axis `a[i]`. Axes
+/// that become one make a diagonal, as long as the shortest of them. First comes `a`'s rank, 1 at
+/// most (`Rank`), then that it has a number for each axis (`Length`), that it is of numbers
+/// (`Domain`), and that they name each axis up to the greatest (`Domain`).
+pub fn transpose_by<R: Threads + Sync, C: Cut + Sync, G: Gate + Sync>(
+    rt: &R,
+    alloc: Global,
+    pool: &Pool<C, G>,
+    a: &Array,
+    b: &Array,
+    origin: Origin,
+) -> Result<Array, OpFault>
+    ensures { Answers (transpose_by_row a.now b.now origin) result }
+{
+    if a.shape().rank() > 1 {
+        return Err(OpFault::Rank);
+    }
+    if a.shape().count() != b.shape().rank() {
+        return Err(OpFault::Length);
+    }
+    let Some(numbers) = numbers_among(a) else {
+        return Err(OpFault::Domain);
+    };
+    if !are_from_origin(numbers, origin) {
+        return Err(OpFault::Domain);
+    }
+    let axes = axes_named(alloc, numbers, origin)?;
+    if !are_all_named(axes.as_slice()) {
+        return Err(OpFault::Domain);
+    }
+    let shape = transposed_shape(alloc, axes.as_slice(), b.shape())?;
+    Workers { rt, alloc, pool }.transposed(shape, b, axes.as_slice())
+}
+
+/// The shape of an argument whose axes become the axes that are named.
+fn transposed_shape(alloc: Global, axes: &[usize], argument: &Shape) -> Result<Shape, AllocError>
+    requires len { length axes.now ≡ length argument.now }
+    requires below { All (λ axis. axis < 2 ^ 63) axes.now }
+    requires named { are_all_named axes.now ≡ true }
+    ensures shape { IfOk result (λ shape. shape ≡ transposed_shape (named_axes axes.now) axes.now argument.now) }
+    ensures into { IfOk result (λ shape. AreAxesInto argument.now axes.now shape) }
+{
+    transposed_index_has_place();
+    let lengths = transposed_lengths(alloc, axes, argument.lengths())?;
+    let Ok(shape) = Shape::new(alloc, lengths.as_slice()) else {
+        unreachable!()
+    };
+    Ok(shape)
+}
+
+fn transposed_lengths(
+    alloc: Global,
+    axes: &[usize],
+    lengths: &[usize],
+) -> Result<Vec<usize>, AllocError>
+    requires { All (λ axis. axis < 2 ^ 63) axes.now }
+    ensures { IfOk result (λ transposed. transposed.items ≡ transposed_shape (named_axes axes.now) axes.now lengths.now) }
+{
+    (0..named_axes(axes))
+        .map(|j| least_becoming(j, axes, lengths).unwrap_or(0))
+        .collect(alloc)
+}
+
+/// The least of the lengths of the axes that become axis `j`, where there is one.
+fn least_becoming(j: usize, axes: &[usize], lengths: &[usize]) -> Option<usize>
+    ensures { MatchOption result (becoming j axes.now lengths.now ≡ [])
+        (λ n. (0 < length (becoming j axes.now lengths.now)) × (least (becoming j axes.now lengths.now) ≡ n)) }
+{
+    let [axis, axes @ ..] = axes else {
+        return None;
+    };
+    let [axis_length, lengths @ ..] = lengths else {
+        return None;
+    };
+    let least = least_becoming(j, axes, lengths);
+    if *axis != j {
+        return least;
+    }
+    match least {
+        Some(n) => Some((*axis_length).min(n)),
+        None => Some(*axis_length),
+    }
+}

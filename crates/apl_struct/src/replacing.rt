@@ -1,0 +1,340 @@
+//! Elements in the place of chosen ones.
+ghost use Rattle.std.specs.Prelude.{◌≡◌, ℕ, ◌*◌, ◌<◌, ◌≤◌, List, Ok, length, map, option_copied, slice_index, slice_index_or};
+ghost use Rattle.apl_array.specs.declared.array.Elem.{Elem};
+ghost use Rattle.apl_array.specs.declared.shape.TheConstants.{MOST_AXES};
+ghost use Rattle.apl_array.specs.Shape.{count_of, index_at};
+ghost use Rattle.apl_array.specs.Array.{IsArray, element_at};
+ghost use Rattle.apl_pool.specs.declared.kernel.TheConstants.{MOST_PLACES};
+ghost use Rattle.apl_answer.specs.Arguments.{fill_of};
+ghost use Rattle.apl_answer.specs.Pointwise.{answer_of, IsAnswerOf};
+ghost use Rattle.apl_answer.specs.Rows.{Answers};
+ghost use Rattle.apl_struct.specs.Indexing.{last_choice, replaced_element, replace_row};
+ghost use Rattle.apl_struct.specs.Selecting.{choice_count, choice_place, total_count, total_place, IsJudged, IsSelection};
+ghost use Rattle.apl_struct.specs.Numbering.{last_number, value_numbered, element_numbered, replacement_checks, value_step, IsReplacement};
+
+use crate::arguments::is_same_shape;
+use crate::gather::{Same, element_or};
+use crate::indexing::{are_arrays, choices_of, selected_shape};
+use crate::selecting::{Choice, Places, Several, Single};
+use crate::workers::Workers;
+use apl_answer::{Element, OpFault, fill_array};
+use apl_array::{Array, Origin, Shape, places_match_index_lists};
+use apl_pool::{Cut, Fault, Gate, Kernel, Pool};
+use std::alloc::Global;
+use std::thread::Threads;
+
+/// At each place the number, from 1, of the value that stays there, or 0 for none.
+pub(crate) trait Numbers {
+    // How many places there are.
+    ghost place_count: { Self → ℕ };
+
+    // The number at a place.
+    ghost number: { Self → ℕ → ℕ };
+
+    fn count(&self) -> usize
+        ensures value { result ≡ place_count self.now }
+        ensures most { result ≤ MOST_PLACES };
+
+    fn at(&self, place: usize) -> u32
+        requires { place < place_count self.now }
+        ensures { result ≡ number self.now place };
+}
+
+/// The number of each place.
+#[derive(Drop)]
+struct Table<'a> {
+    numbers: &'a [u32],
+    ghost most: { length numbers.now ≤ MOST_PLACES },
+}
+
+impl Numbers for Table<'_> {
+    ghost place_count = { λ t. length t.numbers.now };
+
+    ghost number = { λ t p. slice_index t.numbers.now p };
+
+    fn count(&self) -> usize {
+        self.numbers.len()
+    }
+
+    #[inline(always)]
+    fn at(&self, place: usize) -> u32 {
+        self.numbers[place]
+    }
+}
+
+/// The first value at one place, and none elsewhere.
+#[derive(Drop)]
+struct OnlyPlace {
+    count: usize,
+    chosen: usize,
+    ghost most: { count ≤ MOST_PLACES },
+}
+
+impl Numbers for OnlyPlace {
+    ghost use Rattle.std.specs.Prelude.{◌==◌, if◌then◌else◌};
+
+    ghost place_count = { λ o. o.count };
+
+    ghost number = { λ o p. if o.chosen == p then 1 else 0 };
+
+    fn count(&self) -> usize {
+        self.count
+    }
+
+    #[inline(always)]
+    fn at(&self, place: usize) -> u32 {
+        if self.chosen == place { 1 } else { 0 }
+    }
+}
+
+/// The elements of an array, but where a value has a number its value.
+#[derive(Drop)]
+struct Replaced<'a, T, N> {
+    elements: &'a [T],
+    values: &'a [T],
+    fill: T,
+    numbers: N,
+}
+
+impl<T: Element, N: Numbers> Kernel for Replaced<'_, T, N> {
+    ghost use Rattle.apl_struct.specs.Numbering.{value_numbered};
+
+    type Out = T;
+
+    ghost place_count = { λ k. N.place_count k.numbers };
+
+    ghost outcome = { λ k place. Ok (value_numbered k.elements.now k.values.now k.fill (N.number k.numbers place) place) };
+
+    fn count(&self) -> usize {
+        self.numbers.count()
+    }
+
+    #[inline(always)]
+    fn at(&self, place: usize) -> Result<T, Fault> {
+        let number = self.numbers.at(place) as usize;
+        if number == 0 {
+            Ok(element_or(self.elements, place, self.fill))
+        } else {
+            Ok(element_or(self.values, number - 1, self.fill))
+        }
+    }
+}
+
+/// Writes at each place the number of the last choice of it.
+fn number_places<P: Places>(places: &P, step: u32, numbers: &mut [u32])
+    requires step { step ≤ 1 }
+    requires within { (place : ℕ) → place < P.place_count places.now → P.chosen places.now place < length numbers.old }
+    requires none { (p : ℕ) → p < length numbers.old → slice_index numbers.old p ≡ 0 }
+    ensures { (p : ℕ) → p < length numbers.old → slice_index numbers.new p ≡ last_number (P.chosen places.now) step p (P.place_count places.now) }
+{
+    for place in 0..places.count() {
+        numbers[places.at(place)] = place as u32 * step + 1;
+    }
+}
+
+impl<R: Threads + Sync, C: Cut + Sync, G: Gate + Sync> Workers<'_, R, C, G> {
+    fn replace_elements<T: Element + Send + Sync, N: Numbers + Sync + Drop>(
+        &self,
+        shape: Shape,
+        elements: &[T],
+        values: &[T],
+        numbers: N,
+    ) -> Result<Array, OpFault>
+        requires count { N.place_count numbers ≡ count_of shape }
+        ensures { (element : List ℕ → Elem) → ((place : ℕ) → place < count_of shape
+            → value_numbered (map T.elem_of elements.now) (map T.elem_of values.now) (fill_of T.kind) (N.number numbers place) place ≡ element (index_at shape place))
+            → IsAnswerOf (answer_of shape (λ index. Ok (element index)) T.kind) result }
+    {
+        let kernel = Replaced {
+            elements,
+            values,
+            fill: T::fill(),
+            numbers,
+        };
+        fill_array(self.rt, self.alloc, self.pool, shape, &kernel)
+    }
+
+    /// An array of the shape of `a` with the values of `b` where they have a number.
+    fn replace_numbered<N: Numbers + Sync + Drop>(
+        &self,
+        shape: Shape,
+        a: &Array,
+        b: &Array,
+        numbers: N,
+    ) -> Result<Array, OpFault>
+        requires count { N.place_count numbers ≡ count_of shape }
+        requires kinds { a.now.kind ≡ b.now.kind }
+        ensures { (element : List ℕ → Elem) → ((place : ℕ) → place < count_of shape
+            → element_numbered a.now b.now (N.number numbers place) place ≡ element (index_at shape place))
+            → IsAnswerOf (answer_of shape (λ index. Ok (element index)) a.now.kind) result }
+    {
+        if let Some(elements) = a.numbers()
+            && let Some(values) = b.numbers()
+        {
+            return self.replace_elements(shape, elements, values, numbers);
+        }
+        if let Some(elements) = a.characters()
+            && let Some(values) = b.characters()
+        {
+            return self.replace_elements(shape, elements, values, numbers);
+        }
+        unreachable!()
+    }
+}
+
+/// Writes at each place the number of the last of some choices of it.
+fn number_choices(choices: &[Choice], count: usize, step: u32, numbers: &mut [u32])
+    requires few { length choices.now ≤ MOST_AXES }
+    requires count { count ≡ total_count choices.now }
+    requires most { count ≤ MOST_PLACES }
+    requires step { step ≤ 1 }
+    requires within { (place : ℕ) → place < total_count choices.now → total_place choices.now place < length numbers.old }
+    requires none { (p : ℕ) → p < length numbers.old → slice_index numbers.old p ≡ 0 }
+    ensures { (p : ℕ) → p < length numbers.old → slice_index numbers.new p ≡ last_number (total_place choices.now) step p (total_count choices.now) }
+{
+    match choices {
+        [choice] => number_single(*choice, step, numbers),
+        _ => number_places(&Several { choices, count }, step, numbers),
+    }
+}
+
+/// The same for one choice.
+fn number_single(choice: Choice, step: u32, numbers: &mut [u32])
+    requires step { step ≤ 1 }
+    requires within { (place : ℕ) → place < choice_count choice → choice_place choice place < length numbers.old }
+    requires none { (p : ℕ) → p < length numbers.old → slice_index numbers.old p ≡ 0 }
+    ensures { (p : ℕ) → p < length numbers.old → slice_index numbers.new p ≡ last_number (choice_place choice.entry) step p (choice_count choice.entry) }
+{
+    match choice {
+        Choice::Picked(choice) => number_places(&Single { choice }, step, numbers),
+        Choice::Stretch(choice) => number_places(&Single { choice }, step, numbers),
+    }
+}
+
+impl<R: Threads + Sync, C: Cut + Sync, G: Gate + Sync> Workers<'_, R, C, G> {
+    /// The same with the value of the last choice at each place, where the values of neighbouring
+    /// choices are `step` apart.
+    fn replace_choices(
+        &self,
+        shape: Shape,
+        a: &Array,
+        b: &Array,
+        choices: &[Choice],
+        count: usize,
+        step: u32,
+    ) -> Result<Array, OpFault>
+        requires few { length choices.now ≤ MOST_AXES }
+        requires count { count ≡ total_count choices.now }
+        requires some { 0 < count }
+        requires most { count ≤ MOST_PLACES }
+        requires step { step ≤ 1 }
+        requires within { (place : ℕ) → place < total_count choices.now → total_place choices.now place < count_of shape }
+        requires kinds { a.now.kind ≡ b.now.kind }
+        ensures { (element : List ℕ → Elem) → ((place : ℕ) → place < count_of shape
+            → element_numbered a.now b.now (last_number (total_place choices.now) step place (total_count choices.now)) place ≡ element (index_at shape place))
+            → IsAnswerOf (answer_of shape (λ index. Ok (element index)) a.now.kind) result }
+    {
+        let place_count = shape.count();
+        if count == 1 {
+            let chosen = Several { choices, count }.at(0);
+            let numbers = OnlyPlace {
+                count: place_count,
+                chosen,
+            };
+            return self.replace_numbered(shape, a, b, numbers);
+        }
+        let mut numbers = vec![in self.alloc; 0; place_count]?;
+        number_choices(choices, count, step, numbers.as_mut_slice());
+        let table = Table {
+            numbers: numbers.as_slice(),
+        };
+        self.replace_numbered(shape, a, b, table)
+    }
+}
+
+/// Values go in the place of the chosen elements: one for all, or an array of the selected shape, which
+/// is judged by its rank (`Rank`), then its lengths (`Length`). They are of the kind of the elements,
+/// unless there are none (`Domain`).
+fn judge_values(a: &Array, b: &Array, selected: &Shape) -> Result<(), OpFault>
+    ensures { IsJudged (replacement_checks a.now b.now selected.now) (λ u. IsReplacement a.now b.now selected.now) result }
+{
+    let count = b.shape().count();
+    if count != 1 && b.shape().rank() != selected.rank() {
+        return Err(OpFault::Rank);
+    }
+    if count != 1 && !is_same_shape(b.shape().lengths(), selected.lengths()) {
+        return Err(OpFault::Length);
+    }
+    if count != 0 && a.kind() != b.kind() {
+        return Err(OpFault::Domain);
+    }
+    Ok(())
+}
+
+/// How far apart the values of neighbouring choices are: the only value serves all.
+fn value_step(b: &Array) -> u32
+    ensures value { result ≡ value_step b.now }
+    ensures most { result ≤ 1 }
+    ensures lawful { IsArray b.now }
+{
+    if b.shape().count() == 1 { 0 } else { 1 }
+}
+
+impl<R: Threads + Sync, C: Cut + Sync, G: Gate + Sync> Workers<'_, R, C, G> {
+    /// The same array again.
+    fn gather_all(&self, a: &Array) -> Result<Array, OpFault>
+        ensures { IsAnswerOf (answer_of a.now.shape (λ index. Ok (element_at a.now index)) a.now.kind) result }
+    {
+        places_match_index_lists();
+        let shape = a.shape().copy(self.alloc)?;
+        let count = shape.count();
+        self.gather(shape, a, Same { count })
+    }
+
+    /// The array with the values in the place of the elements that the slots choose.
+    fn replace_selected(
+        &self,
+        a: &Array,
+        slots: &[Option<&Array>],
+        b: &Array,
+        origin: Origin,
+        selected: Shape,
+    ) -> Result<Array, OpFault>
+        requires selection { IsSelection a.now (map option_copied slots.now) origin selected }
+        requires values { IsReplacement a.now b.now selected }
+        ensures { IsAnswerOf (answer_of a.now.shape
+            (λ index. Ok (replaced_element a.now b.now index (last_choice origin (map option_copied slots.now) selected index (count_of selected)))) a.now.kind) result }
+    {
+        let count = selected.count();
+        if count == 0 {
+            return self.gather_all(a);
+        }
+        places_match_index_lists();
+        are_arrays(slots);
+        let shape = a.shape().copy(self.alloc)?;
+        let choices = choices_of(self.alloc, a, slots, origin)?;
+        let step = value_step(b);
+        self.replace_choices(shape, a, b, choices.as_slice(), count, step)
+    }
+}
+
+/// The array with the values of `b` in the place of the elements that the slots choose, one value for
+/// all or one for each; of a place that is chosen twice the later choice stays. The slots are judged as
+/// those of `select`, then the values by their rank (`Rank`), their lengths (`Length`) and their kind
+/// (`Domain`).
+pub fn replace<R: Threads + Sync, C: Cut + Sync, G: Gate + Sync>(
+    rt: &R,
+    alloc: Global,
+    pool: &Pool<C, G>,
+    a: &Array,
+    slots: &[Option<&Array>],
+    b: &Array,
+    origin: Origin,
+) -> Result<Array, OpFault>
+    ensures { Answers (replace_row a.now (map option_copied slots.now) b.now origin) result }
+{
+    let workers = Workers { rt, alloc, pool };
+    let selected = selected_shape(alloc, a, slots, origin)?;
+    judge_values(a, b, &selected)?;
+    workers.replace_selected(a, slots, b, origin, selected)
+}

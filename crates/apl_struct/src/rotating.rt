@@ -1,0 +1,193 @@
+//! Rotated lines.
+ghost use Rattle.std.specs.Prelude.{◌≡◌, ◌||◌, ◌==◌, ◌⊎◌, true, ℕ, pos, ◌+◌, ◌%◌, ◌<◌, ◌≤◌, List, Ok, IfOk, map, length, slice_index, slice_index_or, remove};
+ghost use Rattle.apl_array.specs.declared.array.Elem.{Elem};
+ghost use Rattle.apl_array.specs.Array.{element_at};
+ghost use Rattle.apl_array.specs.Shape.{IsIndexOf, place_of};
+ghost use Rattle.apl_pool.specs.declared.kernel.TheConstants.{MOST_PLACES};
+ghost use Rattle.apl_answer.specs.Arguments.{is_same_shape, has_one_element, rank_of};
+ghost use Rattle.apl_answer.specs.Pointwise.{answer_of, IsAnswerOf};
+ghost use Rattle.apl_answer.specs.Rows.{Answers};
+ghost use Rattle.apl_struct.specs.Gathering.{along_axis};
+ghost use Rattle.apl_struct.specs.Moving.{rotated_index, rotate_row};
+ghost use Rattle.apl_struct.specs.Rotation.{wrapped, rotation_of};
+
+use crate::along::Indexes;
+use crate::arguments::{is_without_axis, numbers_among};
+use crate::axes::axis_among;
+use crate::workers::Workers;
+use apl_answer::OpFault;
+use apl_array::{Array, Axis};
+use apl_pool::{Cut, Gate, Pool};
+use std::alloc::{AllocError, Global};
+use std::thread::Threads;
+
+/// The last `length - by` indexes first, then the first `by`.
+#[derive(Drop)]
+struct Rotated {
+    length: usize,
+    by: usize,
+    ghost most: { length ≤ MOST_PLACES },
+    ghost below: { by ≤ length },
+}
+
+impl Indexes for Rotated {
+    ghost use Rattle.std.specs.Prelude.{Some};
+    ghost use Rattle.apl_struct.specs.Rotation.{wrapped};
+
+    ghost extent = { λ r. r.length };
+
+    ghost reach = { λ r. r.length };
+
+    ghost index = { λ r line i. Some (wrapped r.length (i + r.by)) };
+
+    #[inline(always)]
+    fn at(&self, _line: usize, i: usize) -> Option<usize> {
+        let j = i + self.by;
+        Some(if j < self.length { j } else { j - self.length })
+    }
+
+    fn are_lawful(&self) {}
+}
+
+/// By how many indexes an axis of this length is rotated, counted from 0.
+fn rotation_within(rotation: i64, length: usize) -> usize
+    requires { length ≤ MOST_PLACES }
+    ensures value { result ≡ rotation_of length rotation }
+    ensures below { result ≤ length }
+    ensures each { (i : ℕ) → i < length → rotated_index rotation length i ≡ wrapped length (i + result) }
+{
+    if length == 0 {
+        return 0;
+    }
+    rotation.rem_euclid(length as i64) as usize
+}
+
+/// The same for each line.
+fn rotations_within(
+    alloc: Global,
+    rotations: &[i64],
+    length: usize,
+) -> Result<Vec<usize>, AllocError>
+    requires { length ≤ MOST_PLACES }
+    ensures { IfOk result (λ by. by.items ≡ map (rotation_of length) rotations.now) }
+{
+    rotations
+        .iter()
+        .map(|rotation| rotation_within(*rotation, length))
+        .collect(alloc)
+}
+
+/// Each line rotated by a number of its own.
+#[derive(Drop)]
+struct RotatedEach<'a> {
+    length: usize,
+    by: &'a [usize],
+    ghost most: { length ≤ MOST_PLACES },
+    ghost below: { (line : ℕ) → slice_index by.now line ≤ length },
+}
+
+impl Indexes for RotatedEach<'_> {
+    ghost use Rattle.std.specs.Prelude.{Some};
+    ghost use Rattle.apl_struct.specs.Rotation.{wrapped};
+
+    ghost extent = { λ r. r.length };
+
+    ghost reach = { λ r. r.length };
+
+    ghost index = { λ r line i. Some (wrapped r.length (i + slice_index r.by.now line)) };
+
+    #[inline(always)]
+    fn at(&self, line: usize, i: usize) -> Option<usize> {
+        let by = match self.by.get(line) {
+            Some(by) => *by,
+            None => 0,
+        };
+        let j = i + by;
+        Some(if j < self.length { j } else { j - self.length })
+    }
+
+    fn are_lawful(&self) {}
+}
+
+impl<R: Threads + Sync, C: Cut + Sync, G: Gate + Sync> Workers<'_, R, C, G> {
+    /// All lines along axis `k` rotated by one number.
+    fn rotate_all(&self, b: &Array, k: usize, rotation: i64) -> Result<Array, OpFault>
+        requires { k < length b.now.shape }
+        ensures { (element : List ℕ → Elem) → ((index : List ℕ) → element_at b.now (along_axis k (rotated_index rotation (slice_index b.now.shape k)) index) ≡ element index)
+            → IsAnswerOf (answer_of b.now.shape (λ index. Ok (element index)) b.now.kind) result }
+    {
+        let shape = b.shape().copy(self.alloc)?;
+        let length = shape.axis(k);
+        let by = rotation_within(rotation, length);
+        self.gather_along(shape, b, k, Rotated { length, by })
+    }
+
+    /// Each line along axis `k` rotated by a number of its own.
+    fn rotate_each(&self, b: &Array, k: usize, rotations: &[i64]) -> Result<Array, OpFault>
+        requires { k < length b.now.shape }
+        ensures { (element : List ℕ → Elem)
+            → ((index : List ℕ) → element_at b.now (along_axis k (rotated_index (slice_index_or rotations.now (place_of (remove b.now.shape k) (remove index k)) (pos 0)) (slice_index b.now.shape k)) index) ≡ element index)
+            → IsAnswerOf (answer_of b.now.shape (λ index. Ok (element index)) b.now.kind) result }
+    {
+        let shape = b.shape().copy(self.alloc)?;
+        let length = shape.axis(k);
+        let by = rotations_within(self.alloc, rotations, length)?;
+        let indexes = RotatedEach {
+            length,
+            by: by.as_slice(),
+        };
+        self.gather_along(shape, b, k, indexes)
+    }
+}
+
+/// The lines along an axis, each rotated by a number: index i takes the remainder of i plus the
+/// number by the axis's length. `a` has one element for all lines, or one for each. A scalar is
+/// answered as it is. First comes whether the axis exists (`Index`), then `a`'s rank (`Rank`), its
+/// lengths (`Length`), and that it is of numbers (`Domain`).
+pub fn rotate<R: Threads + Sync, C: Cut + Sync, G: Gate + Sync>(
+    rt: &R,
+    alloc: Global,
+    pool: &Pool<C, G>,
+    a: &Array,
+    b: &Array,
+    axis: Axis,
+) -> Result<Array, OpFault>
+    ensures { Answers (rotate_row a.now b.now axis) result }
+{
+    let workers = Workers { rt, alloc, pool };
+    let Some(k) = axis_among(axis, b.shape().rank()) else {
+        return Err(OpFault::Index);
+    };
+    if !has_rank_of_lines(a, b) {
+        return Err(OpFault::Rank);
+    }
+    if !has_lengths_of_lines(a, b, k) {
+        return Err(OpFault::Length);
+    }
+    let Some(rotations) = numbers_among(a) else {
+        return Err(OpFault::Domain);
+    };
+    if b.shape().rank() == 0 {
+        workers.gather_scalar(b)
+    } else if a.shape().count() == 1 {
+        workers.rotate_all(b, k, rotations[0])
+    } else {
+        workers.rotate_each(b, k, rotations)
+    }
+}
+
+/// Whether `a` has one element, or one axis less than `b`.
+fn has_rank_of_lines(a: &Array, b: &Array) -> bool
+    ensures { result ≡ (has_one_element a.now.shape || (rank_of a.now + 1 == rank_of b.now)) }
+{
+    a.shape().count() == 1 || a.shape().rank() + 1 == b.shape().rank()
+}
+
+/// Whether `a` has one element, or one for each line of `b` along axis `k`.
+fn has_lengths_of_lines(a: &Array, b: &Array, k: usize) -> bool
+    requires rank { (has_one_element a.now.shape || (rank_of a.now + 1 == rank_of b.now)) ≡ true }
+    requires axis { (k < rank_of b.now) ⊎ (rank_of b.now ≡ 0) }
+    ensures { result ≡ (has_one_element a.now.shape || is_same_shape a.now.shape (remove b.now.shape k)) }
+{
+    a.shape().count() == 1 || is_without_axis(a.shape().lengths(), b.shape().lengths(), k)
+}

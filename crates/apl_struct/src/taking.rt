@@ -1,0 +1,231 @@
+//! Elements taken from the ends of the axes, or left away there.
+ghost use Rattle.std.specs.Prelude.{◌≡◌, ℕ, ◌+◌, ◌*◌, ◌<◌, ◌≤◌, length, map, nat_abs, List, All, Ok, Err, Result, IfOk, IfErr, option_map, if◌then◌else◌};
+ghost use Rattle.apl_array.specs.Array.{ArrayValue};
+ghost use Rattle.apl_array.specs.declared.array.Elem.{Elem};
+ghost use Rattle.apl_array.specs.Shape.{IsShape, is_shape, IsIndexOf, count_of, place_of, index_at};
+ghost use Rattle.apl_pool.specs.declared.kernel.TheConstants.{MOST_PLACES};
+ghost use Rattle.apl_answer.specs.Arguments.{rank_of, size_of, numbers_of};
+ghost use Rattle.apl_answer.specs.Pointwise.{answer_of, IsAnswerOf};
+ghost use Rattle.apl_answer.specs.Rows.{Answers, first_failure_or};
+ghost use Rattle.apl_struct.specs.Gathering.{element_or_fill};
+ghost use Rattle.apl_struct.specs.Taking.{with_axes, taking_checks, taken_index, take_source, take_row, drop_row};
+ghost use Rattle.apl_struct.specs.Windows.{step_of, extent_of, walked, windows_of};
+ghost use Rattle.apl_struct.specs.Shaped.{with_shape, left_number, left_numbers};
+
+use crate::arguments::numbers_among;
+use crate::gather::{Absent, Same};
+use crate::windows::{Walk, Window};
+use crate::workers::Workers;
+use apl_answer::OpFault;
+use apl_array::{Array, MOST_AXES, Shape, places_match_index_lists};
+use apl_pool::{Cut, Gate, Pool};
+use std::alloc::{AllocError, Global};
+use std::thread::Threads;
+
+/// The window of an axis of which the first `number` elements are taken, or the last for a negative
+/// number.
+fn taken_window(number: i64, length: usize, stride: usize) -> Window
+    requires some { 0 < nat_abs number }
+    requires most { nat_abs number ≤ MOST_PLACES }
+    requires length { length ≤ MOST_PLACES }
+    requires near { length * stride ≤ MOST_PLACES }
+    ensures extent { result.extent ≡ nat_abs number }
+    ensures step { (i : ℕ) → i < nat_abs number → step_of result i ≡ option_map (λ j. j * stride) (taken_index number length i) }
+{
+    let wanted = number.unsigned_abs() as usize;
+    let extent = wanted as u32;
+    if number >= 0 {
+        return Window {
+            extent,
+            from: 0,
+            to: wanted.min(length),
+            start: 0,
+            stride,
+        };
+    }
+    Window {
+        extent,
+        from: wanted.saturating_sub(length),
+        to: wanted,
+        start: length.saturating_sub(wanted),
+        stride,
+    }
+}
+
+/// The walk over an argument of which so much is taken.
+fn taken_walk(alloc: Global, numbers: &[i64], argument: &Shape) -> Result<Walk, AllocError>
+    requires len { length numbers.now ≡ length argument.now }
+    requires lawful { IsShape (map nat_abs numbers.now) }
+    requires some { 0 < count_of (map nat_abs numbers.now) }
+    requires argument_some { 0 < count_of argument.now }
+    ensures extent { IfOk result (λ walk. extent_of (windows_of walk) ≡ count_of (map nat_abs numbers.now)) }
+    ensures place { IfOk result (λ walk. (place : ℕ) → walked (windows_of walk) place
+        ≡ option_map (place_of argument.now) (take_source numbers.now argument.now (index_at (map nat_abs numbers.now) place))) }
+{
+    let mut walk = Walk::new(alloc);
+    for k in (0..numbers.len()).rev() {
+        let window = taken_window(numbers[k], argument.axis(k), argument.inner(k));
+        walk = walk.with(window)?;
+    }
+    Ok(walk)
+}
+
+/// What is left of an axis of which the first `number` elements are dropped, or the last for a
+/// negative number, as what is taken of it.
+fn left_number(number: i64, length: usize) -> i64
+    requires { length ≤ MOST_PLACES }
+    ensures { result ≡ left_number number length }
+{
+    let left = (length as u64).saturating_sub(number.unsigned_abs()) as i64;
+    if number < 0 { left } else { -left }
+}
+
+/// What is left of each axis.
+fn left_numbers(alloc: Global, numbers: &[i64], lengths: &[usize]) -> Result<Vec<i64>, AllocError>
+    requires len { length numbers.now ≡ length lengths.now }
+    requires lengths { All (λ n. n ≤ MOST_PLACES) lengths.now }
+    ensures { IfOk result (λ left. left.items ≡ left_numbers numbers.now lengths.now) }
+{
+    let mut left = Vec::with_capacity(alloc, numbers.len())?;
+    for k in 0..numbers.len() {
+        left.push(left_number(numbers[k], lengths[k]))?;
+    }
+    Ok(left)
+}
+
+/// How far each number is from 0.
+fn magnitudes(alloc: Global, numbers: &[i64]) -> Result<Vec<usize>, AllocError>
+    ensures { IfOk result (λ lengths. lengths.items ≡ map nat_abs numbers.now) }
+{
+    let mut lengths = Vec::with_capacity(alloc, numbers.len())?;
+    for number in numbers {
+        lengths.push(number.unsigned_abs() as usize)?;
+    }
+    Ok(lengths)
+}
+
+/// The numbers by which an array is taken or dropped: `Rank`, `Length`, `Limit` or `Domain` where the
+/// checks before that of the result's shape fail.
+fn taking_numbers<'a>(a: &'a Array, b: &Array) -> Result<&'a [i64], OpFault>
+    ensures refused { IfErr result (λ fault. (shape : List ℕ) (answer : Result ArrayValue OpFault)
+        → first_failure_or (taking_checks a.now (with_axes (size_of a.now) b.now) shape) answer ≡ Err fault) }
+    ensures judged { IfOk result (λ numbers. (shape : List ℕ) (answer : Result ArrayValue OpFault)
+        → first_failure_or (taking_checks a.now (with_axes (size_of a.now) b.now) shape) answer ≡ (if is_shape shape then answer else Err OpFault.Limit)) }
+    ensures numbers { IfOk result (λ numbers. numbers_of a.now ≡ numbers.now) }
+    ensures len { IfOk result (λ numbers. length numbers.now ≡ size_of a.now) }
+    ensures axes { IfOk result (λ numbers. length numbers.now ≡ rank_of (with_axes (size_of a.now) b.now)) }
+    ensures few { IfOk result (λ numbers. length numbers.now ≤ MOST_AXES) }
+{
+    if a.shape().rank() > 1 {
+        return Err(OpFault::Rank);
+    }
+    let count = a.shape().count();
+    let rank = b.shape().rank();
+    if rank != 0 && rank != count {
+        return Err(OpFault::Length);
+    }
+    if count > MOST_AXES {
+        return Err(OpFault::Limit);
+    }
+    match numbers_among(a) {
+        Some(numbers) => Ok(numbers),
+        None => Err(OpFault::Domain),
+    }
+}
+
+/// The shape of an array of which a scalar serves as one of one element with so many axes.
+fn shape_with_axes(alloc: Global, b: &Array, rank: usize) -> Result<Shape, AllocError>
+    requires { rank ≤ MOST_AXES }
+    ensures shape { IfOk result (λ shape. shape ≡ (with_axes rank b.now).shape) }
+    ensures count { IfOk result (λ shape. count_of shape ≡ count_of b.now.shape) }
+{
+    if b.shape().rank() != 0 {
+        return b.shape().copy(alloc);
+    }
+    let Ok(shape) = Shape::new(alloc, &[1; MOST_AXES][..rank]) else {
+        unreachable!()
+    };
+    Ok(shape)
+}
+
+impl<R: Threads + Sync, C: Cut + Sync, G: Gate + Sync> Workers<'_, R, C, G> {
+    /// The array of this shape with the elements that are taken from an argument, which serves as
+    /// one of the shape `argument`.
+    fn take_from(
+        &self,
+        numbers: &[i64],
+        shape: Shape,
+        b: &Array,
+        argument: &Shape,
+    ) -> Result<Array, OpFault>
+        requires count { count_of argument.now ≡ count_of b.now.shape }
+        requires len { length numbers.now ≡ length argument.now }
+        requires shape { shape ≡ map nat_abs numbers.now }
+        ensures { (element : List ℕ → Elem) → ((index : List ℕ) → IsIndexOf shape index → element_or_fill (with_shape argument.now b.now) (take_source numbers.now argument.now index) ≡ element index)
+            → IsAnswerOf (answer_of shape (λ index. Ok (element index)) b.now.kind) result }
+    {
+        places_match_index_lists();
+        // An array that was asked something is known to be lawful.
+        let _kind = b.kind();
+        let count = shape.count();
+        if count == 0 {
+            return self.gather(shape, b, Same { count });
+        }
+        if argument.count() == 0 {
+            return self.gather(shape, b, Absent { count });
+        }
+        let walk = taken_walk(self.alloc, numbers, argument)?;
+        self.gather_walk(shape, b, walk)
+    }
+
+    /// The array with the elements that are taken from an argument, which serves as one of the shape
+    /// `argument`; `Limit` where it passes a limit.
+    fn taken(&self, numbers: &[i64], b: &Array, argument: &Shape) -> Result<Array, OpFault>
+        requires count { count_of argument.now ≡ count_of b.now.shape }
+        requires len { length numbers.now ≡ length argument.now }
+        ensures { (element : List ℕ → Elem)
+            → ((index : List ℕ) → IsIndexOf (map nat_abs numbers.now) index → element_or_fill (with_shape argument.now b.now) (take_source numbers.now argument.now index) ≡ element index)
+            → IsAnswerOf (if is_shape (map nat_abs numbers.now) then answer_of (map nat_abs numbers.now) (λ index. Ok (element index)) b.now.kind else Err OpFault.Limit) result }
+    {
+        let lengths = magnitudes(self.alloc, numbers)?;
+        let Ok(shape) = Shape::new(self.alloc, lengths.as_slice()) else {
+            return Err(OpFault::Limit);
+        };
+        self.take_from(numbers, shape, b, argument)
+    }
+}
+
+/// So many first elements of each axis, or last ones for a negative number, and fills where there
+/// are not as many. A scalar serves as an array of one element. Of a rank above 1 (`Rank`), not a
+/// number for each axis (`Length`), more than the most axes (`Limit`), not of numbers (`Domain`), or
+/// with a result past a limit (`Limit`), `a` is refused, in this order.
+pub fn take<R: Threads + Sync, C: Cut + Sync, G: Gate + Sync>(
+    rt: &R,
+    alloc: Global,
+    pool: &Pool<C, G>,
+    a: &Array,
+    b: &Array,
+) -> Result<Array, OpFault>
+    ensures { Answers (take_row a.now b.now) result }
+{
+    let numbers = taking_numbers(a, b)?;
+    let argument = shape_with_axes(alloc, b, numbers.len())?;
+    Workers { rt, alloc, pool }.taken(numbers, b, &argument)
+}
+
+/// What is left of each axis without so many first elements, or last ones for a negative number. A
+/// scalar serves as an array of one element. It is refused as a take is.
+pub fn drop<R: Threads + Sync, C: Cut + Sync, G: Gate + Sync>(
+    rt: &R,
+    alloc: Global,
+    pool: &Pool<C, G>,
+    a: &Array,
+    b: &Array,
+) -> Result<Array, OpFault>
+    ensures { Answers (drop_row a.now b.now) result }
+{
+    let numbers = taking_numbers(a, b)?;
+    let argument = shape_with_axes(alloc, b, numbers.len())?;
+    let left = left_numbers(alloc, numbers, argument.lengths())?;
+    Workers { rt, alloc, pool }.taken(left.as_slice(), b, &argument)
+}

@@ -1,0 +1,12 @@
+⍝ Months by indexing
+MONTHS←12 3⍴'JANFEBMARAPRMAYJUNJULAUGSEPOCTNOVDEC'
+DAYS←31 28 31 30 31 30 31 31 30 31 30 31
+M←2 7 12
+MONTHS[M;]
+DAYS[M]
+⍝ the months of 31 days, and their numbers
+(DAYS=31)⌿MONTHS
+(DAYS=31)/⍳12
+⍝ a leap year
+DAYS[2]←29
+DAYS

@@ -1,0 +1,101 @@
+A←2 2⍴⍳4
+A[2;]←9
+A
+A[3;1]
+(⍳3)[1;1]
+2000000000⍴0
+9223372036854775808
+)CLEAR
+⍋3 1 2 1
+⍒3 1 2 1
+3 1 4⍳4 9
+'AB'∊'BC'
+)CLEAR
+A←⍳5
+A[2 2]←7 9
+A
+)CLEAR
+(⍳5)[2 3⍴1]
+)CLEAR
+'ABC'[3 1]
+)CLEAR
+M←2 2⍴⍳4
+M[B;B←2]
+)CLEAR
+Q[1]←2
+)CLEAR
+A←⍳3
+A[4]←A[5]
+A[4]←1
+A[1]←'X'
+A
+)CLEAR
+)ORIGIN 0
+'ABC'⍳'CAX'
+)CLEAR
+⍋''
+)CLEAR
+⍋2 2⍴0
+)CLEAR
+Q⌽[9]1 2
+)CLEAR
+1⌽[9]1 2
+)CLEAR
+Q[1÷0]
+)CLEAR
+Q[X←1]←2
+X
+)CLEAR
+A[X;X←1]←2
+)CLEAR
+A←2 2⍴⍳4
+A[A←1]
+A
+)CLEAR
+A[1 2]←A←5 6
+A
+)CLEAR
+(B)+B←2
+)CLEAR
+A[Q;R]←1÷0
+)CLEAR
+A←⍳3
+(A[2]←9)+A
+)CLEAR
+A←⍳3
+(A[1 2]←7)
+1+A[3]←5 6
+A[1 3]←8 9
+A
+B←A[2]←4
+B
+)CLEAR
+5⍳5
+)CLEAR
+''⍳5
+)CLEAR
+1 2⍳'A'
+)CLEAR
+'A'∊1 2
+)CLEAR
+⍋5
+)CLEAR
+⍋'AB'
+)CLEAR
+3↑⍋''
+)CLEAR
+⍋2 2⍴'A'
+)CLEAR
+A←2 2⍴⍳4
+A[1;1 2]←1 2⍴5 6
+A[1;]←1 1 1⍴5
+A
+A[1;1]←5 6
+A[1 2;1]←5 6 7
+A[1 2;1]←'ABC'
+A[⍳0;1]←'X'
+A[⍳0;1]←''
+A[1;,1]←⍳0
+A[1;1]←⍳0
+A[1 1;2]←8 9
+A
