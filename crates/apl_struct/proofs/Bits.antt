@@ -1,8 +1,8 @@
 -- Lists of bits, as counts.
-use Rattle.std.proofs.Common.{◌≡◌, ℕ, ℤ, pos, zero, suc, ◌+◌, ◌*◌, ◌<◌, true, false, Bool, int_eq, List, [], ◌∷◌, ◌++◌, map, take, length, slice_index, slice_index_or, refl, ap, sym, ◌∙◌, ⊎_elim, inl, inr, of_z, w64, arith}
-use Rattle.std.specs.Prelude.{◌≤◌, ◌&&◌, ◌||◌, ◌⊎◌, sum, replicate, slice_set}
+use Rattle.std.proofs.Common.{◌≡◌, ℕ, ℤ, pos, zero, suc, ◌+◌, ◌*◌, ◌<◌, true, false, Bool, int_eq, List, [], ◌∷◌, ◌++◌, map, take, length, slice_index, slice_index_or, refl, ap, sym, ◌∙◌, ⊎_elim, inl, inr, to_z, of_z, w64, arith}
+use Rattle.std.specs.Prelude.{◌≤◌, ◌==◌, ◌&&◌, ◌||◌, ◌⊎◌, if◌then◌else◌, sum, replicate, slice_set}
 use Rattle.std.specs.List.{list_all}
-use Rattle.std.proofs.lemmas.Bool.{true≢false}
+use Rattle.std.proofs.lemmas.Bool.{true≢false, cases_Bool, eqb-true}
 use Rattle.std.proofs.lemmas.Bool.Decides.{Decides-int_eq}
 use Rattle.std.proofs.lemmas.List.{length-map, append-nil}
 use Rattle.std.proofs.lemmas.List.Sums.{sum_by-cons, sum_by_more}
@@ -21,6 +21,15 @@ count_at : (bits : List ℤ) (i : ℕ) → slice_index (counts bits) i ≡ place
 count_at [] i = refl
 count_at (z ∷ zs) zero = refl
 count_at (z ∷ zs) (suc i) = count_at zs i
+
+-- how many ones a number is
+abbrev pub one_in : ℤ → ℕ
+one_in z = if of_z w64 z == 1 then 1 else 0
+
+one_at : (numbers : List ℤ) (i : ℕ) → slice_index (map one_in numbers) i ≡ one_in (slice_index_or numbers i (pos 0))
+one_at [] i = refl
+one_at (z ∷ zs) zero = refl
+one_at (z ∷ zs) (suc i) = one_at zs i
 
 both : (p q : Bool) → (p && q) ≡ true → (p ≡ true) × (q ≡ true)
 both true q e = (refl, e)
@@ -51,6 +60,30 @@ place_none z bit other =
     (λ one. absurd (other (ap (of_z w64) one)))
     (bit_is z bit)
 
+one_is : (z : ℤ) → is_bit z ≡ true → one_in z ≡ place_number z
+one_is z bit =
+    ⊎_elim
+    (λ none. rw none refl)
+    (λ one. rw one refl)
+    (bit_is z bit)
+
+-- a number is judged by the bits that it is held in
+pub bit_test : (z : ℤ) → to_z w64 (of_z w64 z) ≡ z → ((of_z w64 z == 0) || (of_z w64 z == 1)) ≡ is_bit z
+bit_test z turned =
+    ⊎_elim
+    (λ bit. ⊎_elim
+    (λ none. rw none refl)
+    (λ one. rw one refl)
+    (bit_is z bit))
+    (λ other. ⊎_elim
+    (λ held. ⊎_elim
+    (λ none. absurd (true≢false (ap is_bit (ap (to_z w64) (sym (eqb-true _ _ none)) ∙ turned) ∙ other)))
+    (λ one. absurd (true≢false (ap is_bit (ap (to_z w64) (sym (eqb-true _ _ one)) ∙ turned) ∙ other)))
+    (either (of_z w64 z == 0) (of_z w64 z == 1) held))
+    (λ neither. neither ∙ sym other)
+    (cases_Bool ((of_z w64 z == 0) || (of_z w64 z == 1))))
+    (cases_Bool (is_bit z))
+
 bit_most : (z : ℤ) → is_bit z ≡ true → place_number z ≤ 1
 bit_most z bit =
     ⊎_elim
@@ -62,6 +95,15 @@ bit_at : (bits : List ℤ) (i : ℕ) → list_all is_bit bits ≡ true → is_bi
 bit_at [] i all = refl
 bit_at (z ∷ zs) zero all = (both (is_bit z) (list_all is_bit zs) all).0
 bit_at (z ∷ zs) (suc i) all = bit_at zs i (both (is_bit z) (list_all is_bit zs) all).1
+
+pub ones_more : (numbers : List ℤ) (i : ℕ) → i < length numbers → sum (take (i + 1) (map one_in numbers)) ≡ sum (take i (map one_in numbers)) + one_in (slice_index_or numbers i (pos 0))
+ones_more numbers i inside = omega (arith, sum_by_more (λ n. n) (map one_in numbers) i 0 (omega (arith, inside, length-map numbers one_in)), one_at numbers i)
+
+pub ones_are : (bits : List ℤ) → list_all is_bit bits ≡ true → map one_in bits ≡ map place_number bits
+ones_are [] all = refl
+ones_are (z ∷ zs) all =
+    let each = both (is_bit z) (list_all is_bit zs) all in
+    ap (λ n. n ∷ map one_in zs) (one_is z each.0) ∙ ap (λ ns. place_number z ∷ ns) (ones_are zs each.1)
 
 pub count_one : (bits : List ℤ) (i : ℕ) → list_all is_bit bits ≡ true → of_z w64 (slice_index_or bits i (pos 0)) ≡ 1 → slice_index (counts bits) i ≡ 1
 count_one bits i all one = count_at bits i ∙ place_one (slice_index_or bits i (pos 0)) (bit_at bits i all) one

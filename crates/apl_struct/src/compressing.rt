@@ -187,42 +187,32 @@ fn lengths_with(alloc: Global, b: &Array, k: usize, length: usize) -> Result<Vec
     Ok(lengths)
 }
 
-/// The bits of an array, where it is of numbers and each is 0 or 1, or without elements.
-fn bits_among(a: &Array) -> Option<&[i64]>
-    ensures { MatchOption result ((is_numbers a.now && list_all is_bit (numbers_of a.now)) ≡ false) (λ bits. ((is_numbers a.now && list_all is_bit (numbers_of a.now)) ≡ true) × (list_all is_bit bits.now ≡ true) × (numbers_of a.now ≡ bits.now)) }
+/// The bits of an array, where it is of numbers and each is 0 or 1, or without elements, and how many
+/// of them are one.
+fn bits_among(a: &Array) -> Option<(&[i64], usize)>
+    ensures { MatchOption result ((is_numbers a.now && list_all is_bit (numbers_of a.now)) ≡ false) (λ found. ((is_numbers a.now && list_all is_bit (numbers_of a.now)) ≡ true) × (list_all is_bit found.0.now ≡ true) × (numbers_of a.now ≡ found.0.now) × (found.1 ≡ sum (map place_number found.0.now)) × (found.1 ≤ length found.0.now)) }
 {
     let numbers = numbers_among(a)?;
-    if are_bits(numbers) {
-        Some(numbers)
+    let ones = ones_among(numbers)?;
+    Some((numbers, ones))
+}
+
+/// How many of the numbers are one, where each is 0 or 1. All are looked at: a loop that can end early
+/// takes them one by one.
+fn ones_among(numbers: &[i64]) -> Option<usize>
+    ensures { MatchOption result (list_all is_bit numbers.now ≡ false) (λ ones. (list_all is_bit numbers.now ≡ true) × (ones ≡ sum (map place_number numbers.now)) × (ones ≤ length numbers.now)) }
+{
+    let mut are_bits = true;
+    let mut ones = 0;
+    for number in numbers {
+        are_bits &= (*number == 0) | (*number == 1);
+        ones += usize::from(*number == 1);
+    }
+    if are_bits {
+        Some(ones)
     } else {
         None
     }
-}
-
-/// Each number is looked at: a loop that can end early takes them one by one.
-fn are_bits(numbers: &[i64]) -> bool
-    ensures { result ≡ list_all is_bit numbers.now }
-{
-    let mut are = true;
-    for number in numbers {
-        are &= (*number == 0) | (*number == 1);
-    }
-    are
-}
-
-/// How many of the bits are one.
-fn ones_among(bits: &[i64]) -> usize
-    requires bits { list_all is_bit bits.now ≡ true }
-    ensures sum { result ≡ sum (map place_number bits.now) }
-    ensures most { result ≤ length bits.now }
-{
-    let mut ones = 0;
-    for bit in bits {
-        if *bit == 1 {
-            ones += 1;
-        }
-    }
-    ones
 }
 
 /// Writes the indexes of the ones to the front of a table. Each index is written, and the next one over
@@ -344,17 +334,24 @@ impl<R: Threads + Sync, C: Cut + Sync, G: Gate + Sync> Workers<'_, R, C, G> {
         self.gather(shape, b, OnlyElement { count, indexes })
     }
 
-    /// The indexes of axis `k` at which there is a one.
-    fn compress_each(&self, b: &Array, k: usize, bits: &[i64]) -> Result<Array, OpFault>
+    /// The indexes of axis `k` at which there is a one, of which there are so many.
+    fn compress_each(
+        &self,
+        b: &Array,
+        k: usize,
+        bits: &[i64],
+        ones: usize,
+    ) -> Result<Array, OpFault>
         requires axis { k < max 1 (rank_of b.now) }
         requires length { length bits.now ≡ slice_index (as_vector (length bits.now) b.now).shape k }
         requires bits { list_all is_bit bits.now ≡ true }
         requires most { length bits.now ≤ MOST_PLACES }
+        requires ones { ones ≡ sum (map place_number bits.now) }
+        requires few { ones ≤ length bits.now }
         ensures { let c = as_vector (length bits.now) b.now in let counts = map place_number bits.now in
             IsAnswerOf (answer_of (slice_set c.shape k (sum counts)) (λ index. Ok (element_at c (along_axis k (slice_index (repeated_indexes counts)) index))) b.now.kind) result }
     {
         let length = bits.len();
-        let ones = ones_among(bits);
         let table = kept_indexes(self.alloc, bits, ones)?;
         let shape = shrunk_shape(self.alloc, b, k, ones, length)?;
         let table = table.as_slice();
@@ -417,13 +414,13 @@ pub fn compress<R: Threads + Sync, C: Cut + Sync, G: Gate + Sync>(
     if !serves(count, length) {
         return Err(OpFault::Length);
     }
-    let Some(bits) = bits_among(a) else {
+    let Some((bits, ones)) = bits_among(a) else {
         return Err(OpFault::Domain);
     };
     if count == 1 {
         workers.compress_all(b, k, length, bits[0])
     } else {
-        workers.compress_each(b, k, bits)
+        workers.compress_each(b, k, bits, ones)
     }
 }
 
@@ -448,10 +445,9 @@ pub fn expand<R: Threads + Sync, C: Cut + Sync, G: Gate + Sync>(
     if a.shape().rank() > 1 {
         return Err(OpFault::Rank);
     }
-    let Some(bits) = bits_among(a) else {
+    let Some((bits, ones)) = bits_among(a) else {
         return Err(OpFault::Domain);
     };
-    let ones = ones_among(bits);
     if ones != vector_length(b, k, ones) {
         return Err(OpFault::Length);
     }

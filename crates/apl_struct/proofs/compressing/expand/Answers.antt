@@ -25,8 +25,8 @@ returns g c =
     let judged : (is_numbers a && list_all is_bit (numbers_of a)) ≡ true = c.in-Some-bits_among.ensures.0 in
     let numbers : numbers_of a ≡ bits = c.in-Some-bits_among.ensures.2 in
     let bits_are : length bits ≡ count_of a.shape = sym (ap length numbers) ∙ length-map a.ravel number_of ∙ c.shape.ensures.lawful.len in
-    let ones_is : c.ones_among-ones.result ≡ sum counts = c.ones_among-ones.ensures.sum in
-    let long : c.ones_among-ones.result ≡ c.vector_length.result = search rules in
+    let ones_is : c.in-Some-bits_among.ones ≡ sum counts = c.in-Some-bits_among.ensures.3 in
+    let long : c.in-Some-bits_among.ones ≡ c.vector_length.result = search rules in
     let length_is : c.vector_length.result ≡ slice_index vector.shape k =
     c.vector_length.ensures.length ∙ ap (λ m. slice_index (as_vector m b).shape c.in-Some.k) ones_is ∙ ap (slice_index vector.shape) k_is in
     let fit : (sum counts == slice_index vector.shape k) ≡ true = eq-eqb (sum counts) (slice_index vector.shape k) (sym ones_is ∙ long ∙ length_is) in

@@ -26,7 +26,7 @@ gather_vector-requires-clause-shape g c = λ lifetimes outlive.
     let counts = map place_number c.args.bits.now in
     let vector = as_vector (length c.args.bits.now) c.args.b.now in
     let table_is : c.as_slice-table.result.now ≡ repeated_indexes counts = c.as_slice-table.ensures.value ∙ c.in_ok-table.ensures in
-    let ones_is : c.ones_among-ones.result ≡ length c.as_slice-table.result.now = c.ones_among-ones.ensures.sum ∙ sym (repeated_length counts) ∙ ap length (sym table_is) in
+    let ones_is : c.args.ones ≡ length c.as_slice-table.result.now = c.requires.ones ∙ sym (repeated_length counts) ∙ ap length (sym table_is) in
     c.in_ok-shape.ensures ∙ ap (slice_set vector.shape c.args.k) ones_is
 
 pub returns : goal.returns
@@ -36,7 +36,7 @@ returns g c =
     let counts = map place_number c.args.bits.now in
     let vector = as_vector (length c.args.bits.now) b in
     let table_is : c.as_slice-table.result.now ≡ repeated_indexes counts = c.as_slice-table.ensures.value ∙ c.in_ok-table.ensures in
-    let shape_is : c.in_ok-shape.shape ≡ slice_set vector.shape k (sum counts) = c.in_ok-shape.ensures ∙ ap (slice_set vector.shape k) c.ones_among-ones.ensures.sum in
+    let shape_is : c.in_ok-shape.shape ≡ slice_set vector.shape k (sum counts) = c.in_ok-shape.ensures ∙ ap (slice_set vector.shape k) c.requires.ones in
     let P : List ℕ → Type 0 = λ s. IsAnswerOf (answer_of s (λ index. Ok (element_at vector (along_axis k (slice_index (repeated_indexes counts)) index))) b.kind) c.gather_vector.result in
     subst P shape_is
     (c.gather_vector.ensures _ (λ line index lawful. ap (λ table. element_at vector (along_axis k (slice_index table) index)) table_is))
