@@ -1,5 +1,5 @@
 -- Steps along the axes of a result.
-use Rattle.std.proofs.Common.{◌≡◌, ℕ, zero, suc, ◌+◌, ◌-◌, ◌*◌, ◌/◌, ◌%◌, ◌<◌, ◌≤◌, Bool, true, false, List, [], ◌∷◌, ◌++◌, length, get_or, refl, sym, ap, ◌∙◌, arith, if◌then◌else◌}
+use Rattle.std.proofs.Common.{◌≡◌, ℕ, zero, suc, ◌+◌, ◌-◌, ◌*◌, ◌/◌, ◌%◌, ◌<◌, ◌≤◌, Bool, true, false, List, [], ◌∷◌, ◌++◌, length, drop, get_or, refl, sym, ap, ◌∙◌, arith, if◌then◌else◌}
 use Rattle.std.specs.Prelude.{◌&&◌, nat_le, nat_lt, Option, Some, None}
 use Rattle.std.proofs.lemmas.Bool.{and_parts, leb-true, ltb-true, le-leb, lt-ltb}
 use Rattle.std.proofs.Math.Arith.{mod-mul}
@@ -157,6 +157,11 @@ two_windows [] w x len is other = absurd (omega (arith, len))
 two_windows (v ∷ []) w x len is other = absurd (omega (arith, len))
 two_windows (v ∷ u ∷ []) w x len is other = ap (λ t. t ∷ u ∷ []) (sym is) ∙ ap (λ t. w ∷ t ∷ []) (sym other)
 two_windows (v ∷ u ∷ t ∷ ts) w x len is other = absurd (omega (arith, len))
+
+-- the windows behind the first have the rest of the indexes
+pub first_window : (ws : List Window) (w first : Window) → 1 ≤ length ws → w ≡ get_or ws 0 w → extent_of (ws ++ first ∷ []) ≡ w.extent * extent_of (drop 1 ws ++ first ∷ [])
+first_window [] w first long is = absurd (omega (arith, long))
+first_window (v ∷ vs) w first long is = ap (λ u. u.extent * extent_of (vs ++ first ∷ [])) (sym is)
 
 pub reached_by : (b : ArrayValue) (items ws : List Window) (first : Window) (count place : ℕ) → items ≡ ws → extent_of (items ++ first ∷ []) ≡ count → place < count
     → filled_at b (walked_to_first ws first place) ≡ filled_at b (walked (items ++ first ∷ []) place)

@@ -1,5 +1,6 @@
 -- Places of an argument, counted in steps along the axes of a result. No contract of a public function cites this file.
-use Rattle.std.specs.Prelude.{ℕ, ◌+◌, ◌-◌, ◌*◌, ◌/◌, ◌%◌, ◌&&◌, nat_le, nat_lt, List, [], ◌∷◌, ◌++◌, Option, Some, None, if◌then◌else◌}
+use Rattle.std.specs.Prelude.{◌≡◌, ℕ, ◌<◌, ◌≤◌, All, length, slice_index, ◌+◌, ◌-◌, ◌*◌, ◌/◌, ◌%◌, ◌&&◌, nat_le, nat_lt, List, [], ◌∷◌, ◌++◌, Option, Some, None, if◌then◌else◌}
+use Rattle.apl_pool.specs.declared.kernel.TheConstants.{MOST_PLACES}
 use Rattle.apl_struct.specs.declared.windows.Window.{Window}
 use Rattle.apl_struct.specs.declared.windows.Walk.{Walk}
 
@@ -31,3 +32,9 @@ windows_of walk = walk.inner.items ++ walk.first ∷ []
 abbrev pub walked_to_first : List Window → Window → ℕ → Option ℕ
 walked_to_first [] first place = step_of first place
 walked_to_first (w ∷ ws) first place = and_step (step_of w (place % w.extent)) (walked_to_first ws first (place / w.extent))
+
+-- where the lines of a walk begin: each at a place
+pub record AreStarts (inner : List Window) (first : Window) (count : ℕ) (starts : List ℕ) : Type 0 where
+  pub len : length starts ≡ count
+  pub near : All (λ start. start ≤ MOST_PLACES) starts
+  pub each : (line : ℕ) → line < count → walked_to_first inner first line ≡ Some (slice_index starts line)

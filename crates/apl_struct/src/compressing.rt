@@ -208,11 +208,7 @@ fn ones_among(numbers: &[i64]) -> Option<usize>
         are_bits &= (*number == 0) | (*number == 1);
         ones += usize::from(*number == 1);
     }
-    if are_bits {
-        Some(ones)
-    } else {
-        None
-    }
+    if are_bits { Some(ones) } else { None }
 }
 
 /// Writes the indexes of the ones to the front of a table. Each index is written, and the next one over

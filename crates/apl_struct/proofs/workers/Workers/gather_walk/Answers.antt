@@ -1,8 +1,6 @@
-use Rattle.std.proofs.Common.{◌≡◌, ◌∷◌, [], ◌++◌, sym, subst, ◌∙◌, arith}
+use Rattle.std.proofs.Common.{◌≡◌, ◌∷◌, [], sym, ◌∙◌, arith}
 use Rattle.std.proofs.lemmas.List.{nil_from_length}
-use Rattle.apl_array.specs.Shape.{count_of}
-use Rattle.apl_struct.specs.Windows.{extent_of}
-use Rattle.apl_struct.proofs.Walked.{one_window, two_windows, reached_by}
+use Rattle.apl_struct.proofs.Walked.{one_window, reached_by}
 use Rattle.apl_struct.proofs.workers.Workers.gather_walk.Goals as goal
 
 pub returns-in-empty : goal.returns-in-empty
@@ -20,29 +18,13 @@ returns-in-len1 g c = λ element same.
     let list : items ≡ last ∷ [] = sym slice ∙ one_window c.as_slice.result.now last (omega (arith, c.in-len1.len_below, c.in-len1.len_at_least)) c.last-item.is in
     c.gather-in-len1.ensures element (λ place inside. reached_by c.args.b.now items (last ∷ []) c.args.walk.first _ place list c.requires.extent inside ∙ same place inside)
 
-pub gather_three-requires-clause-extent : goal.gather_three-requires-clause-extent
-gather_three-requires-clause-extent g c κs within =
-    let items = c.args.walk.inner.items in
-    let slice : c.as_slice.result.now ≡ items = c.as_slice.ensures.value in
-    let last = c.last-item-then-this-lt3.result in
-    let middle = c.middle-item.result in
-    let list : items ≡ last ∷ middle ∷ [] =
-    sym slice ∙ two_windows c.as_slice.result.now last middle (omega (arith, c.in-len2.len_below, c.in-len2.len_at_least)) c.last-item-then-this-lt3.is c.middle-item.is in
-    let whole = subst (λ ws. extent_of (ws ++ c.args.walk.first ∷ []) ≡ count_of c.args.shape) list c.requires.extent in
-    omega (arith, whole)
-
-pub returns-in-len2 : goal.returns-in-len2
-returns-in-len2 g c = λ element same.
-    let items = c.args.walk.inner.items in
-    let slice : c.as_slice.result.now ≡ items = c.as_slice.ensures.value in
-    let last = c.last-item-then-this-lt3.result in
-    let middle = c.middle-item.result in
-    let list : items ≡ last ∷ middle ∷ [] =
-    sym slice ∙ two_windows c.as_slice.result.now last middle (omega (arith, c.in-len2.len_below, c.in-len2.len_at_least)) c.last-item-then-this-lt3.is c.middle-item.is in
-    c.gather_three.ensures element (λ place inside. reached_by c.args.b.now items (last ∷ middle ∷ []) c.args.walk.first _ place list c.requires.extent inside ∙ same place inside)
+pub gather_several-requires-clause-extent : goal.gather_several-requires-clause-extent
+gather_several-requires-clause-extent g c κs within =
+    let slice : c.as_slice.result.now ≡ c.args.walk.inner.items = c.as_slice.ensures.value in
+    rw slice c.requires.extent
 
 pub returns : goal.returns
 returns g c = λ element same.
     let items = c.args.walk.inner.items in
     let slice : c.as_slice.result.now ≡ items = c.as_slice.ensures.value in
-    c.gather-in_default.ensures element (λ place inside. reached_by c.args.b.now items c.as_slice.result.now c.args.walk.first _ place (sym slice) c.requires.extent inside ∙ same place inside)
+    c.gather_several.ensures element (λ place inside. reached_by c.args.b.now items c.as_slice.result.now c.args.walk.first _ place (sym slice) c.requires.extent inside ∙ same place inside)
