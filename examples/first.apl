@@ -1,9 +1,13 @@
-2+3 4 5
++/3 1 4 1 5 9
+(⍳3)∘.×⍳5
+A←31 4 15 9 26 5
+⍴A
+A[⍋A]
+M←2 2⍴1 1 1 0
+M+.×M
 10-4-3
-(A+A←3)×B←1 2 3 ⍝ assignments have values
-A
+(B+B←3)×1 2 3 ⍝ assignments have values
 'IT''S'
-)WIDTH 30
 1 2+1 2 3
 9223372036854775807+1
 (1+2

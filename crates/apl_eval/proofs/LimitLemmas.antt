@@ -9,7 +9,7 @@ use Rattle.apl_array.specs.Limits.{IsWithinLimits}
 use Rattle.apl_array.specs.declared.function.ScalarFunction.{ScalarFunction}
 use Rattle.apl_array.specs.Valences.{has_monadic, has_dyadic}
 use Rattle.apl_tokens.specs.declared.token.Glyph.{Glyph}
-use Rattle.apl_tokens.specs.declared.token.Glyph.TheVariants.{Scalar, Rho, Comma, Iota, Epsilon, UpArrow, DownArrow, CircleStile, CircleBar, Transpose, GradeUp, GradeDown, Slash, SlashBar, Backslash, BackslashBar}
+use Rattle.apl_tokens.specs.declared.token.Glyph.TheVariants.{Scalar, Rho, Comma, Iota, Epsilon, UpArrow, DownArrow, CircleStile, CircleBar, Transpose, GradeUp, GradeDown, Slash, SlashBar, Backslash, BackslashBar, UpTack, DownTack}
 use Rattle.apl_grammar.specs.declared.program.Form.{Form}
 use Rattle.apl_grammar.specs.declared.program.Form.TheVariants.{Plain, Reduce, Inner, Outer}
 use Rattle.apl_answer.specs.declared.fault.OpFault.{OpFault}
@@ -25,9 +25,13 @@ use Rattle.apl_struct.specs.Compressing.{compress_row, expand_row}
 use Rattle.apl_struct.specs.Searching.{index_of_row, member_row}
 use Rattle.apl_struct.specs.Indexing.{Slots, select_row, replace_row}
 use Rattle.apl_struct.specs.Ordering.{grade_up_row, grade_down_row}
+use Rattle.apl_reduce.specs.Reducing.{reduce_row}
+use Rattle.apl_reduce.specs.Products.{outer_row, inner_row}
+use Rattle.apl_reduce.specs.Decoding.{decode_row}
+use Rattle.apl_reduce.specs.Encoding.{encode_row}
 use Rattle.apl_eval.specs.declared.error.EvalError.{EvalError}
 use Rattle.apl_eval.specs.declared.error.EvalError.TheVariants.{Syntax}
-use Rattle.apl_eval.specs.Functions.{result_of, default_axis, along, monadic_scalar, dyadic_scalar, monadic_along, dyadic_along, monadic_plain, dyadic_plain, monadic_result, dyadic_result, index_result, assign_at_result}
+use Rattle.apl_eval.specs.Functions.{result_of, default_axis, along, monadic_scalar, dyadic_scalar, monadic_along, dyadic_along, monadic_plain, dyadic_plain, dyadic_function, reduction_by, outer_by, inner_by, monadic_result, dyadic_result, index_result, assign_at_result}
 use Rattle.apl_eval.proofs.LawfulLemmas.{ResultsWithinLimits}
 
 -- the answers of scalar functions
@@ -58,6 +62,14 @@ pub record StructuralAnswersWithinLimits : Type 0 where
   pub replace : (a b answer : ArrayValue) (slots : Slots) (origin : Origin) → IsWithinLimits a → IsWithinLimits b → rows.result_of (replace_row a slots b origin) ≡ Ok answer
       → IsWithinLimits answer
 
+-- the answers of reductions, products, decode and encode
+pub record ReducedAnswersWithinLimits : Type 0 where
+  pub reduce : (f : ScalarFunction) (b answer : ArrayValue) (axis : Axis) → IsWithinLimits b → rows.result_of (reduce_row f b axis) ≡ Ok answer → IsWithinLimits answer
+  pub outer : (f : ScalarFunction) (a b answer : ArrayValue) → IsWithinLimits a → IsWithinLimits b → rows.result_of (outer_row f a b) ≡ Ok answer → IsWithinLimits answer
+  pub inner : (f g : ScalarFunction) (a b answer : ArrayValue) → IsWithinLimits a → IsWithinLimits b → rows.result_of (inner_row f g a b) ≡ Ok answer → IsWithinLimits answer
+  pub decode : (a b answer : ArrayValue) → IsWithinLimits a → IsWithinLimits b → rows.result_of (decode_row a b) ≡ Ok answer → IsWithinLimits answer
+  pub encode : (a b answer : ArrayValue) → IsWithinLimits a → IsWithinLimits b → rows.result_of (encode_row a b) ≡ Ok answer → IsWithinLimits answer
+
 either_result : (b : Bool) (r s : Result ArrayValue EvalError) → IfOk r IsWithinLimits → IfOk s IsWithinLimits → IfOk (cond b r s) IsWithinLimits
 either_result true r s h k = h
 either_result false r s h k = k
@@ -71,7 +83,7 @@ along_within : (origin : Origin) (number : Result ℤ OpFault) (result : Axis �
 along_within origin (Ok number) result h = h (At number origin)
 along_within origin (Err fault) result h = tt
 
-module _ (scalar : ScalarAnswersWithinLimits) (structural : StructuralAnswersWithinLimits) where
+module _ (scalar : ScalarAnswersWithinLimits) (structural : StructuralAnswersWithinLimits) (reduced : ReducedAnswersWithinLimits) where
   monadic_scalar_within : (f : ScalarFunction) (b : ArrayValue) → IsWithinLimits b → IfOk (monadic_scalar f b) IsWithinLimits
   monadic_scalar_within f b h =
       either_result (has_monadic f) (result_of (monadic_answer f b)) (Err Syntax) (within (monadic_answer f b) (λ answer. scalar.monadic f b answer h)) tt
@@ -113,14 +125,31 @@ module _ (scalar : ScalarAnswersWithinLimits) (structural : StructuralAnswersWit
   dyadic_plain_within origin UpArrow a b h k = within (rows.result_of (take_row a b)) (λ answer. structural.take a b answer h k)
   dyadic_plain_within origin DownArrow a b h k = within (rows.result_of (drop_row a b)) (λ answer. structural.drop a b answer h k)
   dyadic_plain_within origin Transpose a b h k = within (rows.result_of (transpose_by_row a b origin)) (λ answer. structural.transpose_by a b answer origin h k)
+  dyadic_plain_within origin UpTack a b h k = within (rows.result_of (decode_row a b)) (λ answer. reduced.decode a b answer h k)
+  dyadic_plain_within origin DownTack a b h k = within (rows.result_of (encode_row a b)) (λ answer. reduced.encode a b answer h k)
   dyadic_plain_within origin glyph a b h k = dyadic_along_within glyph (default_axis glyph) a b h k
+
+  reduction_within : (f : Option ScalarFunction) (axis : Axis) (b : ArrayValue) → IsWithinLimits b → IfOk (reduction_by f axis b) IsWithinLimits
+  reduction_within (Some f) axis b h = within (rows.result_of (reduce_row f b axis)) (λ answer. reduced.reduce f b answer axis h)
+  reduction_within None axis b h = tt
+
+  outer_within : (f : Option ScalarFunction) (a b : ArrayValue) → IsWithinLimits a → IsWithinLimits b → IfOk (outer_by f a b) IsWithinLimits
+  outer_within (Some f) a b h k = within (rows.result_of (outer_row f a b)) (λ answer. reduced.outer f a b answer h k)
+  outer_within None a b h k = tt
+
+  inner_within : (f g : Option ScalarFunction) (a b : ArrayValue) → IsWithinLimits a → IsWithinLimits b → IfOk (inner_by f g a b) IsWithinLimits
+  inner_within (Some f) (Some g) a b h k = within (rows.result_of (inner_row f g a b)) (λ answer. reduced.inner f g a b answer h k)
+  inner_within None g a b h k = tt
+  inner_within (Some f) None a b h k = tt
 
   monadic_within : (origin : Origin) (f : Form) (axis : Option ArrayValue) (b : ArrayValue) → IsWithinLimits b → IfOk (monadic_result origin f axis b) IsWithinLimits
   unfolding monadic_result
   monadic_within origin (Plain column glyph) None b h = monadic_plain_within origin glyph b h
   monadic_within origin (Plain column glyph) (Some axis) b h =
       along_within origin (axis_number_of axis) (λ axis. monadic_along glyph axis b) (λ axis. monadic_along_within glyph axis b h)
-  monadic_within origin (Reduce column function slash_column _) axis b h = tt
+  monadic_within origin (Reduce column function slash_column slash) None b h = reduction_within (dyadic_function function) (default_axis slash) b h
+  monadic_within origin (Reduce column function slash_column slash) (Some axis) b h =
+      along_within origin (axis_number_of axis) (λ axis. reduction_by (dyadic_function function) axis b) (λ axis. reduction_within (dyadic_function function) axis b h)
   monadic_within origin (Inner left_column left dot right_column right) axis b h = tt
   monadic_within origin (Outer jot dot column function) axis b h = tt
 
@@ -131,8 +160,10 @@ module _ (scalar : ScalarAnswersWithinLimits) (structural : StructuralAnswersWit
   dyadic_within origin (Plain column glyph) (Some axis) a b h k =
       along_within origin (axis_number_of axis) (λ axis. dyadic_along glyph axis a b) (λ axis. dyadic_along_within glyph axis a b h k)
   dyadic_within origin (Reduce column function slash_column _) axis a b h k = tt
-  dyadic_within origin (Inner left_column left dot right_column right) axis a b h k = tt
-  dyadic_within origin (Outer jot dot column function) axis a b h k = tt
+  dyadic_within origin (Inner left_column f dot right_column g) None a b h k = inner_within (dyadic_function f) (dyadic_function g) a b h k
+  dyadic_within origin (Inner left_column f dot right_column g) (Some axis) a b h k = tt
+  dyadic_within origin (Outer jot dot column f) None a b h k = outer_within (dyadic_function f) a b h k
+  dyadic_within origin (Outer jot dot column f) (Some axis) a b h k = tt
 
   index_within : (origin : Origin) (array : ArrayValue) (slots : List (Option ArrayValue)) → IsWithinLimits array → IfOk (index_result origin array slots) IsWithinLimits
   unfolding index_result

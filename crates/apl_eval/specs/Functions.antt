@@ -7,7 +7,7 @@ use Rattle.apl_array.specs.Array.{ArrayValue}
 use Rattle.apl_array.specs.declared.function.ScalarFunction.{ScalarFunction}
 use Rattle.apl_array.specs.Valences.{has_monadic, has_dyadic}
 use Rattle.apl_tokens.specs.declared.token.Glyph.{Glyph}
-use Rattle.apl_tokens.specs.declared.token.Glyph.TheVariants.{Scalar, Rho, Comma, Iota, Epsilon, UpArrow, DownArrow, CircleStile, CircleBar, Transpose, GradeUp, GradeDown, Slash, SlashBar, Backslash, BackslashBar}
+use Rattle.apl_tokens.specs.declared.token.Glyph.TheVariants.{Scalar, Rho, Comma, Iota, Epsilon, UpArrow, DownArrow, CircleStile, CircleBar, Transpose, GradeUp, GradeDown, Slash, SlashBar, Backslash, BackslashBar, UpTack, DownTack}
 use Rattle.apl_grammar.specs.declared.program.Form.{Form}
 use Rattle.apl_grammar.specs.declared.program.Form.TheVariants.{Plain, Reduce, Inner, Outer}
 use Rattle.apl_answer.specs.declared.fault.OpFault.{OpFault}
@@ -24,6 +24,10 @@ use Rattle.apl_struct.specs.Compressing.{compress_row, expand_row}
 use Rattle.apl_struct.specs.Searching.{index_of_row, member_row}
 use Rattle.apl_struct.specs.Indexing.{select_row, replace_row}
 use Rattle.apl_struct.specs.Ordering.{grade_up_row, grade_down_row}
+use Rattle.apl_reduce.specs.Reducing.{reduce_row}
+use Rattle.apl_reduce.specs.Products.{outer_row, inner_row}
+use Rattle.apl_reduce.specs.Decoding.{decode_row}
+use Rattle.apl_reduce.specs.Encoding.{encode_row}
 use Rattle.apl_eval.specs.declared.error.EvalError.{EvalError}
 use Rattle.apl_eval.specs.declared.error.EvalError.TheVariants as error
 
@@ -87,10 +91,22 @@ monadic_plain origin GradeUp b = result_by (grade_up_row b origin)
 monadic_plain origin GradeDown b = result_by (grade_down_row b origin)
 monadic_plain origin glyph b = monadic_along glyph (default_axis glyph) b
 
--- Of one argument, perhaps along an axis. What is not built so far is Syntax, here and below: reductions and products.
+-- the scalar function of two arguments that a symbol is, if it is one
+abbrev pub dyadic_function : Glyph → Option ScalarFunction
+dyadic_function (Scalar f) = if has_dyadic f then Some f else None
+dyadic_function _ = None
+
+-- the reduction by a symbol; by what is no function of two arguments it is Syntax, here and below
+abbrev pub reduction_by : Option ScalarFunction → Axis → (right : ArrayValue) → Result ArrayValue EvalError
+reduction_by (Some f) axis b = result_by (reduce_row f b axis)
+reduction_by None axis b = Err error.Syntax
+
+-- of one argument, perhaps along an axis; products are of two
 unfoldable pub monadic_result : Origin → Form → (axis : Option ArrayValue) → (right : ArrayValue) → Result ArrayValue EvalError
 monadic_result origin (Plain column glyph) None right = monadic_plain origin glyph right
 monadic_result origin (Plain column glyph) (Some axis) right = along origin (axis_number_of axis) (λ axis. monadic_along glyph axis right)
+monadic_result origin (Reduce column function slash_column slash) None right = reduction_by (dyadic_function function) (default_axis slash) right
+monadic_result origin (Reduce column function slash_column slash) (Some axis) right = along origin (axis_number_of axis) (λ axis. reduction_by (dyadic_function function) axis right)
 monadic_result origin _ axis right = Err error.Syntax
 
 -- ---- functions of two arguments
@@ -116,12 +132,25 @@ dyadic_plain origin Epsilon a b = result_by (member_row a b)
 dyadic_plain origin UpArrow a b = result_by (take_row a b)
 dyadic_plain origin DownArrow a b = result_by (drop_row a b)
 dyadic_plain origin Transpose a b = result_by (transpose_by_row a b origin)
+dyadic_plain origin UpTack a b = result_by (decode_row a b)
+dyadic_plain origin DownTack a b = result_by (encode_row a b)
 dyadic_plain origin glyph a b = dyadic_along glyph (default_axis glyph) a b
 
--- of two arguments, perhaps along an axis
+-- products
+abbrev pub outer_by : Option ScalarFunction → (left right : ArrayValue) → Result ArrayValue EvalError
+outer_by (Some f) a b = result_by (outer_row f a b)
+outer_by None a b = Err error.Syntax
+
+abbrev pub inner_by : Option ScalarFunction → Option ScalarFunction → (left right : ArrayValue) → Result ArrayValue EvalError
+inner_by (Some f) (Some g) a b = result_by (inner_row f g a b)
+inner_by _ _ a b = Err error.Syntax
+
+-- of two arguments, perhaps along an axis; reductions are of one, and a product has no axis
 unfoldable pub dyadic_result : Origin → Form → (axis : Option ArrayValue) → (left right : ArrayValue) → Result ArrayValue EvalError
 dyadic_result origin (Plain column glyph) None left right = dyadic_plain origin glyph left right
 dyadic_result origin (Plain column glyph) (Some axis) left right = along origin (axis_number_of axis) (λ axis. dyadic_along glyph axis left right)
+dyadic_result origin (Inner left_column f dot right_column g) None left right = inner_by (dyadic_function f) (dyadic_function g) left right
+dyadic_result origin (Outer jot dot column f) None left right = outer_by (dyadic_function f) left right
 dyadic_result origin _ axis left right = Err error.Syntax
 
 -- ---- indexing

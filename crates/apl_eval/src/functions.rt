@@ -1,10 +1,11 @@
 //! Functions of arrays.
-ghost use Rattle.std.specs.Prelude.{◌≡◌, Result, map, option_copied};
+ghost use Rattle.std.specs.Prelude.{◌≡◌, Result, IfSome, IsTrue, map, option_copied};
 ghost use Rattle.apl_array.specs.declared.axis.Axis.TheVariants.{At};
 ghost use Rattle.apl_array.specs.Array.{ArrayValue};
+ghost use Rattle.apl_array.specs.Valences.{has_dyadic};
 ghost use Rattle.apl_answer.specs.declared.fault.OpFault.{OpFault};
 ghost use Rattle.apl_answer.specs.Pointwise.{IsAnswerOf};
-ghost use Rattle.apl_eval.specs.Functions.{caret_column, result_of, default_axis, monadic_scalar, dyadic_scalar, monadic_along, dyadic_along, monadic_plain, dyadic_plain, monadic_result, dyadic_result, index_result, assign_at_result};
+ghost use Rattle.apl_eval.specs.Functions.{caret_column, result_of, default_axis, monadic_scalar, dyadic_scalar, monadic_along, dyadic_along, monadic_plain, dyadic_plain, dyadic_function, reduction_by, outer_by, inner_by, monadic_result, dyadic_result, index_result, assign_at_result};
 ghost use Rattle.apl_eval.specs.Refusals.{Answers};
 
 use super::error::EvalError;
@@ -72,6 +73,17 @@ fn default_axis(glyph: Glyph) -> Axis
     match glyph {
         Glyph::CircleBar | Glyph::SlashBar | Glyph::BackslashBar => Axis::First,
         _ => Axis::Last,
+    }
+}
+
+/// The scalar function of two arguments that a symbol is, if it is one.
+fn dyadic_function(glyph: Glyph) -> Option<Prim>
+    ensures value { result ≡ dyadic_function glyph }
+    ensures dyadic { IfSome result (λ f. IsTrue (has_dyadic f)) }
+{
+    match glyph {
+        Glyph::Scalar(f) if f.is_dyadic() => Some(f),
+        _ => None,
     }
 }
 
@@ -180,8 +192,40 @@ impl<'a, R: Threads + Sync, C: Cut + Sync, G: Gate + Sync> Machine<'a, R, C, G> 
             Glyph::UpArrow => result_of(apl_struct::take(rt, alloc, pool, a, b)),
             Glyph::DownArrow => result_of(apl_struct::drop(rt, alloc, pool, a, b)),
             Glyph::Transpose => result_of(apl_struct::transpose_by(rt, alloc, pool, a, b, origin)),
+            Glyph::UpTack => result_of(apl_reduce::decode(rt, alloc, pool, a, b)),
+            Glyph::DownTack => result_of(apl_reduce::encode(rt, alloc, pool, a, b)),
             _ => self.dyadic_along(glyph, default_axis(glyph), a, b),
         }
+    }
+
+    /// The reduction of an array along an axis.
+    fn reduction_by(&self, function: Glyph, axis: Axis, b: &Array) -> Result<Array, Refusal>
+        ensures { Answers (reduction_by (dyadic_function function) axis b.now) result }
+    {
+        let Some(f) = dyadic_function(function) else {
+            return Err(Refusal::Error(EvalError::Syntax));
+        };
+        result_of(apl_reduce::reduce(self.rt, self.alloc, self.pool, f, b, axis))
+    }
+
+    /// The outer product of two arrays.
+    fn outer_by(&self, function: Glyph, a: &Array, b: &Array) -> Result<Array, Refusal>
+        ensures { Answers (outer_by (dyadic_function function) a.now b.now) result }
+    {
+        let Some(f) = dyadic_function(function) else {
+            return Err(Refusal::Error(EvalError::Syntax));
+        };
+        result_of(apl_reduce::outer(self.rt, self.alloc, self.pool, f, a, b))
+    }
+
+    /// The inner product of two arrays.
+    fn inner_by(&self, f: Glyph, g: Glyph, a: &Array, b: &Array) -> Result<Array, Refusal>
+        ensures { Answers (inner_by (dyadic_function f) (dyadic_function g) a.now b.now) result }
+    {
+        let (Some(f), Some(g)) = (dyadic_function(f), dyadic_function(g)) else {
+            return Err(Refusal::Error(EvalError::Syntax));
+        };
+        result_of(apl_reduce::inner(self.rt, self.alloc, self.pool, f, g, a, b))
     }
 
     /// The result of a function of one array, perhaps along an axis.
@@ -200,9 +244,19 @@ impl<'a, R: Threads + Sync, C: Cut + Sync, G: Gate + Sync> Machine<'a, R, C, G> 
                 let axis = self.axis_at(axis_number(axis)?);
                 self.monadic_along(glyph, axis, right)
             }
-            (Form::Reduce { .. } | Form::Inner { .. } | Form::Outer { .. }, _) => {
-                Err(Refusal::Error(EvalError::Syntax))
+            (
+                Form::Reduce {
+                    function,
+                    slash,
+                    ..
+                },
+                None,
+            ) => self.reduction_by(function, default_axis(slash), right),
+            (Form::Reduce { function, .. }, Some(axis)) => {
+                let axis = self.axis_at(axis_number(axis)?);
+                self.reduction_by(function, axis, right)
             }
+            (Form::Inner { .. } | Form::Outer { .. }, _) => Err(Refusal::Error(EvalError::Syntax)),
         }
     }
 
@@ -223,7 +277,16 @@ impl<'a, R: Threads + Sync, C: Cut + Sync, G: Gate + Sync> Machine<'a, R, C, G> 
                 let axis = self.axis_at(axis_number(axis)?);
                 self.dyadic_along(glyph, axis, left, right)
             }
-            (Form::Reduce { .. } | Form::Inner { .. } | Form::Outer { .. }, _) => {
+            (
+                Form::Inner {
+                    left: f,
+                    right: g,
+                    ..
+                },
+                None,
+            ) => self.inner_by(f, g, left, right),
+            (Form::Outer { function, .. }, None) => self.outer_by(function, left, right),
+            (Form::Reduce { .. }, _) | (Form::Inner { .. } | Form::Outer { .. }, Some(_)) => {
                 Err(Refusal::Error(EvalError::Syntax))
             }
         }

@@ -11,6 +11,7 @@ ghost use Rattle.apl_eval.specs.Meaning.{meaning_of};
 ghost use Rattle.apl_eval.specs.Evaluates.{Evaluates};
 ghost use Rattle.apl_eval.specs.Lawful.{IsLawful, IsLawfulOutcome};
 
+use apl_reduce::reduced_answers_are_within_limits;
 use apl_scalar::answers_are_within_limits;
 use apl_struct::structural_answers_are_within_limits;
 
@@ -25,4 +26,5 @@ pub fn lawful_stays()
 {
     answers_are_within_limits();
     structural_answers_are_within_limits();
+    reduced_answers_are_within_limits();
 }

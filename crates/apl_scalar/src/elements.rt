@@ -20,9 +20,9 @@ fn monadic_element<F: Function>(x: Elem) -> Result<i64, Fault>
     }
 }
 
-/// A dyadic function of two elements.
+/// The dyadic function that a type names, of two elements. It takes no memory.
 #[inline(always)]
-pub(crate) fn dyadic_elements<F: Function>(x: Elem, y: Elem) -> Result<i64, Fault>
+pub fn dyadic_elements<F: Function>(x: Elem, y: Elem) -> Result<i64, Fault>
     ensures { result ≡ dyadic_of F.FUNCTION x y }
 {
     match (x, y) {

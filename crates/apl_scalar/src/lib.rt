@@ -18,5 +18,5 @@ mod truth;
 pub use apl_answer::{OpFault, answer_is_each_outcome};
 pub use apl_array::ScalarFunction as Prim;
 pub use arrays::{dyadic, monadic};
-pub use elements::{apply1, apply2, identity};
+pub use elements::{apply1, apply2, dyadic_elements, identity};
 pub use laws::{answers_are_in_range, answers_are_within_limits};

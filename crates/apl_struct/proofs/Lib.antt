@@ -21,7 +21,6 @@ pub mod Permuted
 pub mod InOrder
 pub mod LawfulShapes
 pub mod NamedAxes
-pub mod Reciprocals
 pub mod Ranges
 pub mod Counts
 pub mod RowLimits

@@ -6,7 +6,6 @@ ghost use Rattle.apl_pool.specs.declared.kernel.TheConstants.{MOST_PLACES};
 ghost use Rattle.apl_answer.specs.Pointwise.{answer_of, IsAnswerOf};
 ghost use Rattle.apl_struct.specs.Gathering.{element_or_fill, along_axis_or_none};
 
-use crate::divisor::Divisor;
 use crate::gather::{Same, Source};
 use crate::lines::{AnyAxis, FirstAxis, LastAxis, Lines, Vector};
 use crate::workers::Workers;
@@ -15,6 +14,7 @@ use apl_array::{
     Array, Shape, changed_axis_has_place, inserted_index_has_place, places_match_index_lists,
     replaced_index_has_place,
 };
+use apl_divisor::Divisor;
 use apl_pool::{Cut, Gate};
 use std::thread::Threads;
 

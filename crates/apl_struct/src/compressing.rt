@@ -15,7 +15,6 @@ ghost use Rattle.apl_struct.specs.Gathering.{element_or_fill, along_axis, along_
 
 use crate::along::Indexes;
 use crate::arguments::numbers_among;
-use crate::axes::axis_among;
 use crate::gather::Source;
 use crate::workers::Workers;
 use apl_answer::OpFault;
@@ -399,7 +398,7 @@ pub fn compress<R: Threads + Sync, C: Cut + Sync, G: Gate + Sync>(
     ensures { Answers (compress_row a.now b.now axis) result }
 {
     let workers = Workers { rt, alloc, pool };
-    let Some(k) = axis_among(axis, vector_rank(b)) else {
+    let Some(k) = axis.among(vector_rank(b)) else {
         return Err(OpFault::Index);
     };
     if a.shape().rank() > 1 {
@@ -435,7 +434,7 @@ pub fn expand<R: Threads + Sync, C: Cut + Sync, G: Gate + Sync>(
     ensures { Answers (expand_row a.now b.now axis) result }
 {
     let workers = Workers { rt, alloc, pool };
-    let Some(k) = axis_among(axis, vector_rank(b)) else {
+    let Some(k) = axis.among(vector_rank(b)) else {
         return Err(OpFault::Index);
     };
     if a.shape().rank() > 1 {

@@ -12,7 +12,6 @@ ghost use Rattle.apl_struct.specs.Indexing.{is_slot_of_numbers, is_slot_within, 
 ghost use Rattle.apl_struct.specs.Selecting.{AreArrays, AreChosen, IsJudged, IsMore, IsSelection, slot_count, slot_index};
 
 use crate::arguments::numbers_among;
-use crate::axes::first_index;
 use crate::choose::Picked;
 use crate::gather::Same;
 use crate::selecting::{Choice, push_choice, push_stretch};
@@ -27,7 +26,7 @@ use std::thread::Threads;
 fn is_index(number: i64, origin: Origin, axis_length: usize) -> bool
     ensures { result ≡ is_below axis_length (from_origin origin number) }
 {
-    let first = first_index(origin);
+    let first = origin.number();
     number >= first && ((number - first) as u64) < axis_length as u64
 }
 
@@ -179,7 +178,7 @@ fn push_slot<'a>(
     let _kind = array.kind();
     let picked = Picked {
         numbers,
-        first: first_index(origin),
+        first: origin.number(),
         axis_length,
         stride,
     };

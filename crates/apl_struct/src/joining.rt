@@ -14,14 +14,13 @@ ghost use Rattle.apl_struct.specs.Joined.{joined_part, part_element, value_or_la
 ghost use Rattle.apl_struct.specs.Joining.{joined_rank, can_join, slices_shape, joined_kind, catenated_element, catenate_row};
 
 use crate::arguments::is_same_shape;
-use crate::axes::axis_among;
-use crate::divisor::Divisor;
 use crate::workers::Workers;
 use apl_answer::{Element, OpFault, fill_array};
 use apl_array::{
     Array, Axis, Kind, MOST_AXES, Shape, changed_axis_has_place, places_match_index_lists,
     replaced_index_has_place,
 };
+use apl_divisor::Divisor;
 use apl_pool::{Cut, Fault, Gate, Kernel, Pool};
 use smallvec::SmallVec;
 use std::alloc::{AllocError, Global};
@@ -87,19 +86,19 @@ impl Parts for OneBlock {
 }
 
 /// Any number of blocks.
-#[derive(Clone, Copy)]
+#[derive(Drop)]
 struct Blocks {
     count: usize,
     block: Divisor,
     left: usize,
     ghost most: { count ≤ MOST_PLACES },
-    ghost within: { left ≤ block.by },
+    ghost within: { left ≤ block },
 }
 
 impl Parts for Blocks {
     ghost place_count = { λ p. p.count };
 
-    ghost block = { λ p. p.block.by };
+    ghost block = { λ p. p.block };
 
     ghost left = { λ p. p.left };
 
@@ -114,7 +113,7 @@ impl Parts for Blocks {
         if rest < self.left {
             Part::Left(block * self.left + rest)
         } else {
-            Part::Right(block * (self.block.by - self.left) + (rest - self.left))
+            Part::Right(block * (self.block.number() - self.left) + (rest - self.left))
         }
     }
 }
@@ -413,7 +412,7 @@ pub fn catenate<R: Threads + Sync, C: Cut + Sync, G: Gate + Sync>(
 {
     let workers = Workers { rt, alloc, pool };
     let rank = joined_rank(a, b);
-    let Some(k) = axis_among(axis, rank) else {
+    let Some(k) = axis.among(rank) else {
         return Err(OpFault::Index);
     };
     if !can_join(a, b) {

@@ -9,7 +9,6 @@ mod axes;
 mod building;
 mod choose;
 mod compressing;
-mod divisor;
 mod finding;
 mod gather;
 mod indexing;

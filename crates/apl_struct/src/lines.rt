@@ -3,7 +3,7 @@ ghost use Rattle.std.specs.Prelude.{◌≡◌, ℕ, ◌+◌, ◌*◌, ◌<◌, �
 ghost use Rattle.apl_pool.specs.declared.kernel.TheConstants.{MOST_PLACES};
 ghost use Rattle.apl_struct.specs.Along.{line_index, line_number, line_place};
 
-use crate::divisor::Divisor;
+use apl_divisor::Divisor;
 
 /// The lines along an axis.
 pub(crate) trait Lines {
@@ -79,7 +79,7 @@ impl Lines for Vector {
 }
 
 /// The last axis: neighbours are at neighbouring places.
-#[derive(Clone, Copy)]
+#[derive(Drop)]
 pub(crate) struct LastAxis {
     pub count: usize,
     pub length: Divisor,
@@ -91,7 +91,7 @@ pub(crate) struct LastAxis {
 impl Lines for LastAxis {
     ghost place_count = { λ s. s.count };
 
-    ghost length = { λ s. s.length.by };
+    ghost length = { λ s. s.length };
 
     ghost inner = { λ s. 1 };
 
@@ -118,14 +118,14 @@ impl Lines for LastAxis {
 }
 
 /// The first of several axes: one line for each place of the others.
-#[derive(Clone, Copy)]
+#[derive(Drop)]
 pub(crate) struct FirstAxis {
     pub length: usize,
     pub inner: Divisor,
     pub count: usize,
     pub block: usize,
     ghost most: { count ≤ MOST_PLACES },
-    ghost all: { count ≡ length * inner.by },
+    ghost all: { count ≡ length * inner },
 }
 
 impl Lines for FirstAxis {
@@ -133,7 +133,7 @@ impl Lines for FirstAxis {
 
     ghost length = { λ s. s.length };
 
-    ghost inner = { λ s. s.inner.by };
+    ghost inner = { λ s. s.inner };
 
     ghost block = { λ s. s.block };
 
@@ -153,12 +153,12 @@ impl Lines for FirstAxis {
 
     #[inline(always)]
     fn place(&self, place: usize, i: usize) -> usize {
-        i * self.inner.by + self.inner.remainder(place)
+        i * self.inner.number() + self.inner.remainder(place)
     }
 }
 
 /// Any axis.
-#[derive(Clone, Copy)]
+#[derive(Drop)]
 pub(crate) struct AnyAxis {
     pub count: usize,
     pub length: Divisor,
@@ -171,9 +171,9 @@ pub(crate) struct AnyAxis {
 impl Lines for AnyAxis {
     ghost place_count = { λ s. s.count };
 
-    ghost length = { λ s. s.length.by };
+    ghost length = { λ s. s.length };
 
-    ghost inner = { λ s. s.inner.by };
+    ghost inner = { λ s. s.inner };
 
     ghost block = { λ s. s.block };
 
@@ -189,12 +189,12 @@ impl Lines for AnyAxis {
     #[inline(always)]
     fn line(&self, place: usize) -> usize {
         let line = self.length.quotient(self.inner.quotient(place));
-        line * self.inner.by + self.inner.remainder(place)
+        line * self.inner.number() + self.inner.remainder(place)
     }
 
     #[inline(always)]
     fn place(&self, place: usize, i: usize) -> usize {
         let block = self.length.quotient(self.inner.quotient(place));
-        block * self.block + i * self.inner.by + self.inner.remainder(place)
+        block * self.block + i * self.inner.number() + self.inner.remainder(place)
     }
 }

@@ -5,7 +5,6 @@ ghost use Rattle.apl_answer.specs.Rows.{Answers};
 ghost use Rattle.apl_struct.specs.Moving.{reverse_row};
 
 use crate::along::Indexes;
-use crate::axes::axis_among;
 use crate::workers::Workers;
 use apl_answer::OpFault;
 use apl_array::{Array, Axis};
@@ -48,7 +47,7 @@ pub fn reverse<R: Threads + Sync, C: Cut + Sync, G: Gate + Sync>(
     ensures { Answers (reverse_row b.now axis) result }
 {
     let workers = Workers { rt, alloc, pool };
-    let Some(k) = axis_among(axis, b.shape().rank()) else {
+    let Some(k) = axis.among(b.shape().rank()) else {
         return Err(OpFault::Index);
     };
     if b.shape().rank() == 0 {

@@ -5,7 +5,6 @@ ghost use Rattle.apl_array.specs.Axes.{from_origin, place_number};
 ghost use Rattle.apl_answer.specs.Arguments.{is_natural};
 ghost use Rattle.apl_struct.specs.Moving.{named_axes, are_all_named};
 
-use crate::axes::first_index;
 use apl_array::Origin;
 use std::alloc::{AllocError, Global};
 
@@ -14,7 +13,7 @@ fn axis_named(number: i64, origin: Origin) -> usize
     ensures axis { result ≡ place_number (from_origin origin number) }
     ensures below { result < 2 ^ 63 }
 {
-    let first = first_index(origin);
+    let first = origin.number();
     if number < first {
         0
     } else {
@@ -26,7 +25,7 @@ fn axis_named(number: i64, origin: Origin) -> usize
 pub(crate) fn are_from_origin(numbers: &[i64], origin: Origin) -> bool
     ensures { result ≡ list_all is_natural (map (from_origin origin) numbers.now) }
 {
-    let first = first_index(origin);
+    let first = origin.number();
     match numbers {
         [] => true,
         [number, numbers @ ..] => *number >= first && are_from_origin(numbers, origin),

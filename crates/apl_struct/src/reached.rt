@@ -8,12 +8,12 @@ ghost use Rattle.apl_struct.specs.declared.windows.TheConstants.{MOST_WINDOWS};
 ghost use Rattle.apl_struct.specs.Gathered.{filled_at};
 ghost use Rattle.apl_struct.specs.Windows.{AreStarts, and_step, step_of, extent_of, walked, walked_to_first, windows_of};
 
-use crate::divisor::Divisor;
 use crate::gather::Source;
 use crate::windows::{MOST_WINDOWS, Walk, Window};
 use crate::workers::Workers;
 use apl_answer::OpFault;
 use apl_array::{Array, Shape};
+use apl_divisor::Divisor;
 use apl_pool::{Cut, Gate, MOST_PLACES};
 use std::alloc::{AllocError, Global};
 use std::thread::Threads;
@@ -49,7 +49,7 @@ struct TwoAxes {
     last: Window,
     last_extent: Divisor,
     ghost most: { count ≤ MOST_PLACES },
-    ghost last_is: { last_extent.by ≡ last.extent },
+    ghost last_is: { last_extent ≡ last.extent },
 }
 
 impl Source for TwoAxes {
@@ -79,8 +79,8 @@ struct ThreeAxes {
     last: Window,
     last_extent: Divisor,
     ghost most: { count ≤ MOST_PLACES },
-    ghost middle_is: { middle_extent.by ≡ middle.extent },
-    ghost last_is: { last_extent.by ≡ last.extent },
+    ghost middle_is: { middle_extent ≡ middle.extent },
+    ghost last_is: { last_extent ≡ last.extent },
 }
 
 impl Source for ThreeAxes {
@@ -147,7 +147,7 @@ struct ByLines<'a> {
     count: usize,
     ghost most: { count ≤ MOST_PLACES },
     ghost all: { count ≡ length starts.now * last.extent },
-    ghost last_is: { last_extent.by ≡ last.extent },
+    ghost last_is: { last_extent ≡ last.extent },
     ghost from: { last.from ≡ 0 },
     ghost start: { last.start ≡ 0 },
     ghost to: { last.to ≡ last.extent },

@@ -13,7 +13,6 @@ ghost use Rattle.apl_struct.specs.Rotation.{wrapped, rotation_of};
 
 use crate::along::Indexes;
 use crate::arguments::{is_without_axis, numbers_among};
-use crate::axes::axis_among;
 use crate::workers::Workers;
 use apl_answer::OpFault;
 use apl_array::{Array, Axis};
@@ -155,7 +154,7 @@ pub fn rotate<R: Threads + Sync, C: Cut + Sync, G: Gate + Sync>(
     ensures { Answers (rotate_row a.now b.now axis) result }
 {
     let workers = Workers { rt, alloc, pool };
-    let Some(k) = axis_among(axis, b.shape().rank()) else {
+    let Some(k) = axis.among(b.shape().rank()) else {
         return Err(OpFault::Index);
     };
     if !has_rank_of_lines(a, b) {

@@ -9,11 +9,11 @@ ghost use Rattle.apl_struct.specs.Gathered.{filled_at};
 ghost use Rattle.apl_struct.specs.Selecting.{choice_count, choice_place, total_count, total_place, IsMore};
 
 use crate::choose::{Choose, Picked, Stretch};
-use crate::divisor::Divisor;
 use crate::gather::Source;
 use crate::workers::Workers;
 use apl_answer::OpFault;
 use apl_array::{Array, Shape};
+use apl_divisor::Divisor;
 use apl_pool::{Cut, Gate};
 use std::alloc::AllocError;
 use std::thread::Threads;
@@ -112,7 +112,7 @@ pub(crate) struct Paired<A: Choose, B: Choose> {
     pub first: A,
     pub last: B,
     pub last_count: Divisor,
-    ghost last_is: { last_count.by ≡ B.extent last },
+    ghost last_is: { last_count ≡ B.extent last },
     ghost most: { A.extent first * B.extent last ≤ MOST_PLACES },
 }
 
@@ -122,7 +122,7 @@ impl<A: Choose, B: Choose> Places for Paired<A, B> {
     ghost chosen = { λ s p. B.place s.last (p % B.extent s.last) + A.place s.first (p / B.extent s.last) };
 
     fn count(&self) -> usize {
-        self.last_count.by * self.first.count() as usize
+        self.last_count.number() * self.first.count() as usize
     }
 
     #[inline(always)]

@@ -11,7 +11,7 @@ use std::sync::atomic::{AtomicU64, Ordering};
 use std::test::Fail;
 use std::thread::Threads;
 
-/// Each of two pieces waits until the other one has come as often.
+/// Each of two workers waits at each of its pieces until the other one has come as often.
 #[derive(Drop)]
 struct Meeting {
     come: [AtomicU64; 2],
@@ -26,16 +26,16 @@ impl Meeting {
         }
     }
 
-    /// How often a piece has met the other one.
+    /// How often a worker has met the other one.
     fn met(&self) -> u64 {
         self.met.load(Ordering::SeqCst)
     }
 }
 
 impl Gate for Meeting {
-    fn pass(&self, _worker: u8, piece: u32) {
+    fn pass(&self, worker: u8, _piece: u32) {
         let [first, second] = &self.come;
-        let (here, there) = if piece == 0 {
+        let (here, there) = if worker == 0 {
             (first, second)
         } else {
             (second, first)
@@ -168,6 +168,130 @@ const STRUCTURES: [(&str, &str); 52] = [
     ("M[;]←1", ""),
 ];
 
+/// What the reductions get: the elements of `A` twice, as two rows and as two columns.
+const TWICE: &str = "C←V⍴A\nD←W⍴A\n";
+
+/// Reductions and products of `A`, whose elements are all 1, by each function. Each has as many elements as `A`; here is what it
+/// is for two of them.
+const REDUCTIONS: [(&str, &str); 116] = [
+    ("+/D", "2 2\n"),
+    ("+⌿C", "2 2\n"),
+    ("+/[1]C", "2 2\n"),
+    ("+⌿[2]D", "2 2\n"),
+    ("A∘.+1", "2 2\n"),
+    ("D+.×1 1", "2 2\n"),
+    ("-/D", "0 0\n"),
+    ("-⌿C", "0 0\n"),
+    ("-/[1]C", "0 0\n"),
+    ("-⌿[2]D", "0 0\n"),
+    ("A∘.-1", "0 0\n"),
+    ("D-.×1 1", "0 0\n"),
+    ("×/D", "1 1\n"),
+    ("×⌿C", "1 1\n"),
+    ("×/[1]C", "1 1\n"),
+    ("×⌿[2]D", "1 1\n"),
+    ("A∘.×1", "1 1\n"),
+    ("D×.×1 1", "1 1\n"),
+    ("÷/D", "1 1\n"),
+    ("÷⌿C", "1 1\n"),
+    ("÷/[1]C", "1 1\n"),
+    ("÷⌿[2]D", "1 1\n"),
+    ("A∘.÷1", "1 1\n"),
+    ("D÷.×1 1", "1 1\n"),
+    ("|/D", "0 0\n"),
+    ("|⌿C", "0 0\n"),
+    ("|/[1]C", "0 0\n"),
+    ("|⌿[2]D", "0 0\n"),
+    ("A∘.|1", "0 0\n"),
+    ("D|.×1 1", "0 0\n"),
+    ("*/D", "1 1\n"),
+    ("*⌿C", "1 1\n"),
+    ("*/[1]C", "1 1\n"),
+    ("*⌿[2]D", "1 1\n"),
+    ("A∘.*1", "1 1\n"),
+    ("D*.×1 1", "1 1\n"),
+    ("!/D", "1 1\n"),
+    ("!⌿C", "1 1\n"),
+    ("!/[1]C", "1 1\n"),
+    ("!⌿[2]D", "1 1\n"),
+    ("A∘.!1", "1 1\n"),
+    ("D!.×1 1", "1 1\n"),
+    ("⌊/D", "1 1\n"),
+    ("⌊⌿C", "1 1\n"),
+    ("⌊/[1]C", "1 1\n"),
+    ("⌊⌿[2]D", "1 1\n"),
+    ("A∘.⌊1", "1 1\n"),
+    ("D⌊.×1 1", "1 1\n"),
+    ("⌈/D", "1 1\n"),
+    ("⌈⌿C", "1 1\n"),
+    ("⌈/[1]C", "1 1\n"),
+    ("⌈⌿[2]D", "1 1\n"),
+    ("A∘.⌈1", "1 1\n"),
+    ("D⌈.×1 1", "1 1\n"),
+    ("∧/D", "1 1\n"),
+    ("∧⌿C", "1 1\n"),
+    ("∧/[1]C", "1 1\n"),
+    ("∧⌿[2]D", "1 1\n"),
+    ("A∘.∧1", "1 1\n"),
+    ("D∧.×1 1", "1 1\n"),
+    ("∨/D", "1 1\n"),
+    ("∨⌿C", "1 1\n"),
+    ("∨/[1]C", "1 1\n"),
+    ("∨⌿[2]D", "1 1\n"),
+    ("A∘.∨1", "1 1\n"),
+    ("D∨.×1 1", "1 1\n"),
+    ("⍲/D", "0 0\n"),
+    ("⍲⌿C", "0 0\n"),
+    ("⍲/[1]C", "0 0\n"),
+    ("⍲⌿[2]D", "0 0\n"),
+    ("A∘.⍲1", "0 0\n"),
+    ("D⍲.×1 1", "0 0\n"),
+    ("⍱/D", "0 0\n"),
+    ("⍱⌿C", "0 0\n"),
+    ("⍱/[1]C", "0 0\n"),
+    ("⍱⌿[2]D", "0 0\n"),
+    ("A∘.⍱1", "0 0\n"),
+    ("D⍱.×1 1", "0 0\n"),
+    ("</D", "0 0\n"),
+    ("<⌿C", "0 0\n"),
+    ("</[1]C", "0 0\n"),
+    ("<⌿[2]D", "0 0\n"),
+    ("A∘.<1", "0 0\n"),
+    ("D<.×1 1", "0 0\n"),
+    ("≤/D", "1 1\n"),
+    ("≤⌿C", "1 1\n"),
+    ("≤/[1]C", "1 1\n"),
+    ("≤⌿[2]D", "1 1\n"),
+    ("A∘.≤1", "1 1\n"),
+    ("D≤.×1 1", "1 1\n"),
+    ("=/D", "1 1\n"),
+    ("=⌿C", "1 1\n"),
+    ("=/[1]C", "1 1\n"),
+    ("=⌿[2]D", "1 1\n"),
+    ("A∘.=1", "1 1\n"),
+    ("D=.×1 1", "1 1\n"),
+    ("≥/D", "1 1\n"),
+    ("≥⌿C", "1 1\n"),
+    ("≥/[1]C", "1 1\n"),
+    ("≥⌿[2]D", "1 1\n"),
+    ("A∘.≥1", "1 1\n"),
+    ("D≥.×1 1", "1 1\n"),
+    (">/D", "0 0\n"),
+    (">⌿C", "0 0\n"),
+    (">/[1]C", "0 0\n"),
+    (">⌿[2]D", "0 0\n"),
+    ("A∘.>1", "0 0\n"),
+    ("D>.×1 1", "0 0\n"),
+    ("≠/D", "0 0\n"),
+    ("≠⌿C", "0 0\n"),
+    ("≠/[1]C", "0 0\n"),
+    ("≠⌿[2]D", "0 0\n"),
+    ("A∘.≠1", "0 0\n"),
+    ("D≠.×1 1", "0 0\n"),
+    ("2⊤A", "1 1\n"),
+    ("1 1+.×C", "2 2\n"),
+];
+
 /// Answers a session by two workers and pieces of this length. Says whether it wrote the text, and both pieces met
 /// at each of so many functions.
 fn meets<R: Threads + Sync>(
@@ -240,6 +364,28 @@ fn each_structural_function_uses_the_pool(rt: HostRuntime) -> Result<(), Fail> {
     many.push_str("B←⌽A\nB←A,''\nB←A[A]\nA[1]←2\n")?;
     assert!(rt; meets(&rt, alloc, 1, two.as_str(), 54, texts.as_str()));
     assert!(rt; meets(&rt, alloc, 1024, some.as_str(), 54, ""));
+    assert!(rt; meets(&rt, alloc, HALF, many.as_str(), 5, ""));
+    Ok(())
+}
+
+#[test]
+fn each_reduction_uses_the_pool(rt: HostRuntime) -> Result<(), Fail> {
+    let alloc = rt.alloc();
+    let mut two = String::from_str(alloc, "V←2 2\nW←2 2\nA←1 1\n")?;
+    two.push_str(TWICE)?;
+    let mut texts = String::new(alloc);
+    let mut some = ones(alloc, 2048)?;
+    some.push_str("V←2 2048\nW←2048 2\n")?;
+    some.push_str(TWICE)?;
+    for (function, text) in &REDUCTIONS {
+        write!(two, "{function}\n")?;
+        texts.push_str(text)?;
+        write!(some, "B←{function}\n")?;
+    }
+    let mut many = ones(alloc, 2 * HALF)?;
+    many.push_str("V←2 1048576\nB←+⌿V⍴A\nB←A∘.×1\n")?;
+    assert!(rt; meets(&rt, alloc, 1, two.as_str(), 120, texts.as_str()));
+    assert!(rt; meets(&rt, alloc, 1024, some.as_str(), 121, ""));
     assert!(rt; meets(&rt, alloc, HALF, many.as_str(), 5, ""));
     Ok(())
 }

@@ -1,10 +1,12 @@
 //! Whole sessions, and what they write.
+mod reductions;
 mod structures;
 mod tables;
 
 use apl_pool::{Every, Open, Pool};
 use apl_print::MemorySink;
 use apl_session::{MemorySource, run};
+use reductions::{DIGITS, FOLDED, PRODUCTS};
 use std::alloc::{AllocError, Global};
 use std::process::Abort;
 use std::test::Fail;
@@ -12,9 +14,7 @@ use std::thread::Threads;
 use structures::{
     AXES, BUILT, CHOSEN, EXTENDED, FOUND, INDEXED, JOINED, LIMITS, MOVED, PRINTED, TAKEN, WORKED,
 };
-use tables::{
-    CARETS, COMMANDS, FORMS_TO_COME, LINES, NUMERALS, OPERANDS, SCALARS, TEXTS, UNLISTED, VALUES,
-};
+use tables::{CARETS, COMMANDS, LINES, NUMERALS, OPERANDS, SCALARS, TEXTS, UNLISTED, VALUES};
 
 /// Whether a session writes exactly this on a pool, by takes and puts of at most so many bytes.
 fn writes<R: Threads + Sync>(
@@ -72,7 +72,7 @@ fn check_on<R: Abort + Threads + Sync>(
 
 #[test]
 fn statements(rt: HostRuntime) {
-    for sessions in [VALUES.as_slice(), &SCALARS, &OPERANDS, &FORMS_TO_COME] {
+    for sessions in [VALUES.as_slice(), &SCALARS, &OPERANDS] {
         check(&rt, rt.alloc(), sessions);
     }
 }
@@ -83,6 +83,13 @@ fn structural_functions(rt: HostRuntime) {
         WORKED, EXTENDED, AXES, BUILT, JOINED, TAKEN, MOVED, CHOSEN, FOUND, INDEXED, PRINTED,
         LIMITS,
     ] {
+        check(&rt, rt.alloc(), sessions);
+    }
+}
+
+#[test]
+fn reductions_and_products(rt: HostRuntime) {
+    for sessions in [FOLDED, PRODUCTS, DIGITS] {
         check(&rt, rt.alloc(), sessions);
     }
 }

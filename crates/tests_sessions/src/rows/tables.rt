@@ -276,18 +276,6 @@ pub(super) const OPERANDS: [(&str, &str); 15] = [
     ),
 ];
 
-/// Forms that are not evaluated yet: their operands are, and then their caret is shown.
-pub(super) const FORMS_TO_COME: [(&str, &str); 8] = [
-    ("1∘.+2\n", "SYNTAX ERROR\n      1∘.+2\n        ∧\n"),
-    ("+/1 2\n", "SYNTAX ERROR\n      +/1 2\n       ∧\n"),
-    ("+/[9]1 2\n", "SYNTAX ERROR\n      +/[9]1 2\n       ∧\n"),
-    ("+⌿B\n", "VALUE ERROR\n      +⌿B\n        ∧\n"),
-    ("1+.×2\n", "SYNTAX ERROR\n      1+.×2\n        ∧\n"),
-    ("2⊥1 0 1\n", "SYNTAX ERROR\n      2⊥1 0 1\n       ∧\n"),
-    ("2 2⊤3\n", "SYNTAX ERROR\n      2 2⊤3\n         ∧\n"),
-    ("B⊤A←3\nA\n", "VALUE ERROR\n      B⊤A←3\n      ∧\n3\n"),
-];
-
 /// Commands.
 pub(super) const COMMANDS: [(&str, &str); 22] = [
     (")ORIGIN 00\n )ORIGIN 1\n", "WAS 1\nWAS 0\n"),

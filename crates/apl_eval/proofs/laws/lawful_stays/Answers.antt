@@ -1,8 +1,8 @@
 use Rattle.apl_eval.proofs.LawfulLemmas.{ResultsWithinLimits, opening_lawful, origin_lawful, width_lawful, outcome_lawful, evaluated_lawful}
-use Rattle.apl_eval.proofs.LimitLemmas.{ScalarAnswersWithinLimits, StructuralAnswersWithinLimits, results_within_limits}
+use Rattle.apl_eval.proofs.LimitLemmas.{ScalarAnswersWithinLimits, StructuralAnswersWithinLimits, ReducedAnswersWithinLimits, results_within_limits}
 use Rattle.apl_eval.proofs.laws.lawful_stays.Goals as goal
 
-results : goal.After-structural_answers_are_within_limits → ResultsWithinLimits
+results : goal.After-reduced_answers_are_within_limits → ResultsWithinLimits
 results c =
     let scalar = c.answers_are_within_limits.ensures in
     let structural = c.structural_answers_are_within_limits.ensures in
@@ -28,7 +28,9 @@ results c =
       select = structural.select;
       replace = structural.replace;
     } in
-    results_within_limits scalar_answers structural_answers
+    let reduced = c.reduced_answers_are_within_limits.ensures in
+    let reduced_answers : ReducedAnswersWithinLimits = record { reduce = reduced.reduce; outer = reduced.outer; inner = reduced.inner; decode = reduced.decode; encode = reduced.encode } in
+    results_within_limits scalar_answers structural_answers reduced_answers
 
 pub returns-clause-opening : goal.returns-clause-opening
 returns-clause-opening c = opening_lawful

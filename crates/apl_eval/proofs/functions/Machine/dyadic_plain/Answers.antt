@@ -3,6 +3,8 @@ use Rattle.apl_struct.specs.Building.{reshape_row}
 use Rattle.apl_struct.specs.Taking.{take_row, drop_row}
 use Rattle.apl_struct.specs.Moving.{transpose_by_row}
 use Rattle.apl_struct.specs.Searching.{index_of_row, member_row}
+use Rattle.apl_reduce.specs.Decoding.{decode_row}
+use Rattle.apl_reduce.specs.Encoding.{encode_row}
 use Rattle.apl_eval.proofs.GlyphLemmas.{dyadic_falls}
 use Rattle.apl_eval.proofs.functions.Machine.dyadic_plain.Goals as goal
 
@@ -24,7 +26,13 @@ returns-in-DownArrow g c = rw c.in-DownArrow.is (c.result_of-in-DownArrow.ensure
 pub returns-in-Transpose : goal.returns-in-Transpose
 returns-in-Transpose g c = rw c.in-Transpose.is (c.result_of-in-Transpose.ensures (rows.result_of (transpose_by_row c.args.a.now c.args.b.now c.args.self.now.workspace.now.origin)) (rw c.origin-origin.ensures at c.transpose_by.ensures))
 
+pub returns-in-UpTack : goal.returns-in-UpTack
+returns-in-UpTack g c = rw c.in-UpTack.is (c.result_of-in-UpTack.ensures (rows.result_of (decode_row c.args.a.now c.args.b.now)) c.decode.ensures)
+
+pub returns-in-DownTack : goal.returns-in-DownTack
+returns-in-DownTack g c = rw c.in-DownTack.is (c.result_of-in-DownTack.ensures (rows.result_of (encode_row c.args.a.now c.args.b.now)) c.encode.ensures)
+
 pub returns-in_default : goal.returns-in_default
 returns-in_default g c =
-    let falls = dyadic_falls c.args.self.now.workspace.now.origin c.args.glyph c.args.a.now c.args.b.now c.in_default.not-Scalar c.in_default.not-Rho c.in_default.not-Iota c.in_default.not-Epsilon c.in_default.not-UpArrow c.in_default.not-DownArrow c.in_default.not-Transpose in
+    let falls = dyadic_falls c.args.self.now.workspace.now.origin c.args.glyph c.args.a.now c.args.b.now c.in_default.not-Scalar c.in_default.not-Rho c.in_default.not-Iota c.in_default.not-Epsilon c.in_default.not-UpArrow c.in_default.not-DownArrow c.in_default.not-Transpose c.in_default.not-UpTack c.in_default.not-DownTack in
     rw falls (rw c.default_axis.ensures at c.dyadic_along.ensures)

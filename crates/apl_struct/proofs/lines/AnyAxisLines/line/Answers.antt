@@ -4,10 +4,10 @@ use Rattle.apl_struct.proofs.lines.AnyAxisLines.line.Goals as goal
 
 pub returns : goal.returns
 returns c =
-    let inner = c.args.self.now.inner.by in
-    let length = c.args.self.now.length.by in
+    let inner = c.args.self.now.inner in
+    let length = c.args.self.now.length in
     let place = c.args.place in
     let turned : inner * length ≡ length * inner = omega arith in
     let split : c.quotient-line.result ≡ place / (length * inner) =
     c.quotient-line.ensures.value ∙ ap (λ q. q / length) c.quotient.ensures.value ∙ div-div-eq-div-mul place inner length ∙ ap (λ m. place / m) turned in
-    rw (split, c.remainder.ensures.value) refl
+    rw (split, c.remainder.ensures.value, c.number.ensures.value) refl

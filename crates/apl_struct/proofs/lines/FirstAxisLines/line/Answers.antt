@@ -4,7 +4,7 @@ use Rattle.apl_struct.proofs.lines.FirstAxisLines.line.Goals as goal
 
 pub returns : goal.returns
 returns c =
-    let inner = c.args.self.now.inner.by in
+    let inner = c.args.self.now.inner in
     let length = c.args.self.now.length in
     let place = c.args.place in
     let below : place < length * inner = omega (arith, c.requires, c.args.self.now.all) in

@@ -32,8 +32,8 @@ returns-else-block-count g c =
     let law = c.places_match_index_lists.ensures in
     let line = c.changed_axis_has_place.ensures in
     let places = c.blocks_along-block.ensures in
-    let block : c.new-block.result.by ≡ slice_index c.args.shape c.args.k * count_of (drop (c.args.k + 1) c.args.shape) = c.new-block.ensures ∙ places.block in
+    let block : c.new-block.result ≡ slice_index c.args.shape c.args.k * count_of (drop (c.args.k + 1) c.args.shape) = c.new-block.ensures ∙ places.block in
     c.join-else-block-count.ensures _
     (λ place inside.
-    joined_place law.below law.lawful line.count line.index line.lawful line.place c.args.a.now c.args.b.now c.args.k c.args.left c.new-block.result.by
+    joined_place law.below law.lawful line.count line.index line.lawful line.place c.args.a.now c.args.b.now c.args.k c.args.left c.new-block.result
     c.blocks_along-block.result.left place c.args.shape c.kind.ensures.lawful c.kind-2.ensures.lawful c.requires.ranks c.requires.axis c.requires.others c.requires.left c.requires.shape block places.left inside)

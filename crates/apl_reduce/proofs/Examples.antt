@@ -1,0 +1,47 @@
+-- Short names for the arrays of the worked examples.
+use Rattle.std.proofs.Common.{ℕ, ℤ, pos, neg_ℤ, List, [], ◌∷◌, length, map, replicate}
+use Rattle.apl_array.specs.Shape.{count_of}
+use Rattle.apl_array.specs.Array.{ArrayValue, number_array, character_array}
+pub mod Reducing
+pub mod OuterProducts
+pub mod InnerProducts
+pub mod Decoding
+pub mod Encoding
+
+-- numbers from 0 up
+abbrev pub numbers : List ℕ → List ℕ → ArrayValue
+numbers shape ns = number_array shape (map pos ns)
+
+abbrev pub vector : List ℕ → ArrayValue
+vector ns = numbers (length ns ∷ []) ns
+
+abbrev pub scalar : ℕ → ArrayValue
+scalar n = numbers [] (n ∷ [])
+
+abbrev pub zeros : List ℕ → ArrayValue
+zeros shape = numbers shape (replicate (count_of shape) 0)
+
+-- any numbers
+abbrev pub integers : List ℤ → ArrayValue
+integers ns = number_array (length ns ∷ []) ns
+
+-- 0 less a number
+abbrev pub negative : ℕ → ℤ
+negative n = neg_ℤ (pos n)
+
+abbrev pub minus : ℕ → ArrayValue
+minus n = number_array [] (negative n ∷ [])
+
+-- characters by their code points
+abbrev pub text : List ℕ → ArrayValue
+text cs = character_array (length cs ∷ []) cs
+
+abbrev pub letter : ℕ → ArrayValue
+letter c = character_array [] (c ∷ [])
+
+-- 2 2⍴⍳4, and 2 3⍴⍳6
+abbrev pub two_by_two : ArrayValue
+two_by_two = numbers (2 ∷ 2 ∷ []) (1 ∷ 2 ∷ 3 ∷ 4 ∷ [])
+
+abbrev pub two_by_three : ArrayValue
+two_by_three = numbers (2 ∷ 3 ∷ []) (1 ∷ 2 ∷ 3 ∷ 4 ∷ 5 ∷ 6 ∷ [])

@@ -1,0 +1,24 @@
+-- Two and more items folded to a number. No contract of a public function cites this file.
+use Rattle.std.specs.Prelude.{ℕ, zero, suc, ℤ, pos, ◌+◌, ◌-◌, ◌*◌, ◌/◌, ◌%◌, List, Result, Ok, Err, slice_index_or}
+use Rattle.apl_array.specs.declared.array.Elem.{Elem}
+use Rattle.apl_array.specs.declared.array.Elem.TheVariants.{Int}
+use Rattle.apl_array.specs.declared.function.ScalarFunction.{ScalarFunction}
+use Rattle.apl_pool.specs.declared.kernel.Fault.{Fault}
+use Rattle.apl_scalar.specs.Scalar.{dyadic_of}
+
+abbrev pub number_step : ScalarFunction → Elem → Result ℤ Fault → Result ℤ Fault
+number_step f x (Ok r) = dyadic_of f x (Int r)
+number_step f x (Err fault) = Err fault
+
+-- the right fold of item k and the more + 1 items behind it
+abbrev pub folded : ScalarFunction → (item : ℕ → Elem) → (k more : ℕ) → Result ℤ Fault
+folded f item k zero = dyadic_of f (item k) (item (suc k))
+folded f item k (suc more) = number_step f (item k) (folded f item (suc k) more)
+
+-- elements that stand `stride` apart from place `first` on
+abbrev pub element_along : List Elem → (first stride : ℕ) → ℕ → Elem
+element_along elements first stride i = slice_index_or elements (first + i * stride) (Int (pos 0))
+
+-- the fold of the items along an axis at a place of the result: neighbours are `inner` apart
+abbrev pub fold_at : ScalarFunction → List Elem → (items block inner place : ℕ) → Result ℤ Fault
+fold_at f elements items block inner place = folded f (element_along elements (place / inner * block + place % inner) inner) 0 (items - 2)

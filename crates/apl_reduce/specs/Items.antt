@@ -1,0 +1,54 @@
+-- Items that are folded, numbers or faults, by their places. No contract of a public function cites this file.
+use Rattle.std.specs.Prelude.{ℕ, zero, suc, ℤ, pos, ◌+◌, ◌*◌, ◌/◌, ◌%◌, List, length, map, Option, Some, None, Result, Ok, Err, slice_index_or}
+use Rattle.std.specs.List.{range_with_len}
+use Rattle.apl_array.specs.declared.array.Elem.{Elem}
+use Rattle.apl_array.specs.declared.array.Elem.TheVariants.{Int}
+use Rattle.apl_array.specs.declared.function.ScalarFunction.{ScalarFunction}
+use Rattle.apl_pool.specs.declared.kernel.Fault.{Fault}
+use Rattle.apl_answer.specs.Arguments.{number_of}
+use Rattle.apl_answer.specs.Pointwise.{all_or_first}
+use Rattle.apl_scalar.specs.Scalar.{dyadic_of, dyadic_numbers, as_element}
+use Rattle.apl_reduce.specs.Products.{judged_reduction}
+
+abbrev pub item_in : List Elem → ℕ → Elem
+item_in elements place = slice_index_or elements place (Int (pos 0))
+
+-- a function of an element of one list and an element of another, the right one varying fastest
+abbrev pub outer_number : ScalarFunction → List Elem → List Elem → ℕ → Result ℤ Fault
+outer_number f left right place = dyadic_of f (item_in left (place / length right)) (item_in right (place % length right))
+
+-- item k of a line, where lines and items are so far apart
+abbrev pub line_item : List Elem → ℕ → ℕ → ℕ → ℕ → Elem
+line_item elements line_stride item_stride line k = item_in elements (line * line_stride + k * item_stride)
+
+-- the number that an element is, or the fault
+abbrev pub as_number : Result Elem Fault → Result ℤ Fault
+as_number (Ok x) = Ok (number_of x)
+as_number (Err fault) = Err fault
+
+-- ---- items by their places
+
+-- x and what was folded on its right; a fault on the right comes first
+abbrev pub number_step : ScalarFunction → Result ℤ Fault → Result ℤ Fault → Result ℤ Fault
+number_step f x (Err fault) = Err fault
+number_step f (Err fault) (Ok r) = Err fault
+number_step f (Ok x) (Ok r) = dyadic_numbers f x r
+
+abbrev pub or_next_fault : Result ℤ Fault → Option Fault → Option Fault
+or_next_fault (Err fault) next = Some fault
+or_next_fault (Ok z) next = next
+
+module _ (item : ℕ → Result ℤ Fault) where
+  -- the fold of item k and the `more` items behind it, from the right: the first fault on the way
+  abbrev pub folded_from : ScalarFunction → ℕ → ℕ → Result ℤ Fault
+  folded_from f k zero = item k
+  folded_from f k (suc more) = number_step f (item k) (folded_from f (k + 1) more)
+
+  -- the fault of the first faulty one of n items, item k being the first of them
+  abbrev pub first_fault : ℕ → ℕ → Option Fault
+  first_fault k zero = None
+  first_fault k (suc n) = or_next_fault (item k) (first_fault (k + 1) n)
+
+  -- the reduction of n items, all of them judged before the fold
+  abbrev pub judged_items : ScalarFunction → ℕ → Result Elem Fault
+  judged_items f n = judged_reduction f (all_or_first (map (λ k. as_element (item k)) (range_with_len 0 n)))

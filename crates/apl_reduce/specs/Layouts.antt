@@ -1,0 +1,31 @@
+-- How the items of an inner product lie in its arguments. No contract of a public function cites this file.
+use Rattle.std.specs.Prelude.{ℕ, ℤ, ◌+◌, ◌*◌, ◌/◌, ◌%◌, ◌<◌, ◌≤◌, List, Result}
+use Rattle.apl_array.specs.declared.array.Elem.{Elem}
+use Rattle.apl_array.specs.declared.function.ScalarFunction.{ScalarFunction}
+use Rattle.apl_pool.specs.declared.kernel.Fault.{Fault}
+use Rattle.apl_pool.specs.declared.kernel.TheConstants.{MOST_PLACES}
+use Rattle.apl_scalar.specs.Scalar.{dyadic_of}
+use Rattle.apl_reduce.specs.declared.layouts.Layout.{Layout}
+use Rattle.apl_reduce.specs.Items.{item_in, as_number, judged_items}
+
+-- the places of item k in the arguments, at a place of the result
+abbrev pub left_place : Layout → ℕ → ℕ → ℕ
+left_place layout place k = place / layout.columns * layout.left.line + k * layout.left.item
+
+abbrev pub right_place : Layout → ℕ → ℕ → ℕ
+right_place layout place k = place % layout.columns * layout.right.line + k * layout.right.item
+
+-- all of them are within arguments of so many elements
+pub record IsWithin (layout : Layout) (left right : ℕ) : Type 0 where
+  pub left_start : (place : ℕ) → place < layout.count → place / layout.columns * layout.left.line ≤ MOST_PLACES
+  pub right_start : (place : ℕ) → place < layout.count → place % layout.columns * layout.right.line ≤ MOST_PLACES
+  pub left_item : (place k : ℕ) → place < layout.count → k < layout.items → left_place layout place k < left
+  pub right_item : (place k : ℕ) → place < layout.count → k < layout.items → right_place layout place k < right
+
+module _ (layout : Layout) (left right : List Elem) where
+  abbrev pub inner_item : ScalarFunction → ℕ → ℕ → Result ℤ Fault
+  inner_item g place k = dyadic_of g (item_in left (left_place layout place k)) (item_in right (right_place layout place k))
+
+  -- what the inner product has at a place
+  abbrev pub inner_number : ScalarFunction → ScalarFunction → ℕ → Result ℤ Fault
+  inner_number f g place = as_number (judged_items (inner_item g place) f layout.items)

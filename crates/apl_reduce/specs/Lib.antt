@@ -1,0 +1,11 @@
+pub mod Folding
+pub mod Reducing
+pub mod Partial
+pub mod Products
+pub mod Decoding
+pub mod Encoding
+pub mod Folded
+pub mod Fronts
+pub mod Carrying
+pub mod Items
+pub mod Layouts

@@ -1,0 +1,166 @@
+//! The number that digits make in a list of radices.
+ghost use Rattle.std.specs.Prelude.{◌≡◌, ℕ, pos, ◌+ℤ◌, ◌*ℤ◌, ◌<◌, ◌==◌, ◌||◌, true, false, [], length, MatchOption, slice_index_or};
+ghost use Rattle.apl_array.specs.declared.array.Kind.TheVariants.{Number};
+ghost use Rattle.apl_answer.specs.Arguments.{has_one_element, is_number_kind, numbers_of, size_of};
+ghost use Rattle.apl_answer.specs.Pointwise.{answer_of, IsAnswerOf};
+ghost use Rattle.apl_answer.specs.Rows.{Answers};
+ghost use Rattle.apl_scalar.specs.Scalar.{exact};
+ghost use Rattle.apl_reduce.specs.Decoding.{decode_length, decoded, decode_row};
+ghost use Rattle.apl_reduce.specs.Fronts.{served};
+
+use crate::range::limited;
+use crate::workers::Workers;
+use apl_answer::{OpFault, fill_array};
+use apl_array::{Array, Shape};
+use apl_pool::{Cut, Fault, Gate, Kernel, Pool};
+use std::alloc::Global;
+use std::thread::Threads;
+
+/// The numbers that serve the digits in order. A single one serves all of them.
+#[derive(Clone, Copy)]
+struct Served<'a> {
+    numbers: &'a [i64],
+    is_single: bool,
+}
+
+impl Served<'_> {
+    /// The number that serves a digit.
+    #[inline(always)]
+    fn at(&self, digit: usize) -> i64
+        requires single { self.now.is_single ≡ true → length self.now.numbers.now ≡ 1 }
+        requires each { self.now.is_single ≡ false → digit < length self.now.numbers.now }
+        ensures { (n : ℕ) → digit < n → result ≡ slice_index_or (served n self.now.is_single self.now.numbers.now) digit (pos 0) }
+    {
+        if self.is_single {
+            self.numbers[0]
+        } else {
+            self.numbers[digit]
+        }
+    }
+}
+
+/// The value with one digit more, exactly, and `Limit` where it leaves the range.
+#[inline(always)]
+#[tactic(auto, using(crate::proofs::Casts::sum_fits_cast, crate::proofs::Casts::longer_value))]
+fn with_digit(value: i64, radix: i64, digit: i64) -> Result<i64, Fault>
+    ensures { result ≡ exact ((value *ℤ radix) +ℤ digit) }
+{
+    limited(value as i128 * radix as i128 + digit as i128)
+}
+
+/// The value of so many digits, from the first on.
+#[derive(Drop)]
+struct Decoding<'a> {
+    radices: Served<'a>,
+    digits: Served<'a>,
+    count: usize,
+    ghost radices_single: { radices.is_single ≡ true → length radices.numbers.now ≡ 1 },
+    ghost radices_each: { radices.is_single ≡ false → length radices.numbers.now ≡ count },
+    ghost digits_single: { digits.is_single ≡ true → length digits.numbers.now ≡ 1 },
+    ghost digits_each: { digits.is_single ≡ false → length digits.numbers.now ≡ count },
+}
+
+impl Kernel for Decoding<'_> {
+    ghost use Rattle.apl_reduce.specs.Fronts.{served, decoded_number};
+
+    type Out = i64;
+
+    ghost place_count = { λ k. 1 };
+
+    ghost outcome = { λ k place. decoded_number k.count (served k.count k.radices.is_single k.radices.numbers.now) (served k.count k.digits.is_single k.digits.numbers.now) };
+
+    fn count(&self) -> usize {
+        1
+    }
+
+    fn at(&self, _place: usize) -> Result<i64, Fault> {
+        let mut value = 0;
+        for k in 0..self.count {
+            value = with_digit(value, self.radices.at(k), self.digits.at(k))?;
+        }
+        Ok(value)
+    }
+}
+
+/// The numbers of an argument, of which a single one serves all digits, and none of characters.
+fn served_by(a: &Array) -> Option<Served<'_>>
+    ensures { MatchOption result
+        (is_number_kind a.now.kind ≡ false)
+        (λ s. (is_number_kind a.now.kind ≡ true) × (s.numbers.now ≡ numbers_of a.now) × (s.is_single ≡ has_one_element a.now.shape)) }
+{
+    let numbers = a.numbers()?;
+    Some(Served {
+        numbers,
+        is_single: a.shape().count() == 1,
+    })
+}
+
+/// How many digits two lists make, where they agree: one for each element, and an argument of one
+/// element serves all of the other's.
+fn digit_count(a: &Array, b: &Array) -> Option<usize>
+    ensures { MatchOption result
+        ((has_one_element a.now.shape || (has_one_element b.now.shape || (size_of a.now == size_of b.now))) ≡ false)
+        (λ n. ((has_one_element a.now.shape || (has_one_element b.now.shape || (size_of a.now == size_of b.now))) ≡ true) × (n ≡ decode_length a.now b.now)) }
+{
+    let (left, right) = (a.shape().count(), b.shape().count());
+    if left == 1 {
+        Some(right)
+    } else if right == 1 || left == right {
+        Some(left)
+    } else {
+        None
+    }
+}
+
+impl<R: Threads + Sync, C: Cut + Sync, G: Gate + Sync> Workers<'_, R, C, G> {
+    /// The scalar that a decode gives.
+    fn decoded(&self, decoding: &Decoding) -> Result<Array, OpFault>
+        ensures { let n = decoding.now.count in
+            IsAnswerOf (answer_of [] (λ index. decoded n (served n decoding.now.radices.is_single decoding.now.radices.numbers.now) (served n decoding.now.digits.is_single decoding.now.digits.numbers.now)) Number) result }
+    {
+        let Ok(shape) = Shape::new(self.alloc, &[]) else {
+            unreachable!()
+        };
+        fill_array(self.rt, self.alloc, self.pool, shape, decoding)
+    }
+}
+
+/// The scalar that the digits `b` make in the radices `a`. An argument of one element serves all
+/// digits. Judged in order: the ranks (`Rank`), the lengths (`Length`), and where there is a digit the
+/// kinds (`Domain`); then the value of the first digits, of each number of them (`Limit`).
+pub fn decode<R: Threads + Sync, C: Cut + Sync, G: Gate + Sync>(
+    rt: &R,
+    alloc: Global,
+    pool: &Pool<C, G>,
+    a: &Array,
+    b: &Array,
+) -> Result<Array, OpFault>
+    ensures { Answers (decode_row a.now b.now) result }
+{
+    let workers = Workers { rt, alloc, pool };
+    if a.shape().rank() > 1 || b.shape().rank() > 1 {
+        return Err(OpFault::Rank);
+    }
+    let Some(count) = digit_count(a, b) else {
+        return Err(OpFault::Length);
+    };
+    if count == 0 {
+        let none = Served {
+            numbers: &[],
+            is_single: false,
+        };
+        return workers.decoded(&Decoding {
+            radices: none,
+            digits: none,
+            count,
+        });
+    }
+    let (Some(radices), Some(digits)) = (served_by(a), served_by(b)) else {
+        return Err(OpFault::Domain);
+    };
+    workers.decoded(&Decoding {
+        radices,
+        digits,
+        count,
+    })
+}

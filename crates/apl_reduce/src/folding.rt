@@ -1,0 +1,54 @@
+//! Right folds of elements that stand at equal distances.
+ghost use Rattle.std.specs.Prelude.{◌≡◌, ◌+◌, ◌-◌, ◌*◌, ◌<◌, ◌≤◌, pos, length, map, slice_index_or};
+ghost use Rattle.apl_array.specs.declared.array.Elem.TheVariants.{Int};
+ghost use Rattle.apl_pool.specs.declared.kernel.TheConstants.{MOST_PLACES};
+ghost use Rattle.apl_reduce.specs.Folded.{number_step, folded, element_along};
+
+use apl_answer::Element;
+use apl_array::Elem;
+use apl_pool::Fault;
+use apl_scalar::dyadic_elements;
+use apl_scalar::function_types::Function;
+
+/// The element at a place, of either kind.
+#[inline(always)]
+fn element_at<T: Element>(elements: &[T], place: usize) -> Elem
+    requires { place < length elements.now }
+    ensures { result ≡ slice_index_or (map T.elem_of elements.now) place (Int (pos 0)) }
+{
+    elements[place].elem()
+}
+
+/// One more item on the left of what is folded already.
+#[inline(always)]
+fn fold_step<F: Function>(item: Elem, total: Result<i64, Fault>) -> Result<i64, Fault>
+    ensures { result ≡ number_step F.FUNCTION item total }
+{
+    match total {
+        Ok(number) => dyadic_elements::<F>(item, Elem::Int(number)),
+        Err(fault) => Err(fault),
+    }
+}
+
+/// The right fold of `count` elements that stand `stride` apart from place `first` on.
+#[inline(always)]
+pub(crate) fn fold_along<F: Function, T: Element>(
+    elements: &[T],
+    first: usize,
+    stride: usize,
+    count: usize,
+) -> Result<i64, Fault>
+    requires two { 2 ≤ count }
+    requires within { first + (count - 1) * stride < length elements.now }
+    requires most { length elements.now ≤ MOST_PLACES }
+    ensures { result ≡ folded F.FUNCTION (element_along (map T.elem_of elements.now) first stride) 0 (count - 2) }
+{
+    let mut place = first + (count - 2) * stride;
+    let last = element_at(elements, place + stride);
+    let mut total = dyadic_elements::<F>(element_at(elements, place), last);
+    for _more in 2..count {
+        place -= stride;
+        total = fold_step::<F>(element_at(elements, place), total);
+    }
+    total
+}

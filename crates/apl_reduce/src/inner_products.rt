@@ -1,0 +1,253 @@
+//! Inner products.
+ghost use Rattle.std.specs.Prelude.{◌≡◌, ℕ, ◌+◌, ◌*◌, ◌<◌, IfErr, IfOk, IsTrue, length, map};
+ghost use Rattle.apl_array.specs.declared.array.Elem.TheVariants.{Int, Chr};
+ghost use Rattle.apl_array.specs.Valences.{has_dyadic};
+ghost use Rattle.apl_pool.specs.Pool.{AreValues, IsStopOf};
+ghost use Rattle.apl_answer.specs.Rows.{Answers};
+ghost use Rattle.apl_reduce.specs.Layouts.{IsWithin, inner_number};
+ghost use Rattle.apl_reduce.specs.Products.{inner_row};
+
+use crate::dyadic::{Chosen, Dyadic, Typed};
+use crate::items::{Items, reduced};
+use crate::layouts::Layout;
+use crate::meeting::{common_length, layout_of, left_lengths, right_lengths};
+use crate::shapes::{characters_of, joined_shape};
+use crate::workers::Workers;
+use apl_answer::{Element, OpFault, array_from_fill};
+use apl_array::{Array, ScalarFunction};
+use apl_divisor::Divisor;
+use apl_pool::{Cut, Fault, Gate, Kernel, Pool, Stop};
+use apl_scalar::Prim;
+use apl_scalar::function_types::{
+    And, Ceiling, Equal, Floor, Function, NotEqual, Or, Plus, Star, Times,
+};
+use std::alloc::Global;
+use std::marker::PhantomData;
+use std::thread::Threads;
+
+/// The items at one place: a function of an element of a line and one of another line.
+#[derive(Drop)]
+struct LineItems<'a, T, U, P: Dyadic> {
+    left: &'a [T],
+    left_start: usize,
+    left_stride: usize,
+    right: &'a [U],
+    right_start: usize,
+    right_stride: usize,
+    count: usize,
+    pairing: P,
+    ghost left_within: { (k : ℕ) → k < count → left_start + k * left_stride < length left.now },
+    ghost right_within: { (k : ℕ) → k < count → right_start + k * right_stride < length right.now },
+}
+
+impl<T: Element, U: Element, P: Dyadic> Items for LineItems<'_, T, U, P> {
+    ghost use Rattle.std.specs.Prelude.{◌+◌, ◌*◌, map};
+    ghost use Rattle.apl_scalar.specs.Scalar.{dyadic_of};
+    ghost use Rattle.apl_reduce.specs.Items.{item_in};
+
+    ghost outcome = { λ x k. dyadic_of (P.function x.pairing) (item_in (map T.elem_of x.left.now) (x.left_start + k * x.left_stride)) (item_in (map U.elem_of x.right.now) (x.right_start + k * x.right_stride)) };
+
+    ghost item_count = { λ x. x.count };
+
+    #[inline(always)]
+    fn count(&self) -> usize {
+        self.count
+    }
+
+    #[inline(always)]
+    fn at(&self, k: usize) -> Result<i64, Fault> {
+        let left = self.left[self.left_start + k * self.left_stride];
+        let right = self.right[self.right_start + k * self.right_stride];
+        self.pairing.of(left.elem(), right.elem())
+    }
+}
+
+/// The reduction of the items at each place of an inner product.
+#[derive(Drop)]
+struct Reductions<'a, T, U, F: Dyadic, P: Dyadic> {
+    left: &'a [T],
+    right: &'a [U],
+    layout: &'a Layout,
+    columns: Divisor,
+    function: F,
+    pairing: P,
+    ghost columns_are: { columns ≡ layout.now.columns },
+    ghost within: { IsWithin layout.now (length left.now) (length right.now) },
+}
+
+impl<T: Element, U: Element, F: Dyadic, P: Dyadic> Kernel for Reductions<'_, T, U, F, P> {
+    ghost use Rattle.std.specs.Prelude.{map};
+    ghost use Rattle.apl_reduce.specs.Layouts.{inner_number};
+
+    type Out = i64;
+
+    ghost place_count = { λ k. k.layout.now.count };
+
+    ghost outcome = { λ k place. inner_number k.layout.now (map T.elem_of k.left.now) (map U.elem_of k.right.now) (F.function k.function) (P.function k.pairing) place };
+
+    fn count(&self) -> usize {
+        self.layout.count
+    }
+
+    #[inline(always)]
+    fn at(&self, place: usize) -> Result<i64, Fault> {
+        let items = LineItems {
+            left: self.left,
+            left_start: self.columns.quotient(place) * self.layout.left.line,
+            left_stride: self.layout.left.item,
+            right: self.right,
+            right_start: self.columns.remainder(place) * self.layout.right.line,
+            right_stride: self.layout.right.item,
+            count: self.layout.items,
+            pairing: self.pairing,
+        };
+        reduced(&items, self.function)
+    }
+}
+
+impl<R: Threads + Sync, C: Cut + Sync, G: Gate + Sync> Workers<'_, R, C, G> {
+    /// The reduction of the items at each place.
+    fn fill_inner<T: Element + Sync, U: Element + Sync, F: Dyadic + Sync, P: Dyadic + Sync>(
+        &self,
+        layout: &Layout,
+        left: &[T],
+        right: &[U],
+        function: F,
+        pairing: P,
+    ) -> Result<Vec<i64>, Stop>
+        requires { IsWithin layout.now (length left.now) (length right.now) }
+        ensures values { IfOk result (λ v. AreValues (inner_number layout.now (map T.elem_of left.now) (map U.elem_of right.now) (F.function function) (P.function pairing)) layout.now.count v.items) }
+        ensures stop { IfErr result (IsStopOf (inner_number layout.now (map T.elem_of left.now) (map U.elem_of right.now) (F.function function) (P.function pairing)) layout.now.count) }
+    {
+        let kernel = Reductions {
+            left,
+            right,
+            layout,
+            columns: Divisor::new(layout.columns),
+            function,
+            pairing,
+        };
+        self.pool.fill(self.rt, self.alloc, &kernel)
+    }
+
+    /// The reduction of the items at each place, compiled for two functions.
+    fn typed<T: Element + Sync, F: Function + Copy + Sync, P: Function + Copy + Sync>(
+        &self,
+        layout: &Layout,
+        left: &[T],
+        right: &[T],
+    ) -> Result<Vec<i64>, Stop>
+        requires { IsWithin layout.now (length left.now) (length right.now) }
+        ensures values { IfOk result (λ v. AreValues (inner_number layout.now (map T.elem_of left.now) (map T.elem_of right.now) F.FUNCTION P.FUNCTION) layout.now.count v.items) }
+        ensures stop { IfErr result (IsStopOf (inner_number layout.now (map T.elem_of left.now) (map T.elem_of right.now) F.FUNCTION P.FUNCTION) layout.now.count) }
+    {
+        let (function, pairing) = (Typed::<F>(PhantomData), Typed::<P>(PhantomData));
+        self.fill_inner(layout, left, right, function, pairing)
+    }
+
+    /// An inner product of numbers, compiled for each of the usual pairs of functions.
+    fn fill_inner_numbers(
+        &self,
+        f: ScalarFunction,
+        g: ScalarFunction,
+        layout: &Layout,
+        left: &[i64],
+        right: &[i64],
+    ) -> Result<Vec<i64>, Stop>
+        requires { IsWithin layout.now (length left.now) (length right.now) }
+        ensures values { IfOk result (λ v. AreValues (inner_number layout.now (map Int left.now) (map Int right.now) f g) layout.now.count v.items) }
+        ensures stop { IfErr result (IsStopOf (inner_number layout.now (map Int left.now) (map Int right.now) f g) layout.now.count) }
+    {
+        match (f, g) {
+            (Prim::Plus, Prim::Times) => { self.typed::<i64, Plus, Times>(layout, left, right) }
+            (Prim::Plus, Prim::And) => { self.typed::<i64, Plus, And>(layout, left, right) }
+            (Prim::Plus, Prim::Equal) => { self.typed::<i64, Plus, Equal>(layout, left, right) }
+            (Prim::Or, Prim::And) => self.typed::<i64, Or, And>(layout, left, right),
+            (Prim::And, Prim::Equal) => { self.typed::<i64, And, Equal>(layout, left, right) }
+            (Prim::Or, Prim::NotEqual) => { self.typed::<i64, Or, NotEqual>(layout, left, right) }
+            (Prim::Floor, Prim::Plus) => { self.typed::<i64, Floor, Plus>(layout, left, right) }
+            (Prim::Ceiling, Prim::Plus) => { self.typed::<i64, Ceiling, Plus>(layout, left, right) }
+            (Prim::Ceiling, Prim::Times) => {
+                self.typed::<i64, Ceiling, Times>(layout, left, right)
+            }
+            (Prim::Times, Prim::Star) => { self.typed::<i64, Times, Star>(layout, left, right) }
+            _ => self.fill_inner(layout, left, right, Chosen(f), Chosen(g)),
+        }
+    }
+
+    /// An inner product of characters, which only `=` and `≠` give items of.
+    fn fill_inner_characters(
+        &self,
+        f: ScalarFunction,
+        g: ScalarFunction,
+        layout: &Layout,
+        left: &[char],
+        right: &[char],
+    ) -> Result<Vec<i64>, Stop>
+        requires { IsWithin layout.now (length left.now) (length right.now) }
+        ensures values { IfOk result (λ v. AreValues (inner_number layout.now (map Chr left.now) (map Chr right.now) f g) layout.now.count v.items) }
+        ensures stop { IfErr result (IsStopOf (inner_number layout.now (map Chr left.now) (map Chr right.now) f g) layout.now.count) }
+    {
+        match (f, g) {
+            (Prim::And, Prim::Equal) => { self.typed::<char, And, Equal>(layout, left, right) }
+            (Prim::Plus, Prim::Equal) => { self.typed::<char, Plus, Equal>(layout, left, right) }
+            (Prim::Or, Prim::NotEqual) => { self.typed::<char, Or, NotEqual>(layout, left, right) }
+            _ => self.fill_inner(layout, left, right, Chosen(f), Chosen(g)),
+        }
+    }
+
+    /// An inner product of any two arguments.
+    fn fill_inner_elements(
+        &self,
+        f: ScalarFunction,
+        g: ScalarFunction,
+        layout: &Layout,
+        a: &Array,
+        b: &Array,
+    ) -> Result<Vec<i64>, Stop>
+        requires { IsWithin layout.now (length a.now.ravel) (length b.now.ravel) }
+        ensures values { IfOk result (λ v. AreValues (inner_number layout.now a.now.ravel b.now.ravel f g) layout.now.count v.items) }
+        ensures stop { IfErr result (IsStopOf (inner_number layout.now a.now.ravel b.now.ravel f g) layout.now.count) }
+    {
+        match (a.numbers(), b.numbers()) {
+            (Some(left), Some(right)) => self.fill_inner_numbers(f, g, layout, left, right),
+            (Some(left), None) => {
+                self.fill_inner(layout, left, characters_of(b), Chosen(f), Chosen(g))
+            }
+            (None, Some(right)) => {
+                self.fill_inner(layout, characters_of(a), right, Chosen(f), Chosen(g))
+            }
+            (None, None) => {
+                self.fill_inner_characters(f, g, layout, characters_of(a), characters_of(b))
+            }
+        }
+    }
+}
+
+/// The reduction by `f` of `g` of the items along the last axis of `a` and the first of `b`; all items
+/// of a place are judged before they are folded. A scalar or a vector of one element is extended to
+/// the other's items, and gives no axis. Arguments that do not agree on the number of items are
+/// refused (`Length`), then a shape past a limit (`Limit`). Else the refusal is the fault at the least
+/// place that has one.
+pub fn inner<R: Threads + Sync, C: Cut + Sync, G: Gate + Sync>(
+    rt: &R,
+    alloc: Global,
+    pool: &Pool<C, G>,
+    f: ScalarFunction,
+    g: ScalarFunction,
+    a: &Array,
+    b: &Array,
+) -> Result<Array, OpFault>
+    requires reduction { IsTrue (has_dyadic f) }
+    requires items { IsTrue (has_dyadic g) }
+    ensures { Answers (inner_row f g a.now b.now) result }
+{
+    let Some(items) = common_length(a, b) else {
+        return Err(OpFault::Length);
+    };
+    let left = left_lengths(a);
+    let shape = joined_shape(alloc, left, right_lengths(b))?;
+    let layout = layout_of(a, b, items, &shape, left.len());
+    let workers = Workers { rt, alloc, pool };
+    array_from_fill(shape, workers.fill_inner_elements(f, g, &layout, a, b))
+}

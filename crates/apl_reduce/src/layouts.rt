@@ -1,0 +1,38 @@
+//! How the items of an inner product lie in its arguments.
+ghost use Rattle.std.specs.Prelude.{◌≡◌, ◌<◌, ◌≤◌, if◌then◌else◌};
+ghost use Rattle.apl_pool.specs.declared.kernel.TheConstants.{MOST_PLACES};
+
+/// How far apart the lines of an argument are, and the items of a line.
+#[derive(Clone, Copy)]
+pub(crate) struct Strides {
+    pub line: usize,
+    pub item: usize,
+}
+
+impl Strides {
+    /// The strides of an argument. One that is single has its element on all lines, as each item.
+    pub(crate) fn new(is_single: bool, line: usize, item: usize) -> Strides
+        ensures line { result.line ≡ (if is_single then 0 else line) }
+        ensures item { result.item ≡ (if is_single then 0 else item) }
+    {
+        if is_single {
+            Strides { line: 0, item: 0 }
+        } else {
+            Strides { line, item }
+        }
+    }
+}
+
+/// How many items are folded at each of so many places, and how they lie in the arguments. A place is
+/// a line of the left argument times the columns and a line of the right one.
+#[derive(Clone, Copy)]
+pub(crate) struct Layout {
+    pub left: Strides,
+    pub right: Strides,
+    pub items: usize,
+    pub columns: usize,
+    pub count: usize,
+    ghost some: { 0 < columns },
+    ghost most_columns: { columns ≤ MOST_PLACES },
+    ghost most: { count ≤ MOST_PLACES },
+}

@@ -1,0 +1,177 @@
+//! Outer products.
+ghost use Rattle.std.specs.Prelude.{◌≡◌, ◌≤◌, ◌*◌, IfErr, IfOk, IsTrue, length, map};
+ghost use Rattle.apl_array.specs.declared.array.Elem.TheVariants.{Int, Chr};
+ghost use Rattle.apl_array.specs.Valences.{has_dyadic};
+ghost use Rattle.apl_pool.specs.declared.kernel.TheConstants.{MOST_PLACES};
+ghost use Rattle.apl_pool.specs.Pool.{AreValues, IsStopOf};
+ghost use Rattle.apl_answer.specs.Rows.{Answers};
+ghost use Rattle.apl_reduce.specs.Items.{outer_number};
+ghost use Rattle.apl_reduce.specs.Products.{outer_row};
+
+use crate::dyadic::{Chosen, Dyadic, Typed};
+use crate::shapes::{characters_of, joined_shape};
+use crate::workers::Workers;
+use apl_answer::{Element, OpFault, array_from_fill};
+use apl_array::{Array, ScalarFunction, joined_index_has_place, places_match_index_lists};
+use apl_divisor::Divisor;
+use apl_pool::{Cut, Fault, Gate, Kernel, Pool, Stop};
+use apl_scalar::function_types::{Equal, Function, NotEqual};
+use apl_scalar::with_type;
+use std::alloc::Global;
+use std::marker::PhantomData;
+use std::thread::Threads;
+
+/// Each element of one list with each element of another, the right one varying fastest.
+#[derive(Drop)]
+struct EachPair<'a, T, U, F: Dyadic> {
+    left: &'a [T],
+    right: &'a [U],
+    columns: Divisor,
+    count: usize,
+    function: F,
+    ghost most: { count ≤ MOST_PLACES },
+    ghost count_is: { count ≡ length left.now * length right.now },
+    ghost columns_are: { columns ≡ length right.now },
+}
+
+impl<T: Element, U: Element, F: Dyadic> Kernel for EachPair<'_, T, U, F> {
+    ghost use Rattle.std.specs.Prelude.{map};
+    ghost use Rattle.apl_reduce.specs.Items.{outer_number};
+
+    type Out = i64;
+
+    ghost place_count = { λ k. k.count };
+
+    ghost outcome = { λ k place. outer_number (F.function k.function) (map T.elem_of k.left.now) (map U.elem_of k.right.now) place };
+
+    fn count(&self) -> usize {
+        self.count
+    }
+
+    #[inline(always)]
+    fn at(&self, place: usize) -> Result<i64, Fault> {
+        let row = self.columns.quotient(place);
+        let column = self.columns.remainder(place);
+        self.function
+            .of(self.left[row].elem(), self.right[column].elem())
+    }
+}
+
+impl<R: Threads + Sync, C: Cut + Sync, G: Gate + Sync> Workers<'_, R, C, G> {
+    /// A function of each element of one list and each element of another.
+    fn fill_outer<T: Element + Sync, U: Element + Sync, F: Dyadic + Sync>(
+        &self,
+        left: &[T],
+        right: &[U],
+        function: F,
+    ) -> Result<Vec<i64>, Stop>
+        requires { length left.now * length right.now ≤ MOST_PLACES }
+        ensures values { IfOk result (λ v. AreValues (λ place. outer_number (F.function function) (map T.elem_of left.now) (map U.elem_of right.now) place) (length left.now * length right.now) v.items) }
+        ensures stop { IfErr result (IsStopOf (λ place. outer_number (F.function function) (map T.elem_of left.now) (map U.elem_of right.now) place) (length left.now * length right.now)) }
+    {
+        let count = left.len() * right.len();
+        if count == 0 {
+            return Ok(Vec::new(self.alloc));
+        }
+        let kernel = EachPair {
+            left,
+            right,
+            columns: Divisor::new(right.len()),
+            count,
+            function,
+        };
+        self.pool.fill(self.rt, self.alloc, &kernel)
+    }
+
+    /// The same of characters, of which only `=` and `≠` give something.
+    fn fill_outer_characters(
+        &self,
+        f: ScalarFunction,
+        left: &[char],
+        right: &[char],
+    ) -> Result<Vec<i64>, Stop>
+        requires { length left.now * length right.now ≤ MOST_PLACES }
+        ensures values { IfOk result (λ v. AreValues (λ place. outer_number f (map Chr left.now) (map Chr right.now) place) (length left.now * length right.now) v.items) }
+        ensures stop { IfErr result (IsStopOf (λ place. outer_number f (map Chr left.now) (map Chr right.now) place) (length left.now * length right.now)) }
+    {
+        match f {
+            ScalarFunction::Equal => self.fill_outer(left, right, Typed::<Equal>(PhantomData)),
+            ScalarFunction::NotEqual => self.fill_outer(
+                left,
+                right,
+                Typed::<NotEqual>(PhantomData),
+            ),
+            _ => self.fill_outer(left, right, Chosen(f)),
+        }
+    }
+}
+
+/// A function of each number of one list and each number of another, compiled for that function.
+fn fill_outer_typed<F: Function + Copy + Sync, R: Threads + Sync, C: Cut + Sync, G: Gate + Sync>(
+    workers: &Workers<R, C, G>,
+    left: &[i64],
+    right: &[i64],
+) -> Result<Vec<i64>, Stop>
+    requires { length left.now * length right.now ≤ MOST_PLACES }
+    ensures values { IfOk result (λ v. AreValues (λ place. outer_number F.FUNCTION (map Int left.now) (map Int right.now) place) (length left.now * length right.now) v.items) }
+    ensures stop { IfErr result (IsStopOf (λ place. outer_number F.FUNCTION (map Int left.now) (map Int right.now) place) (length left.now * length right.now)) }
+{
+    workers.fill_outer(left, right, Typed::<F>(PhantomData))
+}
+
+/// A function of each number of one list and each number of another.
+fn fill_outer_numbers<R: Threads + Sync, C: Cut + Sync, G: Gate + Sync>(
+    workers: &Workers<R, C, G>,
+    f: ScalarFunction,
+    left: &[i64],
+    right: &[i64],
+) -> Result<Vec<i64>, Stop>
+    requires { length left.now * length right.now ≤ MOST_PLACES }
+    ensures values { IfOk result (λ v. AreValues (λ place. outer_number f (map Int left.now) (map Int right.now) place) (length left.now * length right.now) v.items) }
+    ensures stop { IfErr result (IsStopOf (λ place. outer_number f (map Int left.now) (map Int right.now) place) (length left.now * length right.now)) }
+{
+    with_type!(f, fill_outer_typed::<F, R, C, G>(workers, left, right))
+}
+
+/// A function of each element of `a` and each element of `b`.
+fn fill_outer_elements<R: Threads + Sync, C: Cut + Sync, G: Gate + Sync>(
+    workers: &Workers<R, C, G>,
+    f: ScalarFunction,
+    a: &Array,
+    b: &Array,
+) -> Result<Vec<i64>, Stop>
+    requires { length a.now.ravel * length b.now.ravel ≤ MOST_PLACES }
+    ensures values { IfOk result (λ v. AreValues (λ place. outer_number f a.now.ravel b.now.ravel place) (length a.now.ravel * length b.now.ravel) v.items) }
+    ensures stop { IfErr result (IsStopOf (λ place. outer_number f a.now.ravel b.now.ravel place) (length a.now.ravel * length b.now.ravel)) }
+{
+    match (a.numbers(), b.numbers()) {
+        (Some(left), Some(right)) => fill_outer_numbers(workers, f, left, right),
+        (Some(left), None) => workers.fill_outer(left, characters_of(b), Chosen(f)),
+        (None, Some(right)) => workers.fill_outer(characters_of(a), right, Chosen(f)),
+        (None, None) => workers.fill_outer_characters(f, characters_of(a), characters_of(b)),
+    }
+}
+
+/// A function of each element of `a` and each element of `b`. The shape is that of `a` joined with
+/// that of `b`, and is refused where it passes a limit (`Limit`), before anything is computed. Else
+/// the refusal is the fault at the least place that has one.
+pub fn outer<R: Threads + Sync, C: Cut + Sync, G: Gate + Sync>(
+    rt: &R,
+    alloc: Global,
+    pool: &Pool<C, G>,
+    f: ScalarFunction,
+    a: &Array,
+    b: &Array,
+) -> Result<Array, OpFault>
+    requires { IsTrue (has_dyadic f) }
+    ensures { Answers (outer_row f a.now b.now) result }
+{
+    places_match_index_lists();
+    joined_index_has_place();
+    // Arrays and shapes that were asked something are known to be lawful.
+    let _kinds = (a.kind(), b.kind());
+    let shape = joined_shape(alloc, a.shape().lengths(), b.shape().lengths())?;
+    let _count = shape.count();
+    let workers = Workers { rt, alloc, pool };
+    array_from_fill(shape, fill_outer_elements(&workers, f, a, b))
+}

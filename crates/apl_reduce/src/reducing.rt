@@ -1,0 +1,203 @@
+//! Reduction along an axis.
+ghost use Rattle.std.specs.Prelude.{◌≡◌, ℕ, pos, ◌<◌, ◌≤◌, List, Result, Ok, IsTrue, length, map, remove, slice_index, slice_index_or};
+ghost use Rattle.apl_array.specs.declared.array.Elem.{Elem};
+ghost use Rattle.apl_array.specs.declared.array.Elem.TheVariants.{Int};
+ghost use Rattle.apl_array.specs.declared.array.Kind.TheVariants.{Number};
+ghost use Rattle.apl_array.specs.Shape.{count_of, index_at};
+ghost use Rattle.apl_array.specs.Array.{element_in};
+ghost use Rattle.apl_array.specs.Valences.{has_dyadic};
+ghost use Rattle.apl_pool.specs.declared.kernel.Fault.{Fault};
+ghost use Rattle.apl_pool.specs.declared.kernel.TheConstants.{MOST_PLACES};
+ghost use Rattle.apl_answer.specs.Pointwise.{answer_of, IsAnswerOf};
+ghost use Rattle.apl_answer.specs.Rows.{Answers};
+ghost use Rattle.apl_scalar.specs.Scalar.{as_element, identity_of};
+ghost use Rattle.apl_reduce.specs.Folding.{identity_or_fault, reduction};
+ghost use Rattle.apl_reduce.specs.Reducing.{items_along, reduce_row};
+
+use crate::axis_items::{AxisItems, fill_character_folds, fill_number_folds};
+use crate::workers::Workers;
+use apl_answer::{Element, OpFault, array_from_fill, fill_array};
+use apl_array::{
+    Array, Axis, ScalarFunction, Shape, inserted_index_has_place, places_match_index_lists,
+    replaced_index_has_place,
+};
+use apl_pool::{Cut, Fault, Gate, Kernel, Pool};
+use apl_scalar::identity;
+use std::alloc::Global;
+use std::thread::Threads;
+
+/// The same number, or the same fault, at each place.
+#[derive(Drop)]
+struct Everywhere {
+    count: usize,
+    outcome: Result<i64, Fault>,
+    ghost most: { count ≤ MOST_PLACES },
+}
+
+impl Kernel for Everywhere {
+    type Out = i64;
+
+    ghost place_count = { λ k. k.count };
+
+    ghost outcome = { λ k place. k.outcome };
+
+    fn count(&self) -> usize {
+        self.count
+    }
+
+    fn at(&self, _place: usize) -> Result<i64, Fault> {
+        self.outcome
+    }
+}
+
+/// Each element at its own place.
+#[derive(Drop)]
+struct Untested<'a, T> {
+    elements: &'a [T],
+    fill: T,
+    ghost most: { length elements.now ≤ MOST_PLACES },
+}
+
+impl<T: Element> Kernel for Untested<'_, T> {
+    ghost use Rattle.std.specs.Prelude.{Ok, length, slice_index_or};
+
+    type Out = T;
+
+    ghost place_count = { λ k. length k.elements.now };
+
+    ghost outcome = { λ k place. Ok (slice_index_or k.elements.now place k.fill) };
+
+    fn count(&self) -> usize {
+        self.elements.len()
+    }
+
+    fn at(&self, place: usize) -> Result<T, Fault> {
+        match self.elements.get(place) {
+            Some(element) => Ok(*element),
+            None => Ok(self.fill),
+        }
+    }
+}
+
+/// What the reduction of no element gives.
+fn identity_or_fault(f: ScalarFunction) -> Result<i64, Fault>
+    ensures { as_element result ≡ identity_or_fault (identity_of f) }
+{
+    match identity(f) {
+        Some(number) => Ok(number),
+        None => Err(Fault::Domain),
+    }
+}
+
+impl<R: Threads + Sync, C: Cut + Sync, G: Gate + Sync> Workers<'_, R, C, G> {
+    /// The array of this shape with the same number at each place, or the fault.
+    pub(crate) fn everywhere(
+        &self,
+        shape: Shape,
+        outcome: Result<i64, Fault>,
+    ) -> Result<Array, OpFault>
+        ensures { (at_index : List ℕ → Result Elem Fault) → ((place : ℕ) → place < count_of shape → as_element outcome ≡ at_index (index_at shape place))
+            → IsAnswerOf (answer_of shape at_index Number) result }
+    {
+        let count = shape.count();
+        let kernel = Everywhere { count, outcome };
+        fill_array(self.rt, self.alloc, self.pool, shape, &kernel)
+    }
+
+    fn untested_elements<T: Element + Send + Sync>(
+        &self,
+        shape: Shape,
+        elements: &[T],
+    ) -> Result<Array, OpFault>
+        requires { length elements.now ≡ count_of shape }
+        ensures { (at_index : List ℕ → Result Elem Fault) → ((place : ℕ) → place < count_of shape → Ok (slice_index_or (map T.elem_of elements.now) place (Int (pos 0))) ≡ at_index (index_at shape place))
+            → IsAnswerOf (answer_of shape at_index T.kind) result }
+    {
+        // A shape that was asked something is known to be lawful.
+        let _count = shape.count();
+        let fill = T::fill();
+        let kernel = Untested { elements, fill };
+        fill_array(self.rt, self.alloc, self.pool, shape, &kernel)
+    }
+
+    /// The array of this shape with the elements of an array of as many in row order.
+    fn untested(&self, shape: Shape, b: &Array) -> Result<Array, OpFault>
+        requires { count_of shape ≡ count_of b.now.shape }
+        ensures { (at_index : List ℕ → Result Elem Fault) → ((place : ℕ) → place < count_of shape → Ok (element_in b.now place) ≡ at_index (index_at shape place))
+            → IsAnswerOf (answer_of shape at_index b.now.kind) result }
+    {
+        match b.numbers() {
+            Some(numbers) => self.untested_elements(shape, numbers),
+            None => {
+                let Some(characters) = b.characters() else {
+                    unreachable!()
+                };
+                self.untested_elements(shape, characters)
+            }
+        }
+    }
+
+    /// The array of this shape with the folds along axis `k`, of two and more items each.
+    fn fold(&self, shape: Shape, f: ScalarFunction, b: &Array, k: usize) -> Result<Array, OpFault>
+        requires axis { k < length b.now.shape }
+        requires two { 2 ≤ slice_index b.now.shape k }
+        requires shape { shape ≡ remove b.now.shape k }
+        ensures { IsAnswerOf (answer_of shape (λ index. reduction f (items_along b.now k index)) Number) result }
+    {
+        inserted_index_has_place();
+        places_match_index_lists();
+        if shape.count() == 0 {
+            return self.everywhere(shape, Ok(0));
+        }
+        let filled = match b.numbers() {
+            Some(numbers) => {
+                let axis = AxisItems::new(b, numbers, k, &shape);
+                fill_number_folds(self.rt, self.alloc, self.pool, f, &axis)
+            }
+            None => {
+                let Some(characters) = b.characters() else {
+                    unreachable!()
+                };
+                let axis = AxisItems::new(b, characters, k, &shape);
+                fill_character_folds(self.rt, self.alloc, self.pool, f, &axis)
+            }
+        };
+        array_from_fill(shape, filled)
+    }
+}
+
+/// The reduction of an array by a dyadic function along an axis, which the result lacks: the right fold
+/// of the items along it, the identity of the function where it has none (`Domain` where the function
+/// has no identity), and a single item as it is. A scalar is answered as it is. First comes whether the
+/// axis exists (`Index`), then the result's shape (`Limit`), then the fault of the least place.
+pub fn reduce<R: Threads + Sync, C: Cut + Sync, G: Gate + Sync>(
+    rt: &R,
+    alloc: Global,
+    pool: &Pool<C, G>,
+    f: ScalarFunction,
+    b: &Array,
+    axis: Axis,
+) -> Result<Array, OpFault>
+    requires { IsTrue (has_dyadic f) }
+    ensures { Answers (reduce_row f b.now axis) result }
+{
+    let workers = Workers { rt, alloc, pool };
+    let Some(k) = axis.among(b.shape().rank()) else {
+        return Err(OpFault::Index);
+    };
+    if b.shape().rank() == 0 {
+        return workers.untested(b.shape().copy(alloc)?, b);
+    }
+    let mut lengths = b.shape().lengths().to_vec(alloc)?;
+    lengths.remove(k);
+    let Ok(shape) = Shape::new(alloc, lengths.as_slice()) else {
+        return Err(OpFault::Limit);
+    };
+    inserted_index_has_place();
+    replaced_index_has_place();
+    match b.shape().axis(k) {
+        0 => workers.everywhere(shape, identity_or_fault(f)),
+        1 => workers.untested(shape, b),
+        _ => workers.fold(shape, f, b, k),
+    }
+}
