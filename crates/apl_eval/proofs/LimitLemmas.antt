@@ -147,8 +147,8 @@ module _ (scalar : ScalarAnswersWithinLimits) (structural : StructuralAnswersWit
   monadic_within origin (Plain column glyph) None b h = monadic_plain_within origin glyph b h
   monadic_within origin (Plain column glyph) (Some axis) b h =
       along_within origin (axis_number_of axis) (λ axis. monadic_along glyph axis b) (λ axis. monadic_along_within glyph axis b h)
-  monadic_within origin (Reduce column function slash_column slash) None b h = reduction_within (dyadic_function function) (default_axis slash) b h
-  monadic_within origin (Reduce column function slash_column slash) (Some axis) b h =
+  monadic_within origin (Reduce column function slash_column bar) None b h = reduction_within (dyadic_function function) (default_axis bar) b h
+  monadic_within origin (Reduce column function slash_column bar) (Some axis) b h =
       along_within origin (axis_number_of axis) (λ axis. reduction_by (dyadic_function function) axis b) (λ axis. reduction_within (dyadic_function function) axis b h)
   monadic_within origin (Inner left_column left dot right_column right) axis b h = tt
   monadic_within origin (Outer jot dot column function) axis b h = tt

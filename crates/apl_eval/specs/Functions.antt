@@ -105,8 +105,8 @@ reduction_by None axis b = Err error.Syntax
 unfoldable pub monadic_result : Origin → Form → (axis : Option ArrayValue) → (right : ArrayValue) → Result ArrayValue EvalError
 monadic_result origin (Plain column glyph) None right = monadic_plain origin glyph right
 monadic_result origin (Plain column glyph) (Some axis) right = along origin (axis_number_of axis) (λ axis. monadic_along glyph axis right)
-monadic_result origin (Reduce column function slash_column slash) None right = reduction_by (dyadic_function function) (default_axis slash) right
-monadic_result origin (Reduce column function slash_column slash) (Some axis) right = along origin (axis_number_of axis) (λ axis. reduction_by (dyadic_function function) axis right)
+monadic_result origin (Reduce column function slash_column bar) None right = reduction_by (dyadic_function function) (default_axis bar) right
+monadic_result origin (Reduce column function slash_column bar) (Some axis) right = along origin (axis_number_of axis) (λ axis. reduction_by (dyadic_function function) axis right)
 monadic_result origin _ axis right = Err error.Syntax
 
 -- ---- functions of two arguments
