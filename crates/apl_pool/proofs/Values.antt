@@ -10,7 +10,8 @@ use Rattle.apl_pool.specs.declared.kernel.Stop.{Stop}
 use Rattle.apl_pool.specs.declared.kernel.Stop.TheVariants.{Fault as FaultAt, Memory}
 use Rattle.apl_pool.specs.Pool.{AreValues, IsStopOf}
 use Rattle.std.specs.declared.vec.Vec.{Vec}
-use Rattle.apl_pool.specs.Parts.{AppendsValues, AreValuesFrom, AreWritten, IsStopFrom, IsPart}
+use Rattle.apl_pool.specs.Parts.{AreValuesFrom, IsStopFrom, IsPart}
+use Rattle.apl_pool.specs.Runs.{AppendsValues, AreWritten}
 
 some_element : {T : Type 0} → (xs : List T) → 0 < length xs → T
 some_element [] h = absurd (omega arith)
@@ -52,6 +53,27 @@ module _ {T : Type 0} (outcome : ℕ → Result T Fault) where
         ap outcome here ∙ is ∙ ap Ok (sym (get_or_push new x d (length old + k) place)))
         (cases_lt (from + k) to);
   }
+
+  -- values are put after values that were put
+  pub AppendsValues-then : (from mid to : ℕ) (old between new : List T) → from ≤ mid → mid ≤ to → AppendsValues outcome from mid old between
+      → AppendsValues outcome mid to between new → AppendsValues outcome from to old new
+  AppendsValues-then from mid to old between new low high first second = record {
+    len = omega (arith, first.len, second.len);
+    kept = λ k d h. second.kept k d (omega (arith, first.len)) ∙ first.kept k d h;
+    each = λ k d h.
+        ⊎_elim
+        (λ below. first.each k d below ∙ ap Ok (sym (second.kept (length old + k) d (omega (arith, first.len)))))
+        (λ above.
+        let same : mid + (from + k - mid) ≡ from + k = omega arith in
+        let place : length between + (from + k - mid) ≡ length old + k = omega (arith, first.len) in
+        ap outcome (sym same) ∙ second.each (from + k - mid) d (omega arith) ∙ ap (λ n. Ok (get_or new n d)) place)
+        (cases_lt (from + k) mid);
+  }
+
+  pub AppendsValues-then_ok : {X E : Type 0} (result : Result X E) (from mid to : ℕ) (old between new : List T) → from ≤ mid → mid ≤ to
+      → AppendsValues outcome from mid old between → OnOk result (AppendsValues outcome mid to between new) → OnOk result (AppendsValues outcome from to old new)
+  AppendsValues-then_ok (Ok x) from mid to old between new low high first second = AppendsValues-then from mid to old between new low high first second
+  AppendsValues-then_ok (Err e) from mid to old between new low high first second = tt
 
   -- no place that has given a value has a fault
   pub IsOk-from_appended : (from to : ℕ) (old new : List T) → from ≤ to → AppendsValues outcome from to old new
@@ -128,6 +150,26 @@ module _ {T : Type 0} (outcome : ℕ → Result T Fault) where
   IsStopFrom-longer from to end stop high first =
       IsStopFrom-wider from from from to end [] stop (omega arith) refl high (AreValuesFrom_none from) first
 
+  -- the first fault of a later stretch is that of the whole, where the places before it have given values
+  pub IsStopFrom-after_appended : (from mid to : ℕ) (old new : List T) (stop : Stop) → from ≤ mid → AppendsValues outcome from mid old new
+      → IsStopFrom outcome mid to stop → IsStopFrom outcome from to stop
+  IsStopFrom-after_appended from mid to old new (FaultAt place fault) low all first = record {
+    at_least = omega (arith, first.at_least);
+    below = first.below;
+    faulty = first.faulty;
+    earlier = λ k l h.
+        ⊎_elim
+        (λ below. IsOk-from_appended from mid old new low all k l below)
+        (λ above. first.earlier k above h)
+        (cases_lt k mid);
+  }
+  IsStopFrom-after_appended from mid to old new Memory low all first = tt
+
+  pub err_after_appended : {X : Type 0} (result : Result X Stop) (from mid to : ℕ) (old new : List T) → from ≤ mid → AppendsValues outcome from mid old new
+      → IfErr result (IsStopFrom outcome mid to) → IfErr result (IsStopFrom outcome from to)
+  err_after_appended result from mid to old new low all stops =
+      IfErr-weaker _ _ _ (λ stop later. IsStopFrom-after_appended from mid to old new stop low all later) stops
+
   -- why one worker stops is why all stop, where the workers before it have written their values
   pub err_beside : {E X : Type 0} (rest : Result X E) (one : Result X Stop) (from mid to : ℕ) (x : X) (values : List T) → from ≤ mid → rest ≡ Ok x
       → OnOk rest (AreValuesFrom outcome from mid values) → IfErr one (IsStopFrom outcome mid to) → IfErr one (IsStopFrom outcome from to)
@@ -189,6 +231,30 @@ module _ {T : Type 0} (outcome : ℕ → Result T Fault) where
             ap outcome (sym same) ∙ piece.each (n - a) d within ∙ ap Ok (sym (behind ∙ get_or_append_left new after d (n - a) within)))
             (cases_lt n a);
       }
+
+  -- values are written behind those that were
+  pub AreWritten-then : (from mid end a k : ℕ) (old new : List T) → from + a ≡ mid → a + k ≡ length old → length new ≡ k → mid ≤ end
+      → AreWritten outcome from mid old → AreWritten outcome mid end new → AreWritten outcome from end (put_mid a k old new)
+  AreWritten-then from mid end a k old new first last len order before piece =
+      let after = post_of a k old in
+      let front : length (take a old) ≡ a = length-take-le a old (omega arith) in
+      record {
+        room = omega (arith, length-append (take a old) (new ++ after), length-append new after, front, piece.room);
+        each = λ n d h.
+            ⊎_elim
+            (λ below.
+            let kept : get_or (take a old ++ (new ++ after)) n d ≡ get_or (take a old) n d = get_or_append_left (take a old) (new ++ after) d n (omega (arith, front)) in
+            before.each n d (omega arith) ∙ ap Ok (sym (kept ∙ get_or-take a old n d below)))
+            (λ above.
+            let within : n - a < length new = omega (arith, piece.room) in
+            let behind : get_or (take a old ++ (new ++ after)) n d ≡ get_or (new ++ after) (n - a) d = get_or-append_right (take a old) (new ++ after) a n d front above in
+            let same : mid + (n - a) ≡ from + n = omega arith in
+            ap outcome (sym same) ∙ piece.each (n - a) d (omega arith) ∙ ap Ok (sym (behind ∙ get_or_append_left new after d (n - a) within)))
+            (cases_lt n a);
+      }
+
+  pub AreWritten_none : (from : ℕ) (values : List T) → AreWritten outcome from from values
+  AreWritten_none from values = record { room = omega arith; each = λ k d h. absurd (omega arith) }
 
   pub AreValuesFrom-from_written : (from to : ℕ) (values : List T) → from + length values ≡ to → AreWritten outcome from to values
       → AreValuesFrom outcome from to values

@@ -1,3 +1,4 @@
 pub mod Pool
+pub mod Runs
 pub mod Parts
 pub mod Shares

@@ -19,12 +19,6 @@ module _ {T : Type 0} (outcome : ℕ → Result T Fault) where
     pub len : from + length values ≡ to
     pub each : (k : ℕ) (d : T) → k < length values → outcome (from + k) ≡ Ok (slice_index_or values k d)
 
-  -- the values at the places from `from` up to before `to` are put after the old ones
-  pub record AppendsValues (from to : ℕ) (old new : List T) : Type 0 where
-    pub len : from + length new ≡ to + length old
-    pub kept : (k : ℕ) (d : T) → k < length old → slice_index_or new k d ≡ slice_index_or old k d
-    pub each : (k : ℕ) (d : T) → from + k < to → outcome (from + k) ≡ Ok (slice_index_or new (length old + k) d)
-
   -- the first place from `from` up to before `to` that has a fault, and that fault
   pub record IsFirstFault (from to place : ℕ) (fault : Fault) : Type 0 where
     pub at_least : from ≤ place
@@ -39,8 +33,3 @@ module _ {T : Type 0} (outcome : ℕ → Result T Fault) where
   -- what a worker answers for these places
   abbrev pub IsPart : {Z : Type 0} → ℕ → ℕ → Result (Vec T Z) Stop → Type 0
   IsPart from to part = MatchResult part (λ v. AreValuesFrom from to v.items) (IsStopFrom from to)
-
-  -- the values at the places from `from` up to before `to` stand at the front of a list
-  pub record AreWritten (from to : ℕ) (values : List T) : Type 0 where
-    pub room : to ≤ from + length values
-    pub each : (k : ℕ) (d : T) → from + k < to → outcome (from + k) ≡ Ok (slice_index_or values k d)

@@ -1,6 +1,7 @@
 //! What a worker does with a piece and with its share: its values are put behind others, or into the room for them.
 ghost use Rattle.std.specs.Prelude.{◌≡◌, ℕ, ◌+◌, ◌-◌, ◌<◌, ◌≤◌, ◌^◌, OnOk, IfErr, length, slice_index, vec_len, vec_capacity};
-ghost use Rattle.apl_pool.specs.Parts.{AppendsValues, AreValuesFrom, IsStopFrom, IsPart};
+ghost use Rattle.apl_pool.specs.Parts.{AreValuesFrom, IsStopFrom, IsPart};
+ghost use Rattle.apl_pool.specs.Runs.{AppendsValues, AreWritten};
 
 use super::cut::Cut;
 use super::gate::Gate;
@@ -20,6 +21,55 @@ fn stop_at(place: usize, fault: Fault) -> Stop
     }
 }
 
+/// Puts the values of the kernel's runs behind others, up to before the place that it answers.
+fn append_runs<K: Kernel>(
+    kernel: &K,
+    from: usize,
+    to: usize,
+    values: &mut Vec<K::Out>,
+) -> usize
+    requires order { from ≤ to }
+    requires places { to ≤ K.place_count kernel.now }
+    requires room { vec_len values.old + (to - from) ≤ vec_capacity values.old }
+    ensures order { from ≤ result }
+    ensures within { result ≤ to }
+    ensures values { AppendsValues (K.outcome kernel.now) from result values.old.items values.new.items }
+    ensures capacity { vec_capacity values.new ≡ vec_capacity values.old }
+{
+    let mut place = from;
+    loop {
+        let end = kernel.append_run(place, to, values);
+        if end == place {
+            return end;
+        }
+        place = end;
+    }
+}
+
+/// Puts the values at the places from `from` up to before `to` behind others, one by one.
+fn append_places<K: Kernel>(
+    kernel: &K,
+    from: usize,
+    to: usize,
+    values: &mut Vec<K::Out>,
+) -> Result<(), Stop>
+    requires order { from ≤ to }
+    requires places { to ≤ K.place_count kernel.now }
+    requires most { to ≤ MOST_PLACES }
+    requires room { vec_len values.old + (to - from) ≤ vec_capacity values.old }
+    ensures ok { OnOk result (AppendsValues (K.outcome kernel.now) from to values.old.items values.new.items) }
+    ensures capacity { OnOk result (vec_capacity values.new ≡ vec_capacity values.old) }
+    ensures stop { IfErr result (IsStopFrom (K.outcome kernel.now) from to) }
+{
+    for place in from..to {
+        match kernel.at(place) {
+            Ok(value) => values.push_reserved(value),
+            Err(fault) => return Err(stop_at(place, fault)),
+        }
+    }
+    Ok(())
+}
+
 /// Puts the values of a piece at the end of `values`, by a worker who passes the gate first.
 fn append_piece<K: Kernel, G: Gate>(
     kernel: &K,
@@ -37,9 +87,56 @@ fn append_piece<K: Kernel, G: Gate>(
     ensures stop { IfErr result (IsStopFrom (K.outcome kernel.now) piece.from piece.to) }
 {
     gate.pass(worker, piece.number);
-    for place in piece.from..piece.to {
+    let first = append_runs(kernel, piece.from, piece.to, values);
+    append_places(kernel, first, piece.to, values)
+}
+
+/// Writes the values of the kernel's runs into the room for the places from `from` up to before `to`,
+/// up to before the place that it answers.
+fn write_runs<K: Kernel>(kernel: &K, from: usize, to: usize, room: &mut [K::Out]) -> usize
+where
+    K::Out: Copy,
+    requires places { to ≤ K.place_count kernel.now }
+    requires room { from + length room.old ≡ to }
+    ensures order { from ≤ result }
+    ensures within { result ≤ to }
+    ensures values { AreWritten (K.outcome kernel.now) from result room.new }
+    ensures len { length room.new ≡ length room.old }
+{
+    let mut place = from;
+    loop {
+        let end = kernel.write_run(place, to, &mut room[place - from..]);
+        if end == place {
+            return end;
+        }
+        place = end;
+    }
+}
+
+/// Writes the values at the places from `first` up to before `to` into the room for those from `from`
+/// on, one by one.
+fn write_places<K: Kernel>(
+    kernel: &K,
+    from: usize,
+    first: usize,
+    to: usize,
+    room: &mut [K::Out],
+) -> Result<(), Stop>
+where
+    K::Out: Copy,
+    requires order { from ≤ first }
+    requires within { first ≤ to }
+    requires places { to ≤ K.place_count kernel.now }
+    requires most { to ≤ MOST_PLACES }
+    requires room { from + length room.old ≡ to }
+    requires before { AreWritten (K.outcome kernel.now) from first room.old }
+    ensures ok { OnOk result (AreValuesFrom (K.outcome kernel.now) from to room.new) }
+    ensures stop { IfErr result (IsStopFrom (K.outcome kernel.now) from to) }
+    ensures len { length room.new ≡ length room.old }
+{
+    for place in first..to {
         match kernel.at(place) {
-            Ok(value) => values.push_reserved(value),
+            Ok(value) => room[place - from] = value,
             Err(fault) => return Err(stop_at(place, fault)),
         }
     }
@@ -64,13 +161,8 @@ where
     ensures len { length room.new ≡ length room.old }
 {
     gate.pass(worker, piece.number);
-    for place in piece.from..piece.to {
-        match kernel.at(place) {
-            Ok(value) => room[place - piece.from] = value,
-            Err(fault) => return Err(stop_at(place, fault)),
-        }
-    }
-    Ok(())
+    let first = write_runs(kernel, piece.from, piece.to, room);
+    write_places(kernel, piece.from, first, piece.to, room)
 }
 
 /// The values at all places, by one worker who has all pieces. The first one ends at `end`.

@@ -1,4 +1,4 @@
-use Rattle.std.proofs.Common.{refl, arith, rules}
+use Rattle.std.proofs.Common.{refl, arith}
 use Rattle.std.proofs.lemmas.Result.{err_from_is_err_and}
 use Rattle.apl_pool.proofs.Values.{AreValuesFrom-from_appended, IsStopFrom-wider}
 use Rattle.apl_pool.proofs.work.append_all.Goals as goal

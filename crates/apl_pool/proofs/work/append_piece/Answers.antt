@@ -1,17 +1,12 @@
-use Rattle.std.proofs.Common.{sym, arith, rules}
-use Rattle.apl_pool.proofs.Values.{AppendsValues_more, IsOk-from_appended}
+use Rattle.apl_pool.proofs.Values.{AppendsValues-then_ok, err_after_appended}
 use Rattle.apl_pool.proofs.work.append_piece.Goals as goal
 
-pub returns-in-Err-clause-stop : goal.returns-in-Err-clause-stop
-returns-in-Err-clause-stop g c = rw c.stop_at.ensures record {
-  at_least = omega arith;
-  below = omega arith;
-  faulty = sym c.in-Err.ensures;
-  earlier = IsOk-from_appended _ c.args.piece.from c.loop-place.place _ _ (omega arith) c.loop-place.invariant.0;
-}
+pub returns-clause-ok : goal.returns-clause-ok
+returns-clause-ok g c =
+    let runs = c.append_runs-first.ensures in
+    AppendsValues-then_ok _ c.append_places.result _ _ _ _ _ _ runs.order runs.within runs.values c.append_places.ensures.ok
 
-pub loop-place-preserved : goal.loop-place-preserved
-loop-place-preserved g c = (
-  rw c.push_reserved.ensures.items (AppendsValues_more _ c.args.piece.from c.loop-place.place _ _ _ (omega arith) c.loop-place.invariant.0 (sym c.in-Ok.ensures)),
-  search rules,
-)
+pub returns-clause-stop : goal.returns-clause-stop
+returns-clause-stop g c =
+    let runs = c.append_runs-first.ensures in
+    err_after_appended _ c.append_places.result _ _ _ _ _ runs.order runs.values c.append_places.ensures.stop

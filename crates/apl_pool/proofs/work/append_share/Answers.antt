@@ -1,4 +1,4 @@
-use Rattle.std.proofs.Common.{◌+◌, ◌≤◌, sym, slice_index, arith}
+use Rattle.std.proofs.Common.{◌+◌, ◌≤◌, slice_index, arith}
 use Rattle.std.proofs.lemmas.Result.{err_from_is_err_and}
 use Rattle.apl_pool.proofs.Bounds.{bounds_order}
 use Rattle.apl_pool.proofs.Values.{AreValuesFrom-from_appended, IsStopFrom-wider}

@@ -1,4 +1,4 @@
-use Rattle.std.proofs.Common.{◌+◌, ◌≤◌, slice_index, vec_capacity}
+use Rattle.std.proofs.Common.{◌≤◌, slice_index, vec_capacity}
 use Rattle.apl_pool.specs.Parts.{AreValuesFrom}
 use Rattle.apl_pool.proofs.work.append_share.Given as goal
 

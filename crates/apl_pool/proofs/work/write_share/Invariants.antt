@@ -1,5 +1,5 @@
 use Rattle.std.proofs.Common.{◌≡◌, length, slice_index}
-use Rattle.apl_pool.specs.Parts.{AreWritten}
+use Rattle.apl_pool.specs.Runs.{AreWritten}
 use Rattle.apl_pool.proofs.work.write_share.Given as goal
 
 abbrev pub invariant-loop-number : goal.invariant-loop-number

@@ -1,4 +1,4 @@
-use Rattle.std.proofs.Common.{◌≡◌, ◌*◌, ◌/◌, ◌<◌, slice_index, ap, ◌∙◌, arith, rules}
+use Rattle.std.proofs.Common.{◌≡◌, ◌*◌, ◌/◌, ◌<◌, slice_index, ap, ◌∙◌, rules}
 use Rattle.apl_pool.proofs.Bounds.{share_all}
 use Rattle.apl_pool.proofs.shares.Shares.new.Goals as goal
 

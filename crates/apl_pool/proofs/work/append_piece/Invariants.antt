@@ -1,8 +1,0 @@
-use Rattle.std.proofs.Common.{◌≡◌, vec_capacity}
-use Rattle.apl_pool.specs.Parts.{AppendsValues}
-use Rattle.apl_pool.proofs.work.append_piece.Given as goal
-
-abbrev pub invariant-loop-place : goal.invariant-loop-place
-invariant-loop-place g l =
-    AppendsValues (g.K.Kernel.outcome l.kernel) l.fn.piece.from l.place l.initial.values.items l.values.items
-    × (vec_capacity l.values ≡ vec_capacity l.initial.values)

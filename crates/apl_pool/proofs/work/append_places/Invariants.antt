@@ -1,0 +1,8 @@
+use Rattle.std.proofs.Common.{◌≡◌, vec_capacity}
+use Rattle.apl_pool.specs.Runs.{AppendsValues}
+use Rattle.apl_pool.proofs.work.append_places.Given as goal
+
+abbrev pub invariant-loop-place : goal.invariant-loop-place
+invariant-loop-place g l =
+    AppendsValues (g.K.Kernel.outcome l.kernel) l.fn.from l.place l.initial.values.items l.values.items
+    × (vec_capacity l.values ≡ vec_capacity l.initial.values)

@@ -1,0 +1,13 @@
+use Rattle.std.proofs.Common.{◌≡◌, ◌-◌, ◌≤◌, vec_capacity}
+use Rattle.apl_pool.specs.Runs.{AppendsValues}
+use Rattle.apl_pool.proofs.work.append_runs.Given as goal
+
+abbrev pub invariant-loop-place : goal.invariant-loop-place
+invariant-loop-place g l =
+    (l.from ≤ l.place)
+    × (l.place ≤ l.to)
+    × AppendsValues (g.K.Kernel.outcome l.kernel) l.from l.place l.initial.values.items l.values.items
+    × (vec_capacity l.values ≡ vec_capacity l.initial.values)
+
+abbrev pub decreases-loop-place : goal.decreases-loop-place
+decreases-loop-place g l = l.to - l.place
