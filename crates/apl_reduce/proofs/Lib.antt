@@ -3,6 +3,7 @@ pub mod Reductions
 pub mod ReducedRows
 pub mod Ends
 pub mod RowLimits
+pub mod Runs
 pub mod Casts
 pub mod Quotients
 pub mod Residues
@@ -15,6 +16,7 @@ pub mod Digits
 pub mod JudgedItems
 pub mod Joined
 pub mod OuterPlaces
+pub mod OuterRows
 pub mod InnerPlaces
 pub mod Strides
 pub mod InnerItems

@@ -17,6 +17,10 @@ item_in elements place = slice_index_or elements place (Int (pos 0))
 abbrev pub outer_number : ScalarFunction → List Elem → List Elem → ℕ → Result ℤ Fault
 outer_number f left right place = dyadic_of f (item_in left (place / length right)) (item_in right (place % length right))
 
+-- a function of one element and element k of others
+abbrev pub pair_number : ScalarFunction → Elem → List Elem → ℕ → Result ℤ Fault
+pair_number f x others k = dyadic_of f x (item_in others k)
+
 -- item k of a line, where lines and items are so far apart
 abbrev pub line_item : List Elem → ℕ → ℕ → ℕ → ℕ → Elem
 line_item elements line_stride item_stride line k = item_in elements (line * line_stride + k * item_stride)

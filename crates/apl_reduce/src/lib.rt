@@ -16,6 +16,7 @@ mod laws;
 mod layouts;
 mod meeting;
 mod outer_products;
+mod pairs;
 mod range;
 mod reducing;
 mod shapes;

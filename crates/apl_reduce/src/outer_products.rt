@@ -1,14 +1,16 @@
 //! Outer products.
-ghost use Rattle.std.specs.Prelude.{◌≡◌, ◌≤◌, ◌*◌, IfErr, IfOk, IsTrue, length, map};
+ghost use Rattle.std.specs.Prelude.{◌≡◌, ℕ, ◌+◌, ◌<◌, ◌≤◌, ◌*◌, IfErr, IfOk, IsTrue, length, map};
+ghost use Rattle.apl_array.specs.declared.function.ScalarFunction.{ScalarFunction};
 ghost use Rattle.apl_array.specs.declared.array.Elem.TheVariants.{Int, Chr};
 ghost use Rattle.apl_array.specs.Valences.{has_dyadic};
 ghost use Rattle.apl_pool.specs.declared.kernel.TheConstants.{MOST_PLACES};
 ghost use Rattle.apl_pool.specs.Pool.{AreValues, IsStopOf};
 ghost use Rattle.apl_answer.specs.Rows.{Answers};
-ghost use Rattle.apl_reduce.specs.Items.{outer_number};
+ghost use Rattle.apl_reduce.specs.Items.{outer_number, pair_number};
 ghost use Rattle.apl_reduce.specs.Products.{outer_row};
 
 use crate::dyadic::{Chosen, Dyadic, Typed};
+use crate::pairs::{append_pairs, write_pairs};
 use crate::shapes::{characters_of, joined_shape};
 use crate::workers::Workers;
 use apl_answer::{Element, OpFault, array_from_fill};
@@ -34,6 +36,27 @@ struct EachPair<'a, T, U, F: Dyadic> {
     ghost columns_are: { columns ≡ length right.now },
 }
 
+/// Rows of fewer elements are gone through place by place.
+const NARROW: usize = 8;
+
+impl<T: Element, U: Element, F: Dyadic> EachPair<'_, T, U, F> {
+    /// The left element of a place's row, and the right ones from that place on, up to before another
+    /// place or the end of the row.
+    #[inline(always)]
+    fn row_from(&self, from: usize, to: usize) -> (T, &[U])
+        requires some { from < to }
+        requires within { to ≤ self.now.count }
+        ensures within { from + length result.1.now ≤ to }
+        ensures pairs { (f : ScalarFunction) (k : ℕ) → k < length result.1.now
+            → outer_number f (map T.elem_of self.now.left.now) (map U.elem_of self.now.right.now) (from + k) ≡ pair_number f (T.elem_of result.0) (map U.elem_of result.1.now) k }
+    {
+        let column = self.columns.remainder(from);
+        let end = self.right.len().min(column + (to - from));
+        let x = self.left[self.columns.quotient(from)];
+        (x, &self.right[column..end])
+    }
+}
+
 impl<T: Element, U: Element, F: Dyadic> Kernel for EachPair<'_, T, U, F> {
     ghost use Rattle.std.specs.Prelude.{map};
     ghost use Rattle.apl_reduce.specs.Items.{outer_number};
@@ -54,6 +77,24 @@ impl<T: Element, U: Element, F: Dyadic> Kernel for EachPair<'_, T, U, F> {
         let column = self.columns.remainder(place);
         self.function
             .of(self.left[row].elem(), self.right[column].elem())
+    }
+
+    #[inline(always)]
+    fn append_run(&self, from: usize, to: usize, values: &mut Vec<i64>) -> usize {
+        if from == to || self.right.len() < NARROW {
+            return from;
+        }
+        let (x, others) = self.row_from(from, to);
+        from + append_pairs(x, others, self.function, values)
+    }
+
+    #[inline(always)]
+    fn write_run(&self, from: usize, to: usize, room: &mut [i64]) -> usize {
+        if from == to || self.right.len() < NARROW {
+            return from;
+        }
+        let (x, others) = self.row_from(from, to);
+        from + write_pairs(x, others, self.function, room)
     }
 }
 

@@ -1,0 +1,76 @@
+//! One element with each of others.
+ghost use Rattle.std.specs.Prelude.{◌≡◌, ◌+◌, ◌<◌, ◌≤◌, length, map, slice_set, vec_len, vec_capacity};
+ghost use Rattle.apl_pool.specs.Runs.{AppendsValues, AreWritten};
+ghost use Rattle.apl_reduce.specs.Items.{pair_number};
+
+use crate::dyadic::Dyadic;
+use apl_answer::Element;
+use apl_pool::Fault;
+
+/// What a function gives of one element and one of others.
+#[inline(always)]
+fn pair_at<T: Element, U: Element, F: Dyadic>(
+    x: T,
+    others: &[U],
+    k: usize,
+    function: F,
+) -> Result<i64, Fault>
+    requires { k < length others.now }
+    ensures { result ≡ pair_number (F.function function) (T.elem_of x) (map U.elem_of others.now) k }
+{
+    function.of(x.elem(), others[k].elem())
+}
+
+/// Puts a value into the room for it.
+#[inline(always)]
+pub(crate) fn put<X: Copy>(room: &mut [X], place: usize, value: X)
+    requires { place < length room.old }
+    ensures { room.new ≡ slice_set room.old place value }
+{
+    room[place] = value;
+}
+
+/// Puts what a function gives of one element and each of others behind other values, up to the first
+/// that has a fault, and answers how many they are.
+#[inline(always)]
+pub(crate) fn append_pairs<T: Element, U: Element, F: Dyadic>(
+    x: T,
+    others: &[U],
+    function: F,
+    values: &mut Vec<i64>,
+) -> usize
+    requires room { vec_len values.old + length others.now ≤ vec_capacity values.old }
+    ensures within { result ≤ length others.now }
+    ensures values { AppendsValues (pair_number (F.function function) (T.elem_of x) (map U.elem_of others.now)) 0 result values.old.items values.new.items }
+    ensures capacity { vec_capacity values.new ≡ vec_capacity values.old }
+{
+    for k in 0..others.len() {
+        match pair_at(x, others, k, function) {
+            Ok(value) => values.push_reserved(value),
+            Err(_) => return k,
+        }
+    }
+    others.len()
+}
+
+/// Writes the same into the room for them.
+#[inline(always)]
+pub(crate) fn write_pairs<T: Element, U: Element, F: Dyadic>(
+    x: T,
+    others: &[U],
+    function: F,
+    room: &mut [i64],
+) -> usize
+    requires room { length others.now ≤ length room.old }
+    ensures within { result ≤ length others.now }
+    ensures values { AreWritten (pair_number (F.function function) (T.elem_of x) (map U.elem_of others.now)) 0 result room.new }
+    ensures len { length room.new ≡ length room.old }
+{
+    for k in 0..others.len() {
+        match pair_at(x, others, k, function) {
+            Ok(value) => put(room, k, value),
+            Err(_) => return k,
+        }
+    }
+    others.len()
+}
