@@ -1,4 +1,5 @@
 pub mod Folds
+pub mod FoldedRows
 pub mod Reductions
 pub mod ReducedRows
 pub mod Ends

@@ -1,5 +1,5 @@
 -- Two and more items folded to a number. No contract of a public function cites this file.
-use Rattle.std.specs.Prelude.{ℕ, zero, suc, ℤ, pos, ◌+◌, ◌-◌, ◌*◌, ◌/◌, ◌%◌, List, Result, Ok, Err, slice_index_or}
+use Rattle.std.specs.Prelude.{◌≡◌, ℕ, zero, suc, ℤ, pos, ◌+◌, ◌-◌, ◌*◌, ◌/◌, ◌%◌, ◌<◌, List, length, Result, Ok, Err, slice_index_or}
 use Rattle.apl_array.specs.declared.array.Elem.{Elem}
 use Rattle.apl_array.specs.declared.array.Elem.TheVariants.{Int}
 use Rattle.apl_array.specs.declared.function.ScalarFunction.{ScalarFunction}
@@ -22,3 +22,8 @@ element_along elements first stride i = slice_index_or elements (first + i * str
 -- the fold of the items along an axis at a place of the result: neighbours are `inner` apart
 abbrev pub fold_at : ScalarFunction → List Elem → (items block inner place : ℕ) → Result ℤ Fault
 fold_at f elements items block inner place = folded f (element_along elements (place / inner * block + place % inner) inner) 0 (items - 2)
+
+-- the folds of item k and the `more` + 1 items behind it, at neighbouring places from `first` on
+abbrev pub AreFolds : ScalarFunction → List Elem → (first stride k more : ℕ) → List ℤ → Type 0
+AreFolds f elements first stride k more totals =
+    (j : ℕ) (d : ℤ) → j < length totals → folded f (element_along elements (first + j) stride) k more ≡ Ok (slice_index_or totals j d)

@@ -1,11 +1,13 @@
 //! The items along an axis, folded at each place of the result.
-ghost use Rattle.std.specs.Prelude.{◌≡◌, ℕ, ◌+◌, ◌-◌, ◌*◌, ◌/◌, ◌%◌, ◌<◌, ◌≤◌, IfOk, IfErr, length, map, remove, slice_index, drop};
+ghost use Rattle.std.specs.Prelude.{◌≡◌, ℕ, pos, ◌+◌, ◌-◌, ◌*◌, ◌/◌, ◌%◌, ◌<◌, ◌≤◌, ◌++◌, true, IfOk, IfErr, length, map, remove, replicate, slice_index, drop, vec_len, vec_capacity};
+ghost use Rattle.apl_pool.specs.Runs.{AreWritten};
 ghost use Rattle.apl_array.specs.declared.array.Elem.TheVariants.{Int, Chr};
 ghost use Rattle.apl_array.specs.Shape.{count_of};
 ghost use Rattle.apl_pool.specs.declared.kernel.TheConstants.{MOST_PLACES};
 ghost use Rattle.apl_pool.specs.Pool.{AreValues, IsStopOf};
 ghost use Rattle.apl_reduce.specs.Folded.{fold_at};
 
+use crate::folded_rows::{fold_last_rows, fold_rows, from_place};
 use crate::folding::fold_along;
 use apl_answer::Element;
 use apl_array::{
@@ -67,6 +69,49 @@ impl<'a, T: Element> AxisItems<'a, T> {
     }
 }
 
+/// Rows of fewer places are folded place by place.
+const NARROW: usize = 8;
+
+/// The most places whose totals are kept beside one another.
+const MOST_TOTALS: usize = 2048;
+
+impl<T> AxisItems<'_, T> {
+    /// Where the items at a place begin.
+    #[inline(always)]
+    fn first_item(&self, place: usize) -> usize
+        requires { place < self.now.count }
+        ensures { result ≡ place / self.now.inner * self.now.block + place % self.now.inner }
+    {
+        self.inner.quotient(place) * self.block + self.inner.remainder(place)
+    }
+
+    /// How many places from one on up to before another are folded together, all of them in a row.
+    fn run_length(&self, from: usize, to: usize) -> usize
+        requires order { from ≤ to }
+        requires within { to ≤ self.now.count }
+        ensures order { from + result ≤ to }
+        ensures row { 0 < result → from % self.now.inner + result ≤ self.now.inner }
+    {
+        let inner = self.inner.number();
+        if from == to || inner < NARROW {
+            return 0;
+        }
+        let rest = inner - self.inner.remainder(from);
+        rest.min(to - from).min(MOST_TOTALS)
+    }
+}
+
+/// Puts so many zeros behind other values.
+fn append_zeros(values: &mut Vec<i64>, len: usize)
+    requires { vec_len values.old + len ≤ vec_capacity values.old }
+    ensures items { values.new.items ≡ values.old.items ++ replicate len (pos 0) }
+    ensures capacity { vec_capacity values.new ≡ vec_capacity values.old }
+{
+    for _more in 0..len {
+        values.push_reserved(0);
+    }
+}
+
 /// The folds of the items at each place.
 #[derive(Drop)]
 struct Folds<'a, T, F> {
@@ -91,8 +136,51 @@ impl<T: Element, F: Function> Kernel for Folds<'_, T, F> {
     fn at(&self, place: usize) -> Result<i64, Fault> {
         let axis = self.axis;
         let stride = axis.inner.number();
-        let first = axis.inner.quotient(place) * axis.block + axis.inner.remainder(place);
-        fold_along::<F, T>(axis.elements, first, stride, axis.items)
+        fold_along::<F, T>(axis.elements, axis.first_item(place), stride, axis.items)
+    }
+
+    fn append_run(&self, from: usize, to: usize, values: &mut Vec<i64>) -> usize {
+        let len = self.axis.run_length(from, to);
+        if len == 0 {
+            return from;
+        }
+        let start = values.len();
+        append_zeros(values, len);
+        if self.fold_run(from, &mut values.as_mut_slice()[start..]) {
+            return from + len;
+        }
+        values.truncate(start);
+        from
+    }
+
+    fn write_run(&self, from: usize, to: usize, room: &mut [i64]) -> usize {
+        let len = self.axis.run_length(from, to);
+        if len == 0 || !self.fold_run(from, &mut room[..len]) {
+            return from;
+        }
+        from + len
+    }
+}
+
+impl<T: Element, F: Function> Folds<'_, T, F> {
+    /// Puts the folds at the places from `from` on, all of them in a row, in place of the totals. It
+    /// says whether no place has a fault.
+    fn fold_run(&self, from: usize, totals: &mut [i64]) -> bool
+        requires some { 0 < length totals.old }
+        requires within { from + length totals.old ≤ self.now.axis.now.count }
+        requires row { from % self.now.axis.now.inner + length totals.old ≤ self.now.axis.now.inner }
+        ensures values { result ≡ true → AreWritten (fold_at F.FUNCTION (map T.elem_of self.now.axis.now.elements.now) self.now.axis.now.items self.now.axis.now.block self.now.axis.now.inner) from (from + length totals.old) totals.new }
+        ensures len { length totals.new ≡ length totals.old }
+    {
+        let axis = self.axis;
+        let stride = axis.inner.number();
+        let first = axis.first_item(from);
+        let more = axis.items - 2;
+        let last = first + more * stride;
+        let left = from_place(axis.elements, last);
+        let right = from_place(axis.elements, last + stride);
+        fold_last_rows::<F, T>(left, right, totals)
+            && fold_rows::<F, T>(axis.elements, first, stride, more, totals)
     }
 }
 

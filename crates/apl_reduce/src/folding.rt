@@ -12,7 +12,7 @@ use apl_scalar::function_types::Function;
 
 /// The element at a place, of either kind.
 #[inline(always)]
-fn element_at<T: Element>(elements: &[T], place: usize) -> Elem
+pub(crate) fn element_at<T: Element>(elements: &[T], place: usize) -> Elem
     requires { place < length elements.now }
     ensures { result ≡ slice_index_or (map T.elem_of elements.now) place (Int (pos 0)) }
 {
@@ -21,7 +21,7 @@ fn element_at<T: Element>(elements: &[T], place: usize) -> Elem
 
 /// One more item on the left of what is folded already.
 #[inline(always)]
-fn fold_step<F: Function>(item: Elem, total: Result<i64, Fault>) -> Result<i64, Fault>
+pub(crate) fn fold_step<F: Function>(item: Elem, total: Result<i64, Fault>) -> Result<i64, Fault>
     ensures { result ≡ number_step F.FUNCTION item total }
 {
     match total {

@@ -9,6 +9,7 @@ mod carrying;
 mod decoding;
 mod dyadic;
 mod encoding;
+mod folded_rows;
 mod folding;
 mod inner_products;
 mod items;

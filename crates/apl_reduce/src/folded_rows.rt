@@ -1,0 +1,107 @@
+//! Right folds of rows that stand at equal distances, all places of a stretch at once.
+ghost use Rattle.std.specs.Prelude.{◌≡◌, ℕ, ◌+◌, ◌*◌, ◌<◌, ◌≤◌, true, Ok, pos, drop, length, map, slice_index_or};
+ghost use Rattle.apl_pool.specs.Runs.{AreWritten};
+ghost use Rattle.apl_pool.specs.declared.kernel.TheConstants.{MOST_PLACES};
+ghost use Rattle.apl_scalar.specs.Scalar.{dyadic_of};
+ghost use Rattle.apl_reduce.specs.Folded.{number_step, AreFolds};
+ghost use Rattle.apl_reduce.specs.Items.{item_in};
+
+use crate::folding::{element_at, fold_step};
+use crate::pairs::put;
+use apl_answer::Element;
+use apl_pool::Fault;
+use apl_scalar::dyadic_elements;
+use apl_scalar::function_types::Function;
+
+/// The elements from a place on.
+#[inline(always)]
+pub(crate) fn from_place<T>(elements: &[T], place: usize) -> &[T]
+    requires { place ≤ length elements.now }
+    ensures { result.now ≡ drop place elements.now }
+{
+    &elements[place..]
+}
+
+/// What the function gives of an item of the last row but one and that below it.
+#[inline(always)]
+fn last_total<F: Function, T: Element>(left: &[T], right: &[T], j: usize) -> Result<i64, Fault>
+    requires left { j < length left.now }
+    requires right { j < length right.now }
+    ensures { result ≡ dyadic_of F.FUNCTION (item_in (map T.elem_of left.now) j) (item_in (map T.elem_of right.now) j) }
+{
+    dyadic_elements::<F>(element_at(left, j), element_at(right, j))
+}
+
+/// A total with one more item on the left.
+#[inline(always)]
+fn next_total<F: Function, T: Element>(row: &[T], totals: &[i64], j: usize) -> Result<i64, Fault>
+    requires row { j < length row.now }
+    requires totals { j < length totals.now }
+    ensures { result ≡ number_step F.FUNCTION (item_in (map T.elem_of row.now) j) (Ok (slice_index_or totals.now j (pos 0))) }
+{
+    fold_step::<F>(element_at(row, j), Ok(totals[j]))
+}
+
+/// Puts what the function gives of each item of the last two rows in place of the totals. It says
+/// whether no place has a fault.
+#[inline(always)]
+pub(crate) fn fold_last_rows<F: Function, T: Element>(
+    left: &[T],
+    right: &[T],
+    totals: &mut [i64],
+) -> bool
+    requires left { length totals.old ≤ length left.now }
+    requires right { length totals.old ≤ length right.now }
+    ensures values { result ≡ true → AreWritten (λ j. dyadic_of F.FUNCTION (item_in (map T.elem_of left.now) j) (item_in (map T.elem_of right.now) j)) 0 (length totals.old) totals.new }
+    ensures len { length totals.new ≡ length totals.old }
+{
+    for j in 0..totals.len() {
+        match last_total::<F, T>(left, right, j) {
+            Ok(total) => put(totals, j, total),
+            Err(_) => return false,
+        }
+    }
+    true
+}
+
+/// Folds the items of one more row on the left into the totals. It says whether no place has a fault.
+#[inline(always)]
+fn fold_row<F: Function, T: Element>(row: &[T], totals: &mut [i64]) -> bool
+    requires { length totals.old ≤ length row.now }
+    ensures values { result ≡ true → AreWritten (λ j. number_step F.FUNCTION (item_in (map T.elem_of row.now) j) (Ok (slice_index_or totals.old j (pos 0)))) 0 (length totals.old) totals.new }
+    ensures len { length totals.new ≡ length totals.old }
+{
+    for j in 0..totals.len() {
+        match next_total::<F, T>(row, totals, j) {
+            Ok(total) => put(totals, j, total),
+            Err(_) => return false,
+        }
+    }
+    true
+}
+
+/// Folds the items of the first `more` rows into the totals of those behind them. It says whether no
+/// place has a fault.
+#[inline(always)]
+pub(crate) fn fold_rows<F: Function, T: Element>(
+    elements: &[T],
+    first: usize,
+    stride: usize,
+    more: usize,
+    totals: &mut [i64],
+) -> bool
+    requires within { first + more * stride + length totals.old ≤ length elements.now }
+    requires most { length elements.now ≤ MOST_PLACES }
+    requires folds { AreFolds F.FUNCTION (map T.elem_of elements.now) first stride more 0 totals.old }
+    ensures folds { result ≡ true → AreFolds F.FUNCTION (map T.elem_of elements.now) first stride 0 more totals.new }
+    ensures len { length totals.new ≡ length totals.old }
+{
+    let mut row = more;
+    while row > 0 {
+        row -= 1;
+        if !fold_row::<F, T>(from_place(elements, first + row * stride), totals) {
+            return false;
+        }
+    }
+    true
+}
