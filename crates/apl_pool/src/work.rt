@@ -22,12 +22,7 @@ fn stop_at(place: usize, fault: Fault) -> Stop
 }
 
 /// Puts the values of the kernel's runs behind others, up to before the place that it answers.
-fn append_runs<K: Kernel>(
-    kernel: &K,
-    from: usize,
-    to: usize,
-    values: &mut Vec<K::Out>,
-) -> usize
+fn append_runs<K: Kernel>(kernel: &K, from: usize, to: usize, values: &mut Vec<K::Out>) -> usize
     requires order { from ≤ to }
     requires places { to ≤ K.place_count kernel.now }
     requires room { vec_len values.old + (to - from) ≤ vec_capacity values.old }

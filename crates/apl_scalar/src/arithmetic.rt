@@ -1,6 +1,6 @@
 //! Exact arithmetic, refused only where the exact result leaves the range. No loop runs once for
 //! each unit of a large number.
-ghost use Rattle.std.specs.Prelude.{◌≡◌, pos, negsuc, ◌+◌, ◌%◌, ◌^◌, ◌<◌, ◌≤◌, ◌==◌, if◌then◌else◌};
+ghost use Rattle.std.specs.Prelude.{◌≡◌, pos, negsuc, ◌*ℤ◌, ◌+◌, ◌%◌, ◌^◌, ◌<◌, ◌≤◌, ◌==◌, if◌then◌else◌};
 ghost use Rattle.std.specs.Int.{int_pow};
 ghost use Rattle.apl_scalar.specs.Arithmetic.{factorial, binomial, residue};
 ghost use Rattle.apl_scalar.specs.Scalar.{exact, reciprocal, quotient, power, factorial_of, combinations};
@@ -18,6 +18,17 @@ pub(crate) fn limited(exact: Option<i64>) -> Result<i64, Fault>
         Some(value) => Ok(value),
         None => Err(Fault::Limit),
     }
+}
+
+/// `x` times `y`. Numbers of 32 bits need no test.
+#[inline(always)]
+pub(crate) fn product(x: i64, y: i64) -> Result<i64, Fault>
+    ensures { result ≡ exact (x *ℤ y) }
+{
+    if let (Ok(left), Ok(right)) = (i32::try_from(x), i32::try_from(y)) {
+        return Ok(left as i64 * right as i64);
+    }
+    limited(x.checked_mul(y))
 }
 
 /// 1 by `x`.

@@ -2,7 +2,9 @@
 //! for each function and does not choose between functions at each element.
 ghost use Rattle.apl_scalar.specs.Scalar.{bit};
 
-use crate::arithmetic::{combinations, factorial, limited, power, quotient, reciprocal, residue};
+use crate::arithmetic::{
+    combinations, factorial, limited, power, product, quotient, reciprocal, residue,
+};
 use crate::truth::{and, bit, nand, negation, nor, or};
 use apl_array::ScalarFunction;
 use apl_pool::Fault;
@@ -130,7 +132,7 @@ impl Function for Times {
 
     #[inline(always)]
     fn apply(left: i64, right: i64) -> Result<i64, Fault> {
-        limited(left.checked_mul(right))
+        product(left, right)
     }
 
     fn identity() -> Option<i64> {

@@ -1,4 +1,4 @@
-use Rattle.std.proofs.Common.{◌≡◌, ℤ, pos, Ok, map, slice_index_or, sym, ap, ◌∙◌, to_z, of_z, w64, arith, rules}
+use Rattle.std.proofs.Common.{◌≡◌, ℤ, pos, Ok, map, sym, ap, ◌∙◌, to_z, of_z, w64, arith, rules}
 use Rattle.std.proofs.lemmas.List.{get_or-set_other}
 use Rattle.apl_reduce.specs.Folded.{number_step}
 use Rattle.apl_reduce.specs.Items.{item_in}

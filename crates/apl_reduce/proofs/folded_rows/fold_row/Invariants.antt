@@ -1,4 +1,4 @@
-use Rattle.std.proofs.Common.{◌≡◌, ℕ, ℤ, pos, ◌≤◌, length, map, Ok, slice_index_or}
+use Rattle.std.proofs.Common.{◌≡◌, ℕ, pos, ◌≤◌, length, map, Ok, slice_index_or}
 use Rattle.apl_pool.specs.Runs.{AreWritten}
 use Rattle.apl_reduce.specs.Folded.{number_step}
 use Rattle.apl_reduce.specs.Items.{item_in}
