@@ -18,6 +18,7 @@ mod layouts;
 mod meeting;
 mod outer_products;
 mod pairs;
+mod quotient;
 mod range;
 mod reducing;
 mod shapes;
