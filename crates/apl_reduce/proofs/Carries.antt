@@ -3,17 +3,16 @@ use Rattle.std.proofs.Common.{◌≡◌, ◌≢◌, ℕ, zero, suc, ◌+◌, ◌
 use Rattle.std.proofs.lemmas.Int.{ints}
 use Rattle.std.proofs.lemmas.Bool.{cases_Bool, cases_lt, lt-ltb}
 use Rattle.std.proofs.lemmas.Bool.Decides.{Decides-int_eq}
+use Rattle.std.specs.Prelude.{unsigned_abs, ◌<ℤ◌}
 use Rattle.std.specs.Ordering.{int_eq}
-use Rattle.std.proofs.Math.Nat.{zero-div, zero-mod}
 use Rattle.std.proofs.Math.Seq.{drop-cons}
 use Rattle.apl_array.specs.Range.{IsInRange}
-use Rattle.apl_answer.specs.Arguments.{is_natural}
 use Rattle.apl_scalar.specs.Arithmetic.{floor_quotient}
 use Rattle.apl_reduce.specs.declared.behind.Behind.{Behind}
 use Rattle.apl_reduce.specs.declared.behind.Behind.TheVariants.{Product}
 use Rattle.apl_reduce.specs.Encoding.{carried, carry_past}
-use Rattle.apl_reduce.specs.Carrying.{carry_by, StandsFor}
-use Rattle.apl_reduce.proofs.Quotients.{floor_twice}
+use Rattle.apl_reduce.specs.Carrying.{carry_by, is_above_zero, StandsFor}
+use Rattle.apl_reduce.proofs.Quotients.{floor_twice, floor_near}
 
 -- the elements from a place on
 pub from_place : {T : Type 0} (xs : List T) (k : ℕ) (d : T) → 0 < k → k ≤ length xs → drop (k - 1) xs ≡ get_or xs (k - 1) d ∷ drop k xs
@@ -50,37 +49,35 @@ carried_some a c some =
 some_natural : (n : ℕ) → pos (suc n) ≡ pos 0 → ⊥
 some_natural n e = absurd (omega (arith, ints, e))
 
-some_negative : (n : ℕ) → negsuc n ≡ pos 0 → ⊥
-some_negative n e = absurd (omega (arith, ints, e))
-
--- nothing is carried of nothing
-pub carried_nothing : (a : ℤ) → carried a (pos 0) ≡ pos 0
-carried_nothing (pos zero) = refl
-carried_nothing (pos (suc n)) = carried_some (pos (suc n)) (pos 0) (some_natural n) ∙ ap pos (zero-div (suc n))
-carried_nothing (negsuc n) = carried_some (negsuc n) (pos 0) (some_negative n) ∙ rw (zero-div, zero-mod) refl
-
-past_radix : (behind next : Behind) (a : ℤ) (radices : List ℤ) (b : ℤ) → StandsFor behind radices → IsInRange b
-    → carry_by next b ≡ carried a (carry_by behind b) → carry_by next b ≡ carry_past (a ∷ radices) b
-past_radix behind next a radices b stands inside is = is ∙ ap (carried a) (stands.carries b inside)
+-- one radix more, in front of the others
+pub in_front : (behind next : Behind) (a : ℤ) (radices : List ℤ) → StandsFor behind radices → is_above_zero next ≡ true
+    → ((b : ℤ) → IsInRange b → carry_by next b ≡ carried a (carry_by behind b)) → StandsFor next (a ∷ radices)
+in_front behind next a radices stands above is = record {
+  above = above;
+  carries = λ b inside. is b inside ∙ ap (carried a) (stands.carries b inside);
+}
 
 -- a number by a product and then by one more radix
-radix_twice : (b : ℤ) (m n : ℕ) → carried (pos (suc n)) (floor_quotient b (pos (suc m))) ≡ floor_quotient b (pos (suc m * suc n))
-radix_twice b m n = carried_some (pos (suc n)) (floor_quotient b (pos (suc m))) (some_natural n) ∙ floor_twice b (suc m) (suc n)
+radix_twice : (b : ℤ) (m n : ℕ) → floor_quotient b (pos (suc m * suc n)) ≡ carried (pos (suc n)) (floor_quotient b (pos (suc m)))
+radix_twice b m n = sym (carried_some (pos (suc n)) (floor_quotient b (pos (suc m))) (some_natural n) ∙ floor_twice b (suc m) (suc n))
 
-pub product_step : (p a : ℤ) (radices : List ℤ) → StandsFor (Product p) radices → is_natural a ≡ true → (a ≡ pos 0 → ⊥) → StandsFor (Product (p *ℤ a)) (a ∷ radices)
-product_step p (pos zero) radices stands natural some = absurd (some refl)
-product_step (pos zero) (pos (suc n)) radices stands natural some = absurd (let e = stands.above in cc)
-product_step (negsuc m) (pos (suc n)) radices stands natural some = absurd (let e = stands.above in cc)
-product_step (pos (suc m)) (pos (suc n)) radices stands natural some =
-    record {
-      above = lt-ltb 0 (suc m * suc n) (omega arith);
-      carries = λ b inside.
-          past_radix (Product (pos (suc m))) (Product (pos (suc m * suc n))) (pos (suc n)) radices b stands inside (sym (radix_twice b m n));
-    }
-product_step p (negsuc n) radices stands natural some = absurd cc
+pub product_step : (p a : ℤ) (radices : List ℤ) → StandsFor (Product p) radices → pos 0 <ℤ a → StandsFor (Product (p *ℤ a)) (a ∷ radices)
+product_step p (pos zero) radices stands above = absurd (omega (arith, ints))
+product_step (pos zero) (pos (suc n)) radices stands above = absurd (let e = stands.above in cc)
+product_step (negsuc m) (pos (suc n)) radices stands above = absurd (let e = stands.above in cc)
+product_step (pos (suc m)) (pos (suc n)) radices stands above =
+    in_front (Product (pos (suc m))) (Product (pos (suc m * suc n))) (pos (suc n)) radices stands (lt-ltb 0 (suc m * suc n) (omega arith))
+    (λ b inside. radix_twice b m n)
+product_step p (negsuc n) radices stands above = absurd (omega (arith, ints))
 
--- where nothing is left to carry, nothing is carried past the radices in front
-pub nothing_on : (radices : List ℤ) (k : ℕ) (b : ℤ) → carry_past (drop k radices) b ≡ pos 0 → carry_past radices b ≡ pos 0
-nothing_on radices zero b none = none
-nothing_on [] (suc k) b none = none
-nothing_on (a ∷ radices) (suc k) b none = ap (carried a) (nothing_on radices k b none) ∙ carried_nothing a
+-- what is carried is no further from 0 than the number
+carried_near : (a c : ℤ) → unsigned_abs (carried a c) ≤ unsigned_abs c
+carried_near (pos zero) c = omega arith
+carried_near (pos (suc n)) c = rw (carried_some (pos (suc n)) c (some_natural n)) (floor_near c (pos (suc n)) (some_natural n))
+carried_near (negsuc n) c =
+    let some : negsuc n ≡ pos 0 → ⊥ = λ e. absurd (omega (arith, ints, e)) in
+    rw (carried_some (negsuc n) c some) (floor_near c (negsuc n) some)
+
+pub carry_near : (radices : List ℤ) (b : ℤ) → unsigned_abs (carry_past radices b) ≤ unsigned_abs b
+carry_near [] b = omega arith
+carry_near (a ∷ radices) b = let h = carried_near a (carry_past radices b) in let i = carry_near radices b in omega (arith, h, i)

@@ -1,5 +1,5 @@
 -- Numbers of 64 bits reckoned with in 128.
-use Rattle.std.proofs.Common.{◌≡◌, ◌^◌, ◌≤◌, ℤ, ◌+ℤ◌, ◌-ℤ◌, ◌*ℤ◌, FitsSigned, to_z, of_z, w64, arith}
+use Rattle.std.proofs.Common.{◌≡◌, ◌^◌, ◌≤◌, ℤ, pos, ◌≤ℤ◌, ◌+ℤ◌, ◌-ℤ◌, ◌*ℤ◌, FitsSigned, to_z, of_z, w64, arith}
 use Rattle.std.specs.Prelude.{unsigned_abs}
 use Rattle.std.specs.Int.{w128}
 use Rattle.std.proofs.lemmas.Int.{ints, to_z-of_z, fits_signed_mul, unsigned_abs-mul}
@@ -10,6 +10,10 @@ size_within x fits = omega (arith, ints)
 
 pub within_128 : (x : ℤ) → unsigned_abs x ≤ 2 ^ 63 → FitsSigned w128 x
 within_128 x near = search (arith, ints)
+
+-- a divisor, and what is added
+pub divisor_128 : (x : ℤ) → pos 0 ≤ℤ x → x ≤ℤ pos (2 ^ 65) → FitsSigned w128 x
+divisor_128 x natural most = search (arith, ints)
 
 pub product_within : (x y : ℤ) → unsigned_abs x ≤ 2 ^ 63 → unsigned_abs y ≤ 2 ^ 63 → FitsSigned w128 (x *ℤ y)
 product_within x y near nigh = fits_signed_mul w128 x y (2 ^ 63) (2 ^ 63) near nigh (omega arith)

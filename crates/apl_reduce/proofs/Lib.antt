@@ -8,6 +8,7 @@ pub mod Quotients
 pub mod Residues
 pub mod Left
 pub mod Carries
+pub mod Dividing
 pub mod Values
 pub mod Numbers
 pub mod Encoded

@@ -1,12 +1,10 @@
 -- Residues and what is carried past a radix.
-use Rattle.std.proofs.Common.{◌≡◌, ◌↔◌, FitsSigned, w64, true, Ok, ℕ, zero, suc, ◌*◌, ◌<◌, ℤ, pos, negsuc, neg_ℤ, ◌-ℤ◌, ◌*ℤ◌, refl, ⊎_elim, arith}
+use Rattle.std.proofs.Common.{◌≡◌, ℕ, zero, suc, ◌*◌, ◌<◌, ℤ, pos, negsuc, neg_ℤ, ◌-ℤ◌, ◌*ℤ◌, refl, ⊎_elim, arith}
 use Rattle.std.specs.Prelude.{◌<ℤ◌, ◌≤ℤ◌}
 use Rattle.std.specs.Int.{div_ceil}
 use Rattle.std.proofs.Math.Nat.{mod-lt}
 use Rattle.std.proofs.lemmas.Grind.{div_ceil_times}
 use Rattle.std.proofs.lemmas.Nat.{div-add-mod'}
-use Rattle.apl_array.specs.Range.{IsInRange, in_range}
-use Rattle.apl_scalar.specs.Scalar.{exact}
 use Rattle.std.specs.Ordering.{int_eq}
 use Rattle.std.proofs.lemmas.Bool.{cases_Bool}
 use Rattle.std.proofs.lemmas.Bool.Decides.{Decides-int_eq}
@@ -51,19 +49,3 @@ left_within (negsuc a) (negsuc b) some =
 
 pub residue_within : (a b : ℤ) → (a ≡ pos 0 → ⊥) → IsWithin a (residue a b)
 residue_within a b some = rw (residue_some a b some) (left_within a b some)
-
-within_fits : (a r : ℤ) → FitsSigned w64 a → IsWithin a r → FitsSigned w64 r
-within_fits (pos a) r fits within = let least = within.0 in let most = within.1 in search (arith, ints)
-within_fits (negsuc a) r fits within = let least = within.0 in let most = within.1 in search (arith, ints)
-
--- the residue of a number of 64 bits is one
-pub residue_fits : (a b : ℤ) → FitsSigned w64 a → FitsSigned w64 b → FitsSigned w64 (residue a b)
-residue_fits (pos zero) b fits fit = fit
-residue_fits (pos (suc a)) b fits fit = within_fits (pos (suc a)) _ fits (residue_within (pos (suc a)) b (λ e. absurd (omega (arith, ints, e))))
-residue_fits (negsuc a) b fits fit = within_fits (negsuc a) _ fits (residue_within (negsuc a) b (λ e. absurd (omega (arith, ints, e))))
-
--- a number that 64 bits hold is exact
-pub exact_fits : (z : ℤ) → ((z : ℤ) → (in_range z ≡ true) ↔ IsInRange z) → ((z : ℤ) → IsInRange z ↔ FitsSigned w64 z) → FitsSigned w64 z → Ok z ≡ exact z
-exact_fits z decided bits fits =
-    let inside = (decided z).1 ((bits z).1 fits) in
-    rw inside refl

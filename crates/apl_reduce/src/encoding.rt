@@ -1,92 +1,56 @@
 //! Numbers taken apart into digits in a list of radices.
 ghost use Rattle.std.specs.Prelude.{◌≡◌, ℕ, ◌+◌, ◌*◌, ◌<◌, ◌≤◌, ◌++◌, ◌⊎◌, true, false, List, Result, MatchResult, drop, length, slice_index_or};
-ghost use Rattle.std.specs.List.{list_all};
 ghost use Rattle.apl_array.specs.declared.array.Elem.{Elem};
 ghost use Rattle.apl_array.specs.declared.array.Kind.TheVariants.{Number};
 ghost use Rattle.apl_array.specs.Shape.{is_shape, count_of, index_at};
 ghost use Rattle.apl_pool.specs.declared.kernel.Fault.{Fault};
 ghost use Rattle.apl_pool.specs.declared.kernel.TheConstants.{MOST_PLACES};
 ghost use Rattle.apl_answer.specs.declared.fault.OpFault.TheVariants.{Limit, Memory};
-ghost use Rattle.apl_answer.specs.Arguments.{is_natural};
 ghost use Rattle.apl_answer.specs.Pointwise.{answer_of, IsAnswerOf};
 ghost use Rattle.apl_answer.specs.Rows.{Answers};
-ghost use Rattle.apl_reduce.specs.declared.behind.Behind.TheVariants.{Past};
+ghost use Rattle.apl_reduce.specs.declared.behind.Behind.TheVariants.{Nothing};
 ghost use Rattle.apl_reduce.specs.Encoding.{encode_row};
-ghost use Rattle.apl_reduce.specs.Carrying.{digit_in, StandsFor};
+ghost use Rattle.apl_reduce.specs.Carrying.{digit_in, digit_number, StandsFor};
 
 use crate::behind::{Behind, behind_each};
-use crate::carrying::{carry_past, digit_left};
+use crate::carrying::digit_left;
 use crate::shapes::joined_shape;
 use crate::workers::Workers;
 use apl_answer::{OpFault, fill_array};
-use apl_array::{Array, Shape, joined_index_has_place, places_match_index_lists, range_is_decided};
+use apl_array::{Array, Shape, joined_index_has_place, places_match_index_lists};
 use apl_divisor::Divisor;
 use apl_pool::{Cut, Fault, Gate, Kernel, Pool};
-use apl_scalar::function_types::{Function, Stile};
 use std::alloc::Global;
 use std::thread::Threads;
 
-/// The digits of numbers in a list of radices.
-trait Radices {
-    ghost use Rattle.std.specs.Prelude.{◌≡◌, ◌<◌, ℤ, List, length};
-    ghost use Rattle.apl_reduce.specs.Carrying.{digit_number};
-
-    ghost radices: { Self → List ℤ };
-
-    /// The digit at radix `k`.
-    fn digit(&self, k: usize, number: i64) -> Result<i64, Fault>
-        requires { k < length (radices self.now) }
-        ensures { result ≡ digit_number (radices self.now) k number };
-}
-
-/// Any radices. What is carried is walked for, from the last radix on.
-#[derive(Drop)]
-struct Walked<'a> {
-    radices: &'a [i64],
-}
-
-impl Radices for Walked<'_> {
-    ghost radices = { λ r. r.radices.now };
-
-    #[inline(always)]
-    fn digit(&self, k: usize, number: i64) -> Result<i64, Fault> {
-        digit_left(self.radices[k], carry_past(&self.radices[k + 1..], number))
-    }
-}
-
-/// Radices none of which is negative, each with what is carried past those behind it.
-#[derive(Drop)]
-struct Multiplied<'a> {
-    radices: &'a [i64],
-    behind: &'a [Behind],
-    ghost each: { length behind.now ≡ length radices.now },
-    ghost stand: { (k : ℕ) → k < length radices.now → StandsFor (slice_index_or behind.now k Past) (drop (k + 1) radices.now) },
-}
-
-impl Radices for Multiplied<'_> {
-    ghost radices = { λ r. r.radices.now };
-
-    #[inline(always)]
-    fn digit(&self, k: usize, number: i64) -> Result<i64, Fault> {
-        range_is_decided();
-        Stile::apply(self.radices[k], self.behind[k].carry(number))
-    }
-}
-
 /// The digit at each radix of each number, the numbers varying fastest.
 #[derive(Drop)]
-struct Encoding<'a, X: Radices> {
-    radices: X,
+struct Encoding<'a> {
+    radices: &'a [i64],
+    behind: &'a [Behind],
     numbers: &'a [i64],
     /// How many numbers there are, where there is a place.
     width: Divisor,
     count: usize,
     ghost most: { count ≤ MOST_PLACES },
-    ghost each: { count ≡ length (X.radices radices) * length numbers.now },
+    ghost each: { count ≡ length radices.now * length numbers.now },
     ghost apart: { 0 < count → width ≡ length numbers.now },
+    ghost behind_each: { length behind.now ≡ length radices.now },
+    ghost stand: { (k : ℕ) → k < length radices.now → StandsFor (slice_index_or behind.now k Nothing) (drop (k + 1) radices.now) },
 }
 
-impl<X: Radices> Kernel for Encoding<'_, X> {
+impl Encoding<'_> {
+    /// The digit at radix `k`.
+    #[inline(always)]
+    fn digit(&self, k: usize, number: i64) -> Result<i64, Fault>
+        requires { k < length self.now.radices.now }
+        ensures { result ≡ digit_number self.now.radices.now k number }
+    {
+        digit_left(self.radices[k], self.behind[k].carry(number))
+    }
+}
+
+impl Kernel for Encoding<'_> {
     ghost use Rattle.std.specs.Prelude.{pos, ◌/◌, ◌%◌, length, slice_index_or};
     ghost use Rattle.apl_reduce.specs.Carrying.{digit_number};
 
@@ -94,7 +58,7 @@ impl<X: Radices> Kernel for Encoding<'_, X> {
 
     ghost place_count = { λ e. e.count };
 
-    ghost outcome = { λ e place. digit_number (X.radices e.radices) (place / length e.numbers.now) (slice_index_or e.numbers.now (place % length e.numbers.now) (pos 0)) };
+    ghost outcome = { λ e place. digit_number e.radices.now (place / length e.numbers.now) (slice_index_or e.numbers.now (place % length e.numbers.now) (pos 0)) };
 
     fn count(&self) -> usize {
         self.count
@@ -104,39 +68,11 @@ impl<X: Radices> Kernel for Encoding<'_, X> {
     fn at(&self, place: usize) -> Result<i64, Fault> {
         let k = self.width.quotient(place);
         let j = self.width.remainder(place);
-        self.radices.digit(k, self.numbers[j])
+        self.digit(k, self.numbers[j])
     }
-}
-
-/// Whether no number is negative.
-fn are_natural(numbers: &[i64]) -> bool
-    ensures { result ≡ list_all is_natural numbers.now }
-{
-    numbers.iter().all(|number| *number >= 0)
 }
 
 impl<R: Threads + Sync, C: Cut + Sync, G: Gate + Sync> Workers<'_, R, C, G> {
-    /// The array of this shape of the digit at each radix of each number, by one way to find a digit.
-    fn encode_by<X: Radices + Sync + Drop>(
-        &self,
-        shape: Shape,
-        radices: X,
-        numbers: &[i64],
-    ) -> Result<Array, OpFault>
-        requires places { count_of shape ≡ length (X.radices radices) * length numbers.now }
-        requires most { length numbers.now ≤ MOST_PLACES }
-        ensures { (outcome : List ℕ → Result Elem Fault) → ((place : ℕ) → place < count_of shape → digit_in (X.radices radices) numbers.now place ≡ outcome (index_at shape place))
-            → IsAnswerOf (answer_of shape outcome Number) result }
-    {
-        let kernel = Encoding {
-            radices,
-            numbers,
-            width: Divisor::new(numbers.len().max(1)),
-            count: shape.count(),
-        };
-        fill_array(self.rt, self.alloc, self.pool, shape, &kernel)
-    }
-
     /// The array of this shape of the digit at each radix of each number.
     fn encode_numbers(
         &self,
@@ -149,12 +85,15 @@ impl<R: Threads + Sync, C: Cut + Sync, G: Gate + Sync> Workers<'_, R, C, G> {
         ensures { (outcome : List ℕ → Result Elem Fault) → ((place : ℕ) → place < count_of shape → digit_in radices.now numbers.now place ≡ outcome (index_at shape place))
             → IsAnswerOf (answer_of shape outcome Number) result }
     {
-        if !are_natural(radices) {
-            return self.encode_by(shape, Walked { radices }, numbers);
-        }
         let behind = behind_each(self.alloc, radices)?;
-        let behind = behind.as_slice();
-        self.encode_by(shape, Multiplied { radices, behind }, numbers)
+        let kernel = Encoding {
+            radices,
+            behind: behind.as_slice(),
+            numbers,
+            width: Divisor::new(numbers.len().max(1)),
+            count: shape.count(),
+        };
+        fill_array(self.rt, self.alloc, self.pool, shape, &kernel)
     }
 
     /// `Domain`, or the array of this shape where it has no elements.

@@ -16,6 +16,7 @@ mod laws;
 mod layouts;
 mod meeting;
 mod outer_products;
+mod quotient;
 mod range;
 mod reducing;
 mod shapes;

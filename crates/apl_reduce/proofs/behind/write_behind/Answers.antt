@@ -1,7 +1,7 @@
 use Rattle.std.proofs.Common.{◌≡◌, pos, ◌+◌, ◌-◌, ◌∷◌, drop, get_or, to_z, of_z, w64, subst, ◌∙◌, arith}
 use Rattle.std.proofs.lemmas.Int.{to_z-of_z}
 use Rattle.std.proofs.lemmas.List.{length-set}
-use Rattle.apl_reduce.specs.declared.behind.Behind.TheVariants.{Past}
+use Rattle.apl_reduce.specs.declared.behind.Behind.TheVariants.{Nothing}
 use Rattle.apl_reduce.specs.Carrying.{StandsFor}
 use Rattle.apl_reduce.proofs.Carries.{from_place, set_down}
 use Rattle.apl_reduce.proofs.behind.write_behind.Goals as goal
@@ -23,6 +23,6 @@ loop-k-preserved c =
       all = rw here next;
       each = length-set behind (k - 1) all ∙ kept.each;
       stand = λ j from within.
-          set_down behind (k - 1) all Past (λ i x. StandsFor x (drop (i + 1) radices)) (omega (arith, kept.each)) (rw back kept.all)
+          set_down behind (k - 1) all Nothing (λ i x. StandsFor x (drop (i + 1) radices)) (omega (arith, kept.each)) (rw back kept.all)
           (λ i later inside. kept.stand i (omega (arith, back)) (omega (arith, kept.each))) j from (omega (arith, kept.each));
     }

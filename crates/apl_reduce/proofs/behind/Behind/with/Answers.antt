@@ -1,5 +1,5 @@
-use Rattle.std.proofs.Common.{◌≡◌, pos, ◌∷◌, ◌*ℤ◌, of_z, w64, FitsSigned, sym, ap, subst, ◌∙◌, rules}
-use Rattle.std.proofs.lemmas.Int.{to_z-of_z}
+use Rattle.std.proofs.Common.{◌≡◌, pos, ◌∷◌, ◌*ℤ◌, ◌<ℤ◌, w64, FitsSigned, sym, subst, ◌∙◌, rules, arith}
+use Rattle.std.proofs.lemmas.Int.{ints, to_z-of_z}
 use Rattle.apl_reduce.specs.declared.behind.Behind.TheVariants.{Product}
 use Rattle.apl_reduce.specs.Carrying.{StandsFor}
 use Rattle.apl_reduce.proofs.Carries.{product_step}
@@ -12,8 +12,8 @@ returns-in-Some c = λ radices stands.
     let longer = c.in-Some.longer in
     let fa : FitsSigned w64 radix = c.ranges.radix in
     let fp : FitsSigned w64 product = search rules in
-    let some : radix ≡ pos 0 → ⊥ = λ none. absurd (c.if-radix-eq0.false (ap (of_z w64) none)) in
+    let above : pos 0 <ℤ radix = omega (arith, ints) in
     let before : StandsFor (Product product) radices = subst (λ x. StandsFor x radices) c.in-Product.is stands in
     let fits : FitsSigned w64 longer = search rules in
     let is : longer ≡ product *ℤ radix = rw (to_z-of_z w64 product fp, to_z-of_z w64 radix fa) at c.in-Some.ensures.1 in
-    subst (λ z. StandsFor (Product z) (radix ∷ radices)) (sym (to_z-of_z w64 longer fits ∙ is)) (product_step product radix radices before c.requires some)
+    subst (λ z. StandsFor (Product z) (radix ∷ radices)) (sym (to_z-of_z w64 longer fits ∙ is)) (product_step product radix radices before above)
