@@ -1,13 +1,10 @@
 //! Reduction along an axis.
-ghost use Rattle.std.specs.Prelude.{◌≡◌, ℕ, pos, ◌<◌, ◌≤◌, List, Result, Ok, IsTrue, length, map, remove, slice_index, slice_index_or};
+ghost use Rattle.std.specs.Prelude.{◌≡◌, ℕ, ◌<◌, ◌≤◌, List, Result, IsTrue, length, remove, slice_index};
 ghost use Rattle.apl_array.specs.declared.array.Elem.{Elem};
-ghost use Rattle.apl_array.specs.declared.array.Elem.TheVariants.{Int};
 ghost use Rattle.apl_array.specs.declared.array.Kind.TheVariants.{Number};
 ghost use Rattle.apl_array.specs.Shape.{count_of, index_at};
-ghost use Rattle.apl_array.specs.Array.{element_in};
 ghost use Rattle.apl_array.specs.Valences.{has_dyadic};
 ghost use Rattle.apl_pool.specs.declared.kernel.Fault.{Fault};
-ghost use Rattle.apl_pool.specs.declared.kernel.TheConstants.{MOST_PLACES};
 ghost use Rattle.apl_answer.specs.Pointwise.{answer_of, IsAnswerOf};
 ghost use Rattle.apl_answer.specs.Rows.{Answers};
 ghost use Rattle.apl_scalar.specs.Scalar.{as_element, identity_of};
@@ -16,68 +13,15 @@ ghost use Rattle.apl_reduce.specs.Reducing.{items_along, reduce_row};
 
 use crate::axis_items::{AxisItems, fill_character_folds, fill_number_folds};
 use crate::workers::Workers;
-use apl_answer::{Element, OpFault, array_from_fill, fill_array};
+use apl_answer::{OpFault, array_from_fill, array_of_elements, fill_uniform};
 use apl_array::{
     Array, Axis, ScalarFunction, Shape, inserted_index_has_place, places_match_index_lists,
     replaced_index_has_place,
 };
-use apl_pool::{Cut, Fault, Gate, Kernel, Pool};
+use apl_pool::{Cut, Fault, Gate, Pool};
 use apl_scalar::identity;
 use std::alloc::Global;
 use std::thread::Threads;
-
-/// The same number, or the same fault, at each place.
-#[derive(Drop)]
-struct Everywhere {
-    count: usize,
-    outcome: Result<i64, Fault>,
-    ghost most: { count ≤ MOST_PLACES },
-}
-
-impl Kernel for Everywhere {
-    type Out = i64;
-
-    ghost place_count = { λ k. k.count };
-
-    ghost outcome = { λ k place. k.outcome };
-
-    fn count(&self) -> usize {
-        self.count
-    }
-
-    fn at(&self, _place: usize) -> Result<i64, Fault> {
-        self.outcome
-    }
-}
-
-/// Each element at its own place.
-#[derive(Drop)]
-struct Untested<'a, T> {
-    elements: &'a [T],
-    fill: T,
-    ghost most: { length elements.now ≤ MOST_PLACES },
-}
-
-impl<T: Element> Kernel for Untested<'_, T> {
-    ghost use Rattle.std.specs.Prelude.{Ok, length, slice_index_or};
-
-    type Out = T;
-
-    ghost place_count = { λ k. length k.elements.now };
-
-    ghost outcome = { λ k place. Ok (slice_index_or k.elements.now place k.fill) };
-
-    fn count(&self) -> usize {
-        self.elements.len()
-    }
-
-    fn at(&self, place: usize) -> Result<T, Fault> {
-        match self.elements.get(place) {
-            Some(element) => Ok(*element),
-            None => Ok(self.fill),
-        }
-    }
-}
 
 /// What the reduction of no element gives.
 fn identity_or_fault(f: ScalarFunction) -> Result<i64, Fault>
@@ -99,42 +43,8 @@ impl<R: Threads + Sync, C: Cut + Sync, G: Gate + Sync> Workers<'_, R, C, G> {
         ensures { (at_index : List ℕ → Result Elem Fault) → ((place : ℕ) → place < count_of shape → as_element outcome ≡ at_index (index_at shape place))
             → IsAnswerOf (answer_of shape at_index Number) result }
     {
-        let count = shape.count();
-        let kernel = Everywhere { count, outcome };
-        fill_array(self.rt, self.alloc, self.pool, shape, &kernel)
-    }
-
-    fn untested_elements<T: Element + Send + Sync>(
-        &self,
-        shape: Shape,
-        elements: &[T],
-    ) -> Result<Array, OpFault>
-        requires { length elements.now ≡ count_of shape }
-        ensures { (at_index : List ℕ → Result Elem Fault) → ((place : ℕ) → place < count_of shape → Ok (slice_index_or (map T.elem_of elements.now) place (Int (pos 0))) ≡ at_index (index_at shape place))
-            → IsAnswerOf (answer_of shape at_index T.kind) result }
-    {
-        // A shape that was asked something is known to be lawful.
-        let _count = shape.count();
-        let fill = T::fill();
-        let kernel = Untested { elements, fill };
-        fill_array(self.rt, self.alloc, self.pool, shape, &kernel)
-    }
-
-    /// The array of this shape with the elements of an array of as many in row order.
-    fn untested(&self, shape: Shape, b: &Array) -> Result<Array, OpFault>
-        requires { count_of shape ≡ count_of b.now.shape }
-        ensures { (at_index : List ℕ → Result Elem Fault) → ((place : ℕ) → place < count_of shape → Ok (element_in b.now place) ≡ at_index (index_at shape place))
-            → IsAnswerOf (answer_of shape at_index b.now.kind) result }
-    {
-        match b.numbers() {
-            Some(numbers) => self.untested_elements(shape, numbers),
-            None => {
-                let Some(characters) = b.characters() else {
-                    unreachable!()
-                };
-                self.untested_elements(shape, characters)
-            }
-        }
+        let filled = fill_uniform(self.rt, self.alloc, self.pool, shape.count(), outcome);
+        array_from_fill(shape, filled)
     }
 
     /// The array of this shape with the folds along axis `k`, of two and more items each.
@@ -186,7 +96,7 @@ pub fn reduce<R: Threads + Sync, C: Cut + Sync, G: Gate + Sync>(
         return Err(OpFault::Index);
     };
     if b.shape().rank() == 0 {
-        return workers.untested(b.shape().copy(alloc)?, b);
+        return array_of_elements(rt, alloc, pool, b.shape().copy(alloc)?, b);
     }
     let mut lengths = b.shape().lengths().to_vec(alloc)?;
     lengths.remove(k);
@@ -197,7 +107,7 @@ pub fn reduce<R: Threads + Sync, C: Cut + Sync, G: Gate + Sync>(
     replaced_index_has_place();
     match b.shape().axis(k) {
         0 => workers.everywhere(shape, identity_or_fault(f)),
-        1 => workers.untested(shape, b),
+        1 => array_of_elements(rt, alloc, pool, shape, b),
         _ => workers.fold(shape, f, b, k),
     }
 }

@@ -1,5 +1,5 @@
 -- The scalar functions, over exact whole numbers and characters, one line a function.
-use Rattle.std.specs.Prelude.{ℤ, pos, negsuc, neg_ℤ, ◌+ℤ◌, ◌-ℤ◌, ◌*ℤ◌, ◌%◌, Bool, true, false, not, ◌&&◌, ◌||◌, ◌==◌, int_lt, int_le, int_div, int_rem, unsigned_abs, Result, Ok, Err, Option, Some, None, if◌then◌else◌}
+use Rattle.std.specs.Prelude.{ℤ, pos, negsuc, neg_ℤ, ◌+ℤ◌, ◌-ℤ◌, ◌*ℤ◌, ◌%◌, Bool, false, not, ◌&&◌, ◌||◌, ◌==◌, int_lt, int_le, int_div, int_rem, unsigned_abs, Result, Ok, Err, Option, Some, None, if◌then◌else◌}
 use Rattle.std.specs.Int.{int_min, int_max, int_signum, int_pow, is_negative}
 use Rattle.std.specs.Ordering.{int_eq}
 use Rattle.apl_array.specs.declared.array.Elem.{Elem}

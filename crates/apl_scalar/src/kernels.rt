@@ -64,27 +64,3 @@ impl<L: Operand, R: Operand, F: Function> Kernel for PairsKernel<L, R, F> {
         dyadic_elements::<F>(self.left.at(place), self.right.at(place))
     }
 }
-
-/// The same number, or the same fault, at each place.
-#[derive(Drop)]
-pub(crate) struct UniformKernel {
-    pub count: usize,
-    pub outcome: Result<i64, Fault>,
-    ghost most: { count ≤ MOST_PLACES },
-}
-
-impl Kernel for UniformKernel {
-    type Out = i64;
-
-    ghost place_count = { λ k. k.count };
-
-    ghost outcome = { λ k place. k.outcome };
-
-    fn count(&self) -> usize {
-        self.count
-    }
-
-    fn at(&self, _place: usize) -> Result<i64, Fault> {
-        self.outcome
-    }
-}

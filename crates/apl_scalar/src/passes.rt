@@ -7,10 +7,10 @@ ghost use Rattle.apl_scalar.specs.Scalar.{monadic_number, dyadic_of};
 ghost use Rattle.apl_scalar.specs.Operands.{pair_at};
 
 use crate::function_types::{Equal, Function, NotEqual};
-use crate::kernels::{NumberKernel, PairsKernel, UniformKernel};
+use crate::kernels::{NumberKernel, PairsKernel};
 use crate::operands::{Operand, Pairs, Value, Whole};
 use crate::with_type;
-use apl_answer::Element;
+use apl_answer::{Element, fill_uniform};
 use apl_array::ScalarFunction;
 use apl_pool::{Cut, Fault, Gate, Pool, Stop};
 use std::alloc::Global;
@@ -85,22 +85,6 @@ fn fill_pairs<
         let left = Value(pairs.left[0]);
         fill_operands::<F, Value<T>, Whole<T>, R, C, G>(rt, alloc, pool, left, right, pairs.count)
     }
-}
-
-/// The same at each place.
-pub(crate) fn fill_uniform<R: Threads + Sync, C: Cut + Sync, G: Gate + Sync>(
-    rt: &R,
-    alloc: Global,
-    pool: &Pool<C, G>,
-    count: usize,
-    outcome: Result<i64, Fault>,
-) -> Result<Vec<i64>, Stop>
-    requires { count ≤ MOST_PLACES }
-    ensures values { IfOk result (λ v. AreValues (λ place. outcome) count v.items) }
-    ensures stop { IfErr result (IsStopOf (λ place. outcome) count) }
-{
-    let kernel = UniformKernel { count, outcome };
-    pool.fill(rt, alloc, &kernel)
 }
 
 /// A monadic function of each number.

@@ -29,3 +29,4 @@ pub mod Bits
 pub mod AsVectors
 pub mod FirstPlaces
 pub mod Searches
+pub mod Origins

@@ -1,7 +1,7 @@
 //! Shapes, elements in row order, other shapes, and numbers from the origin.
 ghost use Rattle.std.specs.Prelude.{◌≡◌, ◌≤◌, ◌<◌, ◌==◌, ◌⊎◌, ◌||◌, [], ◌∷◌, map, not, true, false, Ok, MatchResult};
 ghost use Rattle.std.specs.List.{list_all};
-ghost use Rattle.apl_array.specs.Axes.{origin_number, place_number};
+ghost use Rattle.apl_array.specs.Axes.{place_number};
 ghost use Rattle.apl_array.specs.Shape.{is_shape, count_of, place_of};
 ghost use Rattle.apl_array.specs.Array.{element_in};
 ghost use Rattle.apl_array.specs.declared.shape.TheConstants.{MOST_ELEMENTS};
@@ -224,16 +224,6 @@ pub fn reshape<R: Threads + Sync, C: Cut + Sync, G: Gate + Sync>(
     workers.gather_round(shape, b)
 }
 
-/// The number of the first index.
-pub(crate) fn origin_number(origin: Origin) -> usize
-    ensures { result ≡ origin_number origin }
-{
-    match origin {
-        Origin::Zero => 0,
-        Origin::One => 1,
-    }
-}
-
 /// Numbers one after the other.
 #[derive(Drop)]
 struct Consecutive {
@@ -287,6 +277,6 @@ pub fn iota<R: Threads + Sync, C: Cut + Sync, G: Gate + Sync>(
     }
     let shape = shape_with(alloc, numbers)?;
     let count = shape.count();
-    let first = origin_number(origin);
+    let first = origin.number() as usize;
     fill_array(rt, alloc, pool, shape, &Consecutive { count, first })
 }

@@ -11,7 +11,6 @@ ghost use Rattle.apl_answer.specs.Rows.{Answers};
 ghost use Rattle.apl_struct.specs.Finding.{found_outcome, member_outcome};
 ghost use Rattle.apl_struct.specs.Searching.{index_of_row, member_row};
 
-use crate::building::origin_number;
 use crate::finding::{Sorted, Sought};
 use crate::workers::Workers;
 use apl_answer::{OpFault, fill_array};
@@ -123,7 +122,7 @@ impl<R: Threads + Sync, C: Cut + Sync, G: Gate + Sync> Workers<'_, R, C, G> {
     {
         places_match_index_lists();
         let list = Sorted::new(self.alloc, list)?;
-        let first = origin_number(origin);
+        let first = origin.number() as usize;
         let shape = b.shape().copy(self.alloc)?;
         let kernel = FirstPlaces {
             elements,
@@ -183,7 +182,7 @@ pub fn index_of<R: Threads + Sync, C: Cut + Sync, G: Gate + Sync>(
         return Err(OpFault::Rank);
     }
     places_match_index_lists();
-    let past = origin_number(origin) + a.shape().count();
+    let past = origin.number() as usize + a.shape().count();
     if let Some(list) = a.numbers() {
         let Some(elements) = b.numbers() else {
             return workers.everywhere(b, past);

@@ -8,6 +8,7 @@ use Rattle.apl_answer.specs.Pointwise.{answer_of}
 use Rattle.apl_struct.specs.Building.{iota_row}
 use Rattle.apl_struct.proofs.Elements.{only_number}
 use Rattle.apl_struct.proofs.Passing.{answered}
+use Rattle.apl_struct.proofs.Origins.{origin_cast}
 use Rattle.apl_struct.proofs.Vectors.{vector_place, vector_index}
 use Rattle.apl_struct.proofs.building.iota.Goals as goal
 
@@ -25,7 +26,7 @@ returns g c =
     let lengths : map place_number c.in-Some.numbers.now ≡ length ∷ [] = ap (map place_number) (sym numbers) ∙ only_number n c.shape.ensures.lawful one in
     let shapes : c.in_ok-shape.shape ≡ length ∷ [] = c.in_ok-shape.ensures.1 ∙ lengths in
     let lawful : is_shape (length ∷ []) ≡ true = ap is_shape (sym lengths) ∙ c.in_ok-shape.ensures.0 in
-    let first : c.origin_number-first.result ≡ origin_number origin = search rules in
+    let first = origin_cast origin c.number-first.result c.number-first.ensures.value in
     answered row.checks (answer_of row.shape row.outcome row.kind) c.fill_array.result (list, (one_element, (c.in-Some.ensures.0, (natural, (lawful, tt)))))
     (rw shapes at
     (c.fill_array.ensures (λ index. Ok (Int (pos (origin_number origin + slice_index index 0))))

@@ -1,4 +1,5 @@
-use Rattle.std.proofs.Common.{◌≡◌, ◌==◌, ◌+◌, true, map, ap, sym, subst, ◌∙◌, eq-eqb, rules}
+use Rattle.std.proofs.Common.{◌≡◌, ◌==◌, ◌+◌, true, map, to_z, of_z, w64, ap, sym, subst, ◌∙◌, eq-eqb, rules}
+use Rattle.std.specs.Prelude.{unsigned_abs}
 use Rattle.std.proofs.lemmas.Bool.{true≢false}
 use Rattle.apl_array.specs.declared.array.Elem.TheVariants.{Int, Chr}
 use Rattle.apl_array.specs.declared.array.Kind.TheVariants.{Number, Character}
@@ -7,6 +8,7 @@ use Rattle.apl_array.specs.Shape.{count_of}
 use Rattle.apl_answer.specs.Arguments.{rank_of}
 use Rattle.apl_answer.specs.Pointwise.{answer_of, IsAnswerOf}
 use Rattle.apl_struct.specs.Finding.{found_outcome}
+use Rattle.apl_struct.proofs.Origins.{origin_cast}
 use Rattle.apl_struct.proofs.Searches.{past_the_end}
 use Rattle.apl_struct.proofs.searching.index_of.Goals as goal
 
@@ -33,7 +35,8 @@ returns-in_default-numbers g c =
     let vector : (rank_of a == 1) ≡ true = eq-eqb (rank_of a) 1 (search rules) in
     let numbers : a.kind ≡ Number = ap (λ v. v.kind) c.in-Some.ensures.numbers in
     let differ : a.kind ≡ b.kind → ⊥ = λ e. true≢false (sym (c.in_default-numbers.ensures.kind.1 (sym e ∙ numbers))) in
-    let past : c.origin_number.result + c.count.result ≡ origin_number c.args.origin + count_of a.shape = rw (c.origin_number.ensures, c.count.ensures.count) (search rules) in
+    let first = origin_cast c.args.origin c.number.result c.number.ensures.value in
+    let past : unsigned_abs (to_z w64 (of_z w64 c.number.result)) + c.count.result ≡ origin_number c.args.origin + count_of a.shape = rw (first, c.count.ensures.count) (search rules) in
     rw vector
     (c.everywhere.ensures (found_outcome a.ravel b c.args.origin) (λ place inside.
     let same = c.places_match_index_lists.ensures.same_place b.shape place inside in
@@ -46,7 +49,8 @@ returns-in_default-characters-2 g c =
     let vector : (rank_of a == 1) ≡ true = eq-eqb (rank_of a) 1 (search rules) in
     let characters : a.kind ≡ Character = ap (λ v. v.kind) c.in-Some-characters.ensures.characters in
     let differ : a.kind ≡ b.kind → ⊥ = λ e. true≢false (sym (c.in_default-characters-2.ensures.kind.1 (sym e ∙ characters))) in
-    let past : c.origin_number.result + c.count.result ≡ origin_number c.args.origin + count_of a.shape = rw (c.origin_number.ensures, c.count.ensures.count) (search rules) in
+    let first = origin_cast c.args.origin c.number.result c.number.ensures.value in
+    let past : unsigned_abs (to_z w64 (of_z w64 c.number.result)) + c.count.result ≡ origin_number c.args.origin + count_of a.shape = rw (first, c.count.ensures.count) (search rules) in
     rw vector
     (c.everywhere-in_default-characters-2.ensures (found_outcome a.ravel b c.args.origin) (λ place inside.
     let same = c.places_match_index_lists.ensures.same_place b.shape place inside in

@@ -4,6 +4,7 @@ use Rattle.apl_array.specs.Array.{element_at, element_in}
 use Rattle.apl_array.specs.Shape.{count_of, index_at}
 use Rattle.apl_answer.specs.Pointwise.{answer_of, IsAnswerOf}
 use Rattle.apl_struct.specs.Finding.{element_of, found_outcome}
+use Rattle.apl_struct.proofs.Origins.{origin_cast}
 use Rattle.apl_struct.proofs.workers.Workers.first_places.Goals as goal
 
 pub returns : goal.returns
@@ -19,4 +20,4 @@ returns g c =
     let at : element_of (map elem_of c.args.elements.now) place ≡ element_at b (index_at shape place) =
     ap (λ r. element_of r place) (sym c.requires.ravel) ∙ ap (element_in b) (sym (c.places_match_index_lists.ensures.same_place b.shape place here))
     ∙ ap (λ s. element_at b (index_at s place)) (sym shapes) in
-    rw (at, c.in_ok-list.ensures, c.origin_number-first.ensures) refl))
+    rw (at, c.in_ok-list.ensures, origin_cast c.args.origin c.number-first.result c.number-first.ensures.value) refl))

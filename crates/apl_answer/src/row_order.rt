@@ -1,0 +1,91 @@
+//! The elements of an array in row order, in another shape.
+ghost use Rattle.std.specs.Prelude.{◌≡◌, ℕ, pos, ◌<◌, ◌≤◌, List, Result, Ok, length, map, slice_index_or};
+ghost use Rattle.apl_array.specs.declared.array.Elem.{Elem};
+ghost use Rattle.apl_array.specs.declared.array.Elem.TheVariants.{Int};
+ghost use Rattle.apl_array.specs.Array.{element_in};
+ghost use Rattle.apl_array.specs.Shape.{count_of, index_at};
+ghost use Rattle.apl_pool.specs.declared.kernel.Fault.{Fault};
+ghost use Rattle.apl_pool.specs.declared.kernel.TheConstants.{MOST_PLACES};
+ghost use Rattle.apl_answer.specs.Pointwise.{answer_of, IsAnswerOf};
+
+use crate::element::Element;
+use crate::fault::OpFault;
+use crate::fill::fill_array;
+use apl_array::{Array, Shape};
+use apl_pool::{Cut, Fault, Gate, Kernel, Pool};
+use std::alloc::Global;
+use std::thread::Threads;
+
+/// Each element at its own place, and the fill past the last.
+#[derive(Drop)]
+struct RowOrder<'a, T> {
+    elements: &'a [T],
+    fill: T,
+    count: usize,
+    ghost most: { count ≤ MOST_PLACES },
+}
+
+impl<T: Element> Kernel for RowOrder<'_, T> {
+    ghost use Rattle.std.specs.Prelude.{Ok, slice_index_or};
+
+    type Out = T;
+
+    ghost place_count = { λ k. k.count };
+
+    ghost outcome = { λ k place. Ok (slice_index_or k.elements.now place k.fill) };
+
+    fn count(&self) -> usize {
+        self.count
+    }
+
+    #[inline(always)]
+    fn at(&self, place: usize) -> Result<T, Fault> {
+        match self.elements.get(place) {
+            Some(element) => Ok(*element),
+            None => Ok(self.fill),
+        }
+    }
+}
+
+fn in_row_order<T: Element + Send + Sync, R: Threads + Sync, C: Cut + Sync, G: Gate + Sync>(
+    rt: &R,
+    alloc: Global,
+    pool: &Pool<C, G>,
+    shape: Shape,
+    elements: &[T],
+) -> Result<Array, OpFault>
+    requires { count_of shape ≤ length elements.now }
+    ensures { (outcome : List ℕ → Result Elem Fault) → ((place : ℕ) → place < count_of shape → Ok (slice_index_or (map T.elem_of elements.now) place (Int (pos 0))) ≡ outcome (index_at shape place))
+        → IsAnswerOf (answer_of shape outcome T.kind) result }
+{
+    let kernel = RowOrder {
+        elements,
+        fill: T::fill(),
+        count: shape.count(),
+    };
+    fill_array(rt, alloc, pool, shape, &kernel)
+}
+
+/// The array of this shape with the elements of an array in row order, of which it takes no more than
+/// there are.
+pub fn array_of_elements<R: Threads + Sync, C: Cut + Sync, G: Gate + Sync>(
+    rt: &R,
+    alloc: Global,
+    pool: &Pool<C, G>,
+    shape: Shape,
+    b: &Array,
+) -> Result<Array, OpFault>
+    requires { count_of shape ≤ count_of b.now.shape }
+    ensures { (outcome : List ℕ → Result Elem Fault) → ((place : ℕ) → place < count_of shape → Ok (element_in b.now place) ≡ outcome (index_at shape place))
+        → IsAnswerOf (answer_of shape outcome b.now.kind) result }
+{
+    match b.numbers() {
+        Some(numbers) => in_row_order(rt, alloc, pool, shape, numbers),
+        None => {
+            let Some(characters) = b.characters() else {
+                unreachable!()
+            };
+            in_row_order(rt, alloc, pool, shape, characters)
+        }
+    }
+}

@@ -1,0 +1,48 @@
+//! The same at each place.
+ghost use Rattle.std.specs.Prelude.{◌≡◌, ◌≤◌, IfOk, IfErr};
+ghost use Rattle.apl_pool.specs.declared.kernel.TheConstants.{MOST_PLACES};
+ghost use Rattle.apl_pool.specs.Pool.{AreValues, IsStopOf};
+
+use apl_pool::{Cut, Fault, Gate, Kernel, Pool, Stop};
+use std::alloc::Global;
+use std::thread::Threads;
+
+/// The same number, or the same fault, at each place.
+#[derive(Drop)]
+struct Uniform {
+    count: usize,
+    outcome: Result<i64, Fault>,
+    ghost most: { count ≤ MOST_PLACES },
+}
+
+impl Kernel for Uniform {
+    type Out = i64;
+
+    ghost place_count = { λ k. k.count };
+
+    ghost outcome = { λ k place. k.outcome };
+
+    fn count(&self) -> usize {
+        self.count
+    }
+
+    #[inline(always)]
+    fn at(&self, _place: usize) -> Result<i64, Fault> {
+        self.outcome
+    }
+}
+
+/// The same number at so many places, or the same fault at the first.
+pub fn fill_uniform<R: Threads + Sync, C: Cut + Sync, G: Gate + Sync>(
+    rt: &R,
+    alloc: Global,
+    pool: &Pool<C, G>,
+    count: usize,
+    outcome: Result<i64, Fault>,
+) -> Result<Vec<i64>, Stop>
+    requires { count ≤ MOST_PLACES }
+    ensures values { IfOk result (λ v. AreValues (λ place. outcome) count v.items) }
+    ensures stop { IfErr result (IsStopOf (λ place. outcome) count) }
+{
+    pool.fill(rt, alloc, &Uniform { count, outcome })
+}
