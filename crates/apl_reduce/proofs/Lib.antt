@@ -19,4 +19,6 @@ pub mod InnerPlaces
 pub mod Strides
 pub mod InnerItems
 pub mod Passing
+pub mod Distances
+pub mod Adding
 pub mod Examples

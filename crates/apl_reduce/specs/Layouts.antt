@@ -1,5 +1,5 @@
 -- How the items of an inner product lie in its arguments. No contract of a public function cites this file.
-use Rattle.std.specs.Prelude.{ℕ, ℤ, ◌+◌, ◌*◌, ◌/◌, ◌%◌, ◌<◌, ◌≤◌, List, Result}
+use Rattle.std.specs.Prelude.{ℕ, ℤ, pos, ◌+◌, ◌*◌, ◌*ℤ◌, ◌/◌, ◌%◌, ◌<◌, ◌≤◌, List, Result, slice_index_or}
 use Rattle.apl_array.specs.declared.array.Elem.{Elem}
 use Rattle.apl_array.specs.declared.function.ScalarFunction.{ScalarFunction}
 use Rattle.apl_pool.specs.declared.kernel.Fault.{Fault}
@@ -29,3 +29,7 @@ module _ (layout : Layout) (left right : List Elem) where
   -- what the inner product has at a place
   abbrev pub inner_number : ScalarFunction → ScalarFunction → ℕ → Result ℤ Fault
   inner_number f g place = as_number (judged_items (inner_item g place) f layout.items)
+
+-- the product of the numbers that meet as item k, at a place
+abbrev pub product_at : Layout → List ℤ → List ℤ → ℕ → ℕ → ℤ
+product_at layout left right place k = slice_index_or left (left_place layout place k) (pos 0) *ℤ slice_index_or right (right_place layout place k) (pos 0)

@@ -14,11 +14,13 @@ mod inner_products;
 mod items;
 mod laws;
 mod layouts;
+mod magnitudes;
 mod meeting;
 mod outer_products;
 mod range;
 mod reducing;
 mod shapes;
+mod sums;
 mod workers;
 
 pub use decoding::decode;
