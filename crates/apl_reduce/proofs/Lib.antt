@@ -21,4 +21,5 @@ pub mod InnerItems
 pub mod Passing
 pub mod Distances
 pub mod Adding
+pub mod Reordered
 pub mod Examples

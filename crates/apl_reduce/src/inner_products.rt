@@ -196,6 +196,27 @@ impl<R: Threads + Sync, C: Cut + Sync, G: Gate + Sync> Workers<'_, R, C, G> {
         }
     }
 
+    /// An inner product of numbers. The right ones are brought into the order of their columns first where that is repaid.
+    fn fill_inner_ordered(
+        &self,
+        f: ScalarFunction,
+        g: ScalarFunction,
+        layout: &Layout,
+        left: &[i64],
+        right: &[i64],
+    ) -> Result<Vec<i64>, Stop>
+        requires { IsWithin layout.now (length left.now) (length right.now) }
+        ensures values { IfOk result (λ v. AreValues (inner_number layout.now (map Int left.now) (map Int right.now) f g) layout.now.count v.items) }
+        ensures stop { IfErr result (IsStopOf (inner_number layout.now (map Int left.now) (map Int right.now) f g) layout.now.count) }
+    {
+        if !layout.repays_an_order() {
+            return self.fill_inner_numbers(f, g, layout, left, right);
+        }
+        let columns = self.fill_columns(layout, right)?;
+        let ordered = layout.by_columns();
+        self.fill_inner_numbers(f, g, &ordered, left, columns.as_slice())
+    }
+
     /// An inner product of characters, which only `=` and `≠` give items of.
     fn fill_inner_characters(
         &self,
@@ -231,7 +252,7 @@ impl<R: Threads + Sync, C: Cut + Sync, G: Gate + Sync> Workers<'_, R, C, G> {
         ensures stop { IfErr result (IsStopOf (inner_number layout.now a.now.ravel b.now.ravel f g) layout.now.count) }
     {
         match (a.numbers(), b.numbers()) {
-            (Some(left), Some(right)) => self.fill_inner_numbers(f, g, layout, left, right),
+            (Some(left), Some(right)) => self.fill_inner_ordered(f, g, layout, left, right),
             (Some(left), None) => {
                 self.fill_inner(layout, left, characters_of(b), Chosen(f), Chosen(g))
             }

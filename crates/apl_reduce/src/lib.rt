@@ -6,6 +6,7 @@
 mod axis_items;
 mod behind;
 mod carrying;
+mod columns;
 mod decoding;
 mod dyadic;
 mod encoding;
