@@ -23,4 +23,7 @@ pub mod InnerPlaces
 pub mod Strides
 pub mod InnerItems
 pub mod Passing
+pub mod Distances
+pub mod Adding
+pub mod Reordered
 pub mod Examples

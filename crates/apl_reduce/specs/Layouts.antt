@@ -1,5 +1,5 @@
 -- How the items of an inner product lie in its arguments. No contract of a public function cites this file.
-use Rattle.std.specs.Prelude.{ℕ, ℤ, ◌+◌, ◌*◌, ◌/◌, ◌%◌, ◌<◌, ◌≤◌, List, Result}
+use Rattle.std.specs.Prelude.{ℕ, ℤ, pos, ◌+◌, ◌*◌, ◌*ℤ◌, ◌/◌, ◌%◌, ◌<◌, ◌≤◌, ◌≡◌, List, length, Result, slice_index_or}
 use Rattle.apl_array.specs.declared.array.Elem.{Elem}
 use Rattle.apl_array.specs.declared.function.ScalarFunction.{ScalarFunction}
 use Rattle.apl_pool.specs.declared.kernel.Fault.{Fault}
@@ -29,3 +29,31 @@ module _ (layout : Layout) (left right : List Elem) where
   -- what the inner product has at a place
   abbrev pub inner_number : ScalarFunction → ScalarFunction → ℕ → Result ℤ Fault
   inner_number f g place = as_number (judged_items (inner_item g place) f layout.items)
+
+-- the product of the numbers that meet as item k, at a place
+abbrev pub product_at : Layout → List ℤ → List ℤ → ℕ → ℕ → ℤ
+product_at layout left right place k = slice_index_or left (left_place layout place k) (pos 0) *ℤ slice_index_or right (right_place layout place k) (pos 0)
+
+-- ---- the right argument in the order of its columns
+
+-- the place of item k of a column in the right argument
+abbrev pub column_place : Layout → ℕ → ℕ → ℕ
+column_place layout column k = column * layout.right.line + k * layout.right.item
+
+-- the same items, those of a column of the right argument being neighbours
+pub record IsByColumns (layout ordered : Layout) : Type 0 where
+  pub left : ordered.left ≡ layout.left
+  pub right_line : ordered.right.line ≡ layout.items
+  pub right_item : ordered.right.item ≡ 1
+  pub items : ordered.items ≡ layout.items
+  pub columns : ordered.columns ≡ layout.columns
+  pub count : ordered.count ≡ layout.count
+
+-- all items of all columns are within a right argument of so many elements
+abbrev pub HasColumns : Layout → ℕ → Type 0
+HasColumns layout right = (column k : ℕ) → column < layout.columns → k < layout.items → column_place layout column k < right
+
+-- these are the numbers of a right argument, one column after the other
+pub record AreByColumns (layout : Layout) (numbers ordered : List ℤ) : Type 0 where
+  pub len : length ordered ≡ layout.columns * layout.items
+  pub each : (column k : ℕ) → column < layout.columns → k < layout.items → slice_index_or ordered (column * layout.items + k) (pos 0) ≡ slice_index_or numbers (column_place layout column k) (pos 0)

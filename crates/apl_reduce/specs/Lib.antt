@@ -9,3 +9,4 @@ pub mod Fronts
 pub mod Carrying
 pub mod Items
 pub mod Layouts
+pub mod Magnitudes

@@ -1,6 +1,7 @@
 //! Inner products.
 ghost use Rattle.std.specs.Prelude.{◌≡◌, ℕ, ◌+◌, ◌*◌, ◌<◌, IfErr, IfOk, IsTrue, length, map};
 ghost use Rattle.apl_array.specs.declared.array.Elem.TheVariants.{Int, Chr};
+ghost use Rattle.apl_array.specs.declared.function.ScalarFunction.TheVariants.{Plus as PlusNamed, Times as TimesNamed};
 ghost use Rattle.apl_array.specs.Valences.{has_dyadic};
 ghost use Rattle.apl_pool.specs.Pool.{AreValues, IsStopOf};
 ghost use Rattle.apl_answer.specs.Rows.{Answers};
@@ -10,8 +11,10 @@ ghost use Rattle.apl_reduce.specs.Products.{inner_row};
 use crate::dyadic::{Chosen, Dyadic, Typed};
 use crate::items::{Items, reduced};
 use crate::layouts::Layout;
+use crate::magnitudes::sums_are_small;
 use crate::meeting::{common_length, layout_of, left_lengths, right_lengths};
 use crate::shapes::{characters_of, joined_shape};
+use crate::sums::Sums;
 use crate::workers::Workers;
 use apl_answer::{Element, OpFault, array_from_fill};
 use apl_array::{Array, ScalarFunction};
@@ -145,6 +148,24 @@ impl<R: Threads + Sync, C: Cut + Sync, G: Gate + Sync> Workers<'_, R, C, G> {
         self.fill_inner(layout, left, right, function, pairing)
     }
 
+    /// The sums of products, each added with no check where no sum can leave the range.
+    fn fill_sums(&self, layout: &Layout, left: &[i64], right: &[i64]) -> Result<Vec<i64>, Stop>
+        requires { IsWithin layout.now (length left.now) (length right.now) }
+        ensures values { IfOk result (λ v. AreValues (inner_number layout.now (map Int left.now) (map Int right.now) PlusNamed TimesNamed) layout.now.count v.items) }
+        ensures stop { IfErr result (IsStopOf (inner_number layout.now (map Int left.now) (map Int right.now) PlusNamed TimesNamed) layout.now.count) }
+    {
+        if !layout.repays_a_pass() || !sums_are_small(left, right, layout.items) {
+            return self.typed::<i64, Plus, Times>(layout, left, right);
+        }
+        let kernel = Sums {
+            left,
+            right,
+            layout,
+            columns: Divisor::new(layout.columns),
+        };
+        self.pool.fill(self.rt, self.alloc, &kernel)
+    }
+
     /// An inner product of numbers, compiled for each of the usual pairs of functions.
     fn fill_inner_numbers(
         &self,
@@ -159,7 +180,7 @@ impl<R: Threads + Sync, C: Cut + Sync, G: Gate + Sync> Workers<'_, R, C, G> {
         ensures stop { IfErr result (IsStopOf (inner_number layout.now (map Int left.now) (map Int right.now) f g) layout.now.count) }
     {
         match (f, g) {
-            (Prim::Plus, Prim::Times) => { self.typed::<i64, Plus, Times>(layout, left, right) }
+            (Prim::Plus, Prim::Times) => self.fill_sums(layout, left, right),
             (Prim::Plus, Prim::And) => { self.typed::<i64, Plus, And>(layout, left, right) }
             (Prim::Plus, Prim::Equal) => { self.typed::<i64, Plus, Equal>(layout, left, right) }
             (Prim::Or, Prim::And) => self.typed::<i64, Or, And>(layout, left, right),
@@ -173,6 +194,27 @@ impl<R: Threads + Sync, C: Cut + Sync, G: Gate + Sync> Workers<'_, R, C, G> {
             (Prim::Times, Prim::Star) => { self.typed::<i64, Times, Star>(layout, left, right) }
             _ => self.fill_inner(layout, left, right, Chosen(f), Chosen(g)),
         }
+    }
+
+    /// An inner product of numbers. The right ones are brought into the order of their columns first where that is repaid.
+    fn fill_inner_ordered(
+        &self,
+        f: ScalarFunction,
+        g: ScalarFunction,
+        layout: &Layout,
+        left: &[i64],
+        right: &[i64],
+    ) -> Result<Vec<i64>, Stop>
+        requires { IsWithin layout.now (length left.now) (length right.now) }
+        ensures values { IfOk result (λ v. AreValues (inner_number layout.now (map Int left.now) (map Int right.now) f g) layout.now.count v.items) }
+        ensures stop { IfErr result (IsStopOf (inner_number layout.now (map Int left.now) (map Int right.now) f g) layout.now.count) }
+    {
+        if !layout.repays_an_order() {
+            return self.fill_inner_numbers(f, g, layout, left, right);
+        }
+        let columns = self.fill_columns(layout, right)?;
+        let ordered = layout.by_columns();
+        self.fill_inner_numbers(f, g, &ordered, left, columns.as_slice())
     }
 
     /// An inner product of characters, which only `=` and `≠` give items of.
@@ -210,7 +252,7 @@ impl<R: Threads + Sync, C: Cut + Sync, G: Gate + Sync> Workers<'_, R, C, G> {
         ensures stop { IfErr result (IsStopOf (inner_number layout.now a.now.ravel b.now.ravel f g) layout.now.count) }
     {
         match (a.numbers(), b.numbers()) {
-            (Some(left), Some(right)) => self.fill_inner_numbers(f, g, layout, left, right),
+            (Some(left), Some(right)) => self.fill_inner_ordered(f, g, layout, left, right),
             (Some(left), None) => {
                 self.fill_inner(layout, left, characters_of(b), Chosen(f), Chosen(g))
             }

@@ -1,6 +1,10 @@
 //! How the items of an inner product lie in its arguments.
-ghost use Rattle.std.specs.Prelude.{◌≡◌, ◌<◌, ◌≤◌, if◌then◌else◌};
+ghost use Rattle.std.specs.Prelude.{◌≡◌, ◌*◌, ◌<◌, ◌≤◌, ◌↔◌, IsTrue, if◌then◌else◌};
 ghost use Rattle.apl_pool.specs.declared.kernel.TheConstants.{MOST_PLACES};
+ghost use Rattle.apl_reduce.specs.declared.layouts.TheConstants.{SEVERAL_LINES};
+
+/// How many lines of the left argument repay a pass over the right one.
+const SEVERAL_LINES: usize = 8;
 
 /// How far apart the lines of an argument are, and the items of a line.
 #[derive(Clone, Copy)]
@@ -35,4 +39,13 @@ pub(crate) struct Layout {
     ghost some: { 0 < columns },
     ghost most_columns: { columns ≤ MOST_PLACES },
     ghost most: { count ≤ MOST_PLACES },
+}
+
+impl Layout {
+    /// Whether both arguments have so many lines that a pass over their elements is repaid.
+    pub(crate) fn repays_a_pass(&self) -> bool
+        ensures { IsTrue result ↔ (1 < self.now.columns) × (SEVERAL_LINES * self.now.columns ≤ self.now.count) }
+    {
+        self.columns > 1 && self.count >= SEVERAL_LINES * self.columns
+    }
 }

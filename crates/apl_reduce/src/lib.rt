@@ -6,6 +6,7 @@
 mod axis_items;
 mod behind;
 mod carrying;
+mod columns;
 mod decoding;
 mod dyadic;
 mod encoding;
@@ -15,6 +16,7 @@ mod inner_products;
 mod items;
 mod laws;
 mod layouts;
+mod magnitudes;
 mod meeting;
 mod outer_products;
 mod pairs;
@@ -22,6 +24,7 @@ mod quotient;
 mod range;
 mod reducing;
 mod shapes;
+mod sums;
 mod workers;
 
 pub use decoding::decode;
