@@ -1,4 +1,4 @@
-//! Tests of arrays, of the scalar and the structural functions, and of printed values.
+//! Tests of arrays, of the scalar and the structural functions, of reductions and products, and of printed values.
 #![tactic(auto)]
 
 #[cfg(test)]

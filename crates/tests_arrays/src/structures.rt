@@ -1,11 +1,17 @@
-//! The structural functions at worked values, at small and at large sizes, by several workers.
+//! The structural functions, reductions and products at worked values, at small and at large sizes, by several workers.
+mod columns;
+mod digits;
 mod large;
+mod products;
 mod refusals;
 mod small;
 
 use apl_array::{Array, Axis, Origin, Shape};
 use apl_pool::{Every, Open, Pool};
-use apl_scalar::OpFault;
+use apl_reduce::{
+    decode, encode, inner, outer, partial_results_decide, reduce, reduced_answers_are_within_limits,
+};
+use apl_scalar::{OpFault, Prim};
 use apl_struct::{
     axis_number, catenate, compress, drop, expand, grade_down, grade_up, index_of, iota, member,
     one_grade, ravel, replace, reshape, reverse, rotate, select, shape_of,
@@ -43,6 +49,7 @@ enum Monadic {
     Iota(Origin),
     GradeUp(Origin),
     GradeDown(Origin),
+    Reduce(Prim, Axis),
 }
 
 /// A function of two arguments.
@@ -58,6 +65,10 @@ enum Dyadic {
     Expand(Axis),
     IndexOf(Origin),
     Member,
+    Outer(Prim),
+    Inner(Prim, Prim),
+    Decode,
+    Encode,
 }
 
 /// A call, with its arguments.
@@ -203,6 +214,8 @@ fn one_argument<R: Threads + Sync>(
         Monadic::Iota(origin) => iota(rt, alloc, pool, &b, origin),
         Monadic::GradeUp(origin) => grade_up(rt, alloc, pool, &b, origin),
         Monadic::GradeDown(origin) => grade_down(rt, alloc, pool, &b, origin),
+        Monadic::Reduce(f, axis) if f.is_dyadic() => reduce(rt, alloc, pool, f, &b, axis),
+        Monadic::Reduce(..) => return Err(Fail::new("no function of two arguments")),
     })
 }
 
@@ -227,6 +240,15 @@ fn two_arguments<R: Threads + Sync>(
         Dyadic::Expand(axis) => expand(rt, alloc, pool, &a, &b, axis),
         Dyadic::IndexOf(origin) => index_of(rt, alloc, pool, &a, &b, origin),
         Dyadic::Member => member(rt, alloc, pool, &a, &b),
+        Dyadic::Outer(f) if f.is_dyadic() => outer(rt, alloc, pool, f, &a, &b),
+        Dyadic::Inner(f, g) if f.is_dyadic() && g.is_dyadic() => {
+            inner(rt, alloc, pool, f, g, &a, &b)
+        }
+        Dyadic::Outer(_) | Dyadic::Inner(..) => {
+            return Err(Fail::new("no functions of two arguments"));
+        }
+        Dyadic::Decode => decode(rt, alloc, pool, &a, &b),
+        Dyadic::Encode => encode(rt, alloc, pool, &a, &b),
     })
 }
 
@@ -295,13 +317,28 @@ fn check<R: Abort + Threads + Sync>(
     Ok(())
 }
 
-/// Checks the calls of each table by 1, 3 and 64 workers.
+/// Checks the calls of each table by 1, 2, 3 and 64 workers, with pieces of few places.
 fn check_small<R: Abort + Threads + Sync>(
     rt: &R,
     alloc: Global,
     tables: &[&[(Call, Answer)]],
 ) -> Result<(), Fail> {
-    for (workers, piece) in [(1u8, 4096), (3, 1), (64, 2)] {
+    for (workers, piece) in [(1u8, 4096), (2, 11), (3, 1), (64, 2)] {
+        let pool = Pool::new(workers, Every(piece), Open);
+        for rows in tables {
+            check(rt, alloc, &pool, rows)?;
+        }
+    }
+    Ok(())
+}
+
+/// Checks the calls of each table by 1, 3 and 64 workers, with pieces of many places.
+fn check_large<R: Abort + Threads + Sync>(
+    rt: &R,
+    alloc: Global,
+    tables: &[&[(Call, Answer)]],
+) -> Result<(), Fail> {
+    for (workers, piece) in [(1u8, usize::MAX), (3, 4096), (64, 1000)] {
         let pool = Pool::new(workers, Every(piece), Open);
         for rows in tables {
             check(rt, alloc, &pool, rows)?;
@@ -320,10 +357,13 @@ fn small_arrays(rt: HostRuntime) -> Result<(), Fail> {
         small::CHOSEN,
         small::FOUND,
         small::INDEXED,
+        small::FOLDED,
     ];
     check_small(&rt, rt.alloc(), &tables)?;
     one_grade();
     structural_answers_are_within_limits();
+    partial_results_decide();
+    reduced_answers_are_within_limits();
     Ok(())
 }
 
@@ -337,17 +377,53 @@ fn refused_arguments(rt: HostRuntime) -> Result<(), Fail> {
         refusals::CHOSEN,
         refusals::FOUND,
         refusals::INDEXED,
+        refusals::FOLDED,
     ];
     check_small(&rt, rt.alloc(), &tables)
 }
 
 #[test]
+fn small_reductions(rt: HostRuntime) -> Result<(), Fail> {
+    let tables = [columns::ENDS, columns::FUNCTIONS, columns::FAULTS];
+    check_small(&rt, rt.alloc(), &tables)?;
+    check_small(&rt, rt.alloc(), columns::FEW)
+}
+
+#[test]
+fn small_products(rt: HostRuntime) -> Result<(), Fail> {
+    let tables = [
+        products::SHAPES,
+        products::FUNCTIONS,
+        products::ENDS,
+        products::OUTER,
+    ];
+    check_small(&rt, rt.alloc(), &tables)?;
+    check_small(&rt, rt.alloc(), products::FEW)
+}
+
+#[test]
+fn small_digits(rt: HostRuntime) -> Result<(), Fail> {
+    let tables = [
+        digits::ENCODED,
+        digits::ENDS,
+        digits::CARRIED,
+        digits::SHAPES,
+        digits::DECODED,
+    ];
+    check_small(&rt, rt.alloc(), &tables)
+}
+
+#[test]
+fn large_folds(rt: HostRuntime) -> Result<(), Fail> {
+    let tables = [columns::LARGE, products::LARGE, digits::MANY];
+    check_large(&rt, rt.alloc(), &tables)?;
+    check_large(&rt, rt.alloc(), columns::MANY)?;
+    check_large(&rt, rt.alloc(), products::MANY)
+}
+
+#[test]
 fn large_arrays(rt: HostRuntime) -> Result<(), Fail> {
-    for (workers, piece) in [(1u8, usize::MAX), (3, 4096), (64, 1000)] {
-        let pool = Pool::new(workers, Every(piece), Open);
-        check(&rt, rt.alloc(), &pool, large::SOME)?;
-    }
-    Ok(())
+    check_large(&rt, rt.alloc(), &[large::SOME])
 }
 
 #[test]

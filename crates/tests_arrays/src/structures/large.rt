@@ -4,6 +4,7 @@ use super::{
     Two,
 };
 use apl_array::{Axis, Origin};
+use apl_scalar::Prim;
 
 /// Calls with arguments or results of this many elements, and of twice as many.
 macro_rules! rows_of {
@@ -249,6 +250,55 @@ macro_rules! rows_of {
                     Origin::One,
                 ),
                 Is(Rows(&[$count, 2], 0, ($count, 2), (2, 0))),
+            ),
+            // folded
+            (
+                One(Monadic::Reduce(Prim::Plus, Axis::Last), Numbers(&[$count], &[1])),
+                Is(Numbers(&[], &[$count])),
+            ),
+            (
+                One(Monadic::Reduce(Prim::Minus, Axis::Last), Numbers(&[$count], &[1])),
+                Is(Numbers(&[], &[$count % 2])),
+            ),
+            (
+                One(Monadic::Reduce(Prim::Plus, Axis::First), Rows(&[2, $count], 0, (2, $count), ($count, 1))),
+                Is(Runs(&[$count], &[($count, $count, 2)])),
+            ),
+            (
+                One(Monadic::Reduce(Prim::Plus, AXIS_ONE), Rows(&[2, $count], 0, (2, $count), ($count, 1))),
+                Is(Runs(&[$count], &[($count, $count, 2)])),
+            ),
+            (
+                One(Monadic::Reduce(Prim::Plus, Axis::Last), Rows(&[$count, 2], 0, ($count, 2), (2, 1))),
+                Is(Runs(&[$count], &[(1, $count, 4)])),
+            ),
+            (
+                Two(Runs(&[$count], &[(0, $count, 1)]), Dyadic::Outer(Prim::Plus), Numbers(&[2], &[0, 5])),
+                Is(Rows(&[$count, 2], 0, ($count, 1), (2, 5))),
+            ),
+            (
+                Two(
+                    Rows(&[$count, 2], 0, ($count, 2), (2, 1)),
+                    Dyadic::Inner(Prim::Plus, Prim::Times),
+                    Numbers(&[2], &[1, 2]),
+                ),
+                Is(Runs(&[$count], &[(2, $count, 6)])),
+            ),
+            (
+                Two(Numbers(&[$count], &[1]), Dyadic::Inner(Prim::Plus, Prim::Times), Numbers(&[$count], &[3])),
+                Is(Numbers(&[], &[3 * $count])),
+            ),
+            (
+                Two(Numbers(&[], &[1]), Dyadic::Decode, Numbers(&[$count], &[1])),
+                Is(Numbers(&[], &[$count])),
+            ),
+            (
+                Two(Numbers(&[2], &[2, 3]), Dyadic::Encode, Numbers(&[$count], &[5])),
+                Is(Runs(&[2, $count], &[(1, $count, 0), (2, $count, 0)])),
+            ),
+            (
+                Two(Numbers(&[$count], &[2]), Dyadic::Encode, Numbers(&[], &[1])),
+                Is(Runs(&[$count], &[(0, $count - 1, 0), (1, 1, 0)])),
             ),
         ]
     };

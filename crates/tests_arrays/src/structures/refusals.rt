@@ -4,7 +4,7 @@ use super::{
     Select, Stops, Text, Two,
 };
 use apl_array::{Axis, Origin};
-use apl_scalar::OpFault;
+use apl_scalar::{OpFault, Prim};
 
 const RANK: Answer = Stops(OpFault::Rank);
 
@@ -498,5 +498,87 @@ pub(super) const INDEXED: &[(Call, Answer)] = &[
     (
         Replace(THREE, &[Some(NO_NUMBERS)], Text(&[], "X"), Origin::One),
         DOMAIN,
+    ),
+];
+
+/// Reductions, products, and digits in lists of radices.
+pub(super) const FOLDED: &[(Call, Answer)] = &[
+    (One(Monadic::Reduce(Prim::Plus, AXIS_TWO), THREE), INDEX),
+    (
+        One(
+            Monadic::Reduce(Prim::Plus, Axis::First),
+            Numbers(&[0, 1073741824, 1073741824], &[]),
+        ),
+        LIMIT,
+    ),
+    (
+        One(
+            Monadic::Reduce(Prim::Plus, Axis::Last),
+            Numbers(&[3], &[-1, 1, MOST]),
+        ),
+        LIMIT,
+    ),
+    (
+        One(
+            Monadic::Reduce(Prim::Times, Axis::Last),
+            Numbers(&[3], &[0, 4611686018427387904, 2]),
+        ),
+        LIMIT,
+    ),
+    (
+        One(Monadic::Reduce(Prim::Plus, Axis::Last), Text(&[2], "AB")),
+        DOMAIN,
+    ),
+    (
+        One(Monadic::Reduce(Prim::Nand, Axis::Last), NO_NUMBERS),
+        DOMAIN,
+    ),
+    (
+        Two(
+            Numbers(&[2, 2, 2, 2, 2], &[1]),
+            Dyadic::Outer(Prim::Plus),
+            Text(&[2, 2, 2, 2], "A"),
+        ),
+        LIMIT,
+    ),
+    (
+        Two(THREE, Dyadic::Outer(Prim::Plus), Text(&[], "A")),
+        DOMAIN,
+    ),
+    (
+        Two(ONE_LETTER, Dyadic::Inner(Prim::Plus, Prim::Times), THREE),
+        LENGTH,
+    ),
+    (
+        Two(
+            Numbers(&[3], &[1, MOST, MOST]),
+            Dyadic::Inner(Prim::Plus, Prim::Divide),
+            Numbers(&[3], &[0, 1, 1]),
+        ),
+        DOMAIN,
+    ),
+    (Two(ONE_LETTER, Dyadic::Decode, THREE), RANK),
+    (Two(THREE, Dyadic::Decode, Text(&[2], "AB")), LENGTH),
+    (Two(Text(&[], "A"), Dyadic::Decode, THREE), DOMAIN),
+    (
+        Two(
+            Numbers(&[], &[2]),
+            Dyadic::Decode,
+            Numbers(&[2], &[MOST, 0]),
+        ),
+        LIMIT,
+    ),
+    (Two(ONE_LETTER, Dyadic::Encode, THREE), RANK),
+    (
+        Two(Numbers(&[2], &[2, 2]), Dyadic::Encode, Text(&[], "A")),
+        DOMAIN,
+    ),
+    (
+        Two(
+            Numbers(&[2], &[0, -1]),
+            Dyadic::Encode,
+            Numbers(&[], &[LEAST]),
+        ),
+        LIMIT,
     ),
 ];

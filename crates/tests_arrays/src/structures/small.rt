@@ -4,6 +4,7 @@ use super::{
     Replace, Runs, Sample, Select, Text, Two,
 };
 use apl_array::{Axis, Origin};
+use apl_scalar::Prim;
 
 /// No elements, of either kind.
 const NO_NUMBERS: Sample = Numbers(&[0], &[]);
@@ -786,5 +787,171 @@ pub(super) const INDEXED: &[(Call, Answer)] = &[
     (
         Replace(NO_TEXT, &[None], NO_NUMBERS, Origin::One),
         Is(NO_TEXT),
+    ),
+];
+
+/// Reductions, products, and digits in lists of radices.
+pub(super) const FOLDED: &[(Call, Answer)] = &[
+    (
+        One(Monadic::Reduce(Prim::Plus, Axis::Last), WIDE),
+        Is(Numbers(&[2], &[6, 15])),
+    ),
+    (
+        One(Monadic::Reduce(Prim::Plus, Axis::First), WIDE),
+        Is(Numbers(&[3], &[5, 7, 9])),
+    ),
+    (
+        One(Monadic::Reduce(Prim::Plus, AXIS_TWO), CUBE),
+        Is(Numbers(&[2, 2], &[9, 12, 27, 30])),
+    ),
+    (
+        One(Monadic::Reduce(Prim::Minus, Axis::Last), FIVE),
+        Is(Numbers(&[], &[3])),
+    ),
+    (
+        One(
+            Monadic::Reduce(Prim::Plus, Axis::Last),
+            Numbers(&[3], &[MOST, 1, -1]),
+        ),
+        Is(Numbers(&[], &[MOST])),
+    ),
+    (
+        One(
+            Monadic::Reduce(Prim::Times, Axis::Last),
+            Numbers(&[2], &[-4611686018427387904, 2]),
+        ),
+        Is(Numbers(&[], &[LEAST])),
+    ),
+    (
+        One(
+            Monadic::Reduce(Prim::Nand, Axis::Last),
+            Numbers(&[2, 1], &[5, 7]),
+        ),
+        Is(Numbers(&[2], &[5, 7])),
+    ),
+    (
+        One(Monadic::Reduce(Prim::Plus, Axis::Last), Text(&[1], "A")),
+        Is(Text(&[], "A")),
+    ),
+    (
+        One(Monadic::Reduce(Prim::Equal, Axis::Last), Text(&[3], "ABC")),
+        Is(Numbers(&[], &[0])),
+    ),
+    (
+        One(
+            Monadic::Reduce(Prim::NotEqual, Axis::First),
+            Text(&[2, 2], "ABAC"),
+        ),
+        Is(Numbers(&[2], &[0, 1])),
+    ),
+    (
+        One(
+            Monadic::Reduce(Prim::Floor, Axis::Last),
+            Numbers(&[2, 0], &[]),
+        ),
+        Is(Numbers(&[2], &[MOST])),
+    ),
+    (
+        One(
+            Monadic::Reduce(Prim::Nor, Axis::Last),
+            Numbers(&[0, 0], &[]),
+        ),
+        Is(NO_NUMBERS),
+    ),
+    (
+        One(Monadic::Reduce(Prim::Plus, Axis::Last), Text(&[0, 1], "")),
+        Is(NO_TEXT),
+    ),
+    (
+        Two(THREE, Dyadic::Outer(Prim::Times), Numbers(&[2], &[4, -5])),
+        Is(Numbers(&[3, 2], &[4, -5, 8, -10, 12, -15])),
+    ),
+    (
+        Two(Numbers(&[], &[9]), Dyadic::Outer(Prim::Minus), SQUARE),
+        Is(Numbers(&[2, 2], &[8, 7, 6, 5])),
+    ),
+    (
+        Two(
+            Text(&[2], "AB"),
+            Dyadic::Outer(Prim::Equal),
+            Text(&[2], "BA"),
+        ),
+        Is(Numbers(&[2, 2], &[0, 1, 1, 0])),
+    ),
+    (
+        Two(NO_TEXT, Dyadic::Outer(Prim::Plus), Numbers(&[2], &[1])),
+        Is(Numbers(&[0, 2], &[])),
+    ),
+    (
+        Two(SQUARE, Dyadic::Inner(Prim::Plus, Prim::Times), SQUARE),
+        Is(Numbers(&[2, 2], &[7, 10, 15, 22])),
+    ),
+    (
+        Two(SQUARE, Dyadic::Inner(Prim::Minus, Prim::Ceiling), WIDE),
+        Is(Numbers(&[2, 3], &[-3, -3, -3, -1, -2, -3])),
+    ),
+    (
+        Two(
+            Numbers(&[1], &[5]),
+            Dyadic::Inner(Prim::Plus, Prim::Times),
+            THREE,
+        ),
+        Is(Numbers(&[], &[30])),
+    ),
+    (
+        Two(
+            Text(&[2, 3], "ABCABD"),
+            Dyadic::Inner(Prim::And, Prim::Equal),
+            Text(&[3], "ABD"),
+        ),
+        Is(Numbers(&[2], &[0, 1])),
+    ),
+    (
+        Two(
+            Numbers(&[2, 0], &[]),
+            Dyadic::Inner(Prim::Plus, Prim::Times),
+            Numbers(&[0, 3], &[]),
+        ),
+        Is(Numbers(&[2, 3], &[0])),
+    ),
+    (
+        Two(
+            Numbers(&[], &[2]),
+            Dyadic::Decode,
+            Numbers(&[3], &[1, 0, 1]),
+        ),
+        Is(Numbers(&[], &[5])),
+    ),
+    (
+        Two(
+            Numbers(&[2], &[LEAST, 10]),
+            Dyadic::Decode,
+            Numbers(&[2], &[1, 2]),
+        ),
+        Is(Numbers(&[], &[12])),
+    ),
+    (
+        Two(Text(&[], "A"), Dyadic::Decode, NO_NUMBERS),
+        Is(Numbers(&[], &[0])),
+    ),
+    (
+        Two(
+            Numbers(&[3], &[24, 60, 60]),
+            Dyadic::Encode,
+            Numbers(&[2], &[3723, -1]),
+        ),
+        Is(Numbers(&[3, 2], &[1, 23, 2, 59, 3, 59])),
+    ),
+    (
+        Two(
+            Numbers(&[3], &[0, -1, -1]),
+            Dyadic::Encode,
+            Numbers(&[], &[LEAST]),
+        ),
+        Is(Numbers(&[3], &[LEAST, 0, 0])),
+    ),
+    (
+        Two(Numbers(&[], &[10]), Dyadic::Encode, Numbers(&[], &[17])),
+        Is(Numbers(&[], &[7])),
     ),
 ];
