@@ -8,14 +8,19 @@ use Rattle.apl_array.specs.declared.array.Elem.TheVariants.{Int}
 use Rattle.apl_array.specs.declared.function.ScalarFunction.TheVariants.{Plus, Times}
 use Rattle.apl_array.specs.Range.{IsInRange, in_range}
 use Rattle.apl_pool.specs.declared.kernel.Fault.{Fault}
-use Rattle.apl_scalar.specs.Scalar.{dyadic_of}
+use Rattle.apl_scalar.specs.Scalar.{dyadic_of, exact}
 use Rattle.apl_reduce.specs.declared.layouts.Layout.{Layout}
 use Rattle.apl_reduce.specs.Items.{as_number, number_step, folded_from, judged_items, item_in}
 use Rattle.apl_reduce.specs.Layouts.{left_place, right_place, product_at, inner_item, inner_number}
 use Rattle.apl_reduce.specs.Magnitudes.{magnitude, sum_of}
 use Rattle.apl_reduce.proofs.Distances.{product_near, sum_near, fits_near, product_fits}
 use Rattle.apl_reduce.proofs.JudgedItems.{judged_value}
-use Rattle.apl_reduce.proofs.Residues.{exact_fits}
+
+-- a number that 64 bits hold is exact
+exact_fits : (z : ℤ) → ((z : ℤ) → (in_range z ≡ true) ↔ IsInRange z) → ((z : ℤ) → IsInRange z ↔ FitsSigned w64 z) → FitsSigned w64 z → Ok z ≡ exact z
+exact_fits z decided bits fits =
+    let inside = (decided z).1 ((bits z).1 fits) in
+    rw inside refl
 
 add_none : (z : ℤ) → z +ℤ pos 0 ≡ pos 0 +ℤ z
 add_none z = omega (arith, ints)

@@ -86,7 +86,12 @@ impl<T: Element, U: Element, F: Dyadic> Kernel for EachPair<'_, T, U, F> {
         let (x, others) = self.row_from(from, to);
         let start = values.len();
         append_zeros(values, others.len());
-        if write_pairs(x, others, self.function, &mut values.as_mut_slice()[start..]) {
+        if write_pairs(
+            x,
+            others,
+            self.function,
+            &mut values.as_mut_slice()[start..],
+        ) {
             return from + others.len();
         }
         values.truncate(start);
