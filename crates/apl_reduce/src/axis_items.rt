@@ -1,5 +1,5 @@
 //! The items along an axis, folded at each place of the result.
-ghost use Rattle.std.specs.Prelude.{◌≡◌, ℕ, ◌+◌, ◌-◌, ◌*◌, ◌/◌, ◌%◌, ◌<◌, ◌≤◌, true, IfOk, IfErr, length, map, remove, slice_index, drop};
+ghost use Rattle.std.specs.Prelude.{◌≡◌, ℕ, pos, ◌+◌, ◌-◌, ◌*◌, ◌/◌, ◌%◌, ◌<◌, ◌≤◌, ◌++◌, true, IfOk, IfErr, length, map, remove, replicate, slice_index, drop, vec_len, vec_capacity};
 ghost use Rattle.apl_pool.specs.Runs.{AreWritten};
 ghost use Rattle.apl_array.specs.declared.array.Elem.TheVariants.{Int, Chr};
 ghost use Rattle.apl_array.specs.Shape.{count_of};
@@ -9,7 +9,6 @@ ghost use Rattle.apl_reduce.specs.Folded.{fold_at};
 
 use crate::folded_rows::{fold_last_rows, fold_rows, from_place};
 use crate::folding::fold_along;
-use crate::pairs::append_zeros;
 use apl_answer::Element;
 use apl_array::{
     Array, ScalarFunction, Shape, inserted_index_has_place, places_match_index_lists,
@@ -99,6 +98,17 @@ impl<T> AxisItems<'_, T> {
         }
         let rest = inner - self.inner.remainder(from);
         rest.min(to - from).min(MOST_TOTALS)
+    }
+}
+
+/// Puts so many zeros behind other values.
+fn append_zeros(values: &mut Vec<i64>, len: usize)
+    requires { vec_len values.old + len ≤ vec_capacity values.old }
+    ensures items { values.new.items ≡ values.old.items ++ replicate len (pos 0) }
+    ensures capacity { vec_capacity values.new ≡ vec_capacity values.old }
+{
+    for _more in 0..len {
+        values.push_reserved(0);
     }
 }
 

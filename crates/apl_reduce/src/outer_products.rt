@@ -10,7 +10,7 @@ ghost use Rattle.apl_reduce.specs.Items.{outer_number, pair_number};
 ghost use Rattle.apl_reduce.specs.Products.{outer_row};
 
 use crate::dyadic::{Chosen, Dyadic, Typed};
-use crate::pairs::{append_zeros, write_pairs};
+use crate::pairs::{append_pairs, write_pairs};
 use crate::shapes::{characters_of, joined_shape};
 use crate::workers::Workers;
 use apl_answer::{Element, OpFault, array_from_fill};
@@ -79,35 +79,22 @@ impl<T: Element, U: Element, F: Dyadic> Kernel for EachPair<'_, T, U, F> {
             .of(self.left[row].elem(), self.right[column].elem())
     }
 
+    #[inline(always)]
     fn append_run(&self, from: usize, to: usize, values: &mut Vec<i64>) -> usize {
         if from == to || self.right.len() < NARROW {
             return from;
         }
         let (x, others) = self.row_from(from, to);
-        let start = values.len();
-        append_zeros(values, others.len());
-        if write_pairs(
-            x,
-            others,
-            self.function,
-            &mut values.as_mut_slice()[start..],
-        ) {
-            return from + others.len();
-        }
-        values.truncate(start);
-        from
+        from + append_pairs(x, others, self.function, values)
     }
 
+    #[inline(always)]
     fn write_run(&self, from: usize, to: usize, room: &mut [i64]) -> usize {
         if from == to || self.right.len() < NARROW {
             return from;
         }
         let (x, others) = self.row_from(from, to);
-        if write_pairs(x, others, self.function, room) {
-            from + others.len()
-        } else {
-            from
-        }
+        from + write_pairs(x, others, self.function, room)
     }
 }
 

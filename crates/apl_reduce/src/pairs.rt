@@ -1,6 +1,6 @@
 //! One element with each of others.
-ghost use Rattle.std.specs.Prelude.{◌≡◌, pos, ◌+◌, ◌<◌, ◌≤◌, ◌++◌, true, length, map, replicate, slice_set, vec_len, vec_capacity};
-ghost use Rattle.apl_pool.specs.Runs.{AreWritten};
+ghost use Rattle.std.specs.Prelude.{◌≡◌, ◌+◌, ◌<◌, ◌≤◌, length, map, slice_set, vec_len, vec_capacity};
+ghost use Rattle.apl_pool.specs.Runs.{AppendsValues, AreWritten};
 ghost use Rattle.apl_reduce.specs.Items.{pair_number};
 
 use crate::dyadic::Dyadic;
@@ -30,35 +30,47 @@ pub(crate) fn put<X: Copy>(room: &mut [X], place: usize, value: X)
     room[place] = value;
 }
 
-/// Puts what a function gives of one element and each of others into the room for it. It says whether
-/// none has a fault.
+/// Puts what a function gives of one element and each of others behind other values, up to the first
+/// that has a fault, and answers how many they are.
+#[inline(always)]
+pub(crate) fn append_pairs<T: Element, U: Element, F: Dyadic>(
+    x: T,
+    others: &[U],
+    function: F,
+    values: &mut Vec<i64>,
+) -> usize
+    requires room { vec_len values.old + length others.now ≤ vec_capacity values.old }
+    ensures within { result ≤ length others.now }
+    ensures values { AppendsValues (pair_number (F.function function) (T.elem_of x) (map U.elem_of others.now)) 0 result values.old.items values.new.items }
+    ensures capacity { vec_capacity values.new ≡ vec_capacity values.old }
+{
+    for k in 0..others.len() {
+        match pair_at(x, others, k, function) {
+            Ok(value) => values.push_reserved(value),
+            Err(_) => return k,
+        }
+    }
+    others.len()
+}
+
+/// Writes the same into the room for them.
 #[inline(always)]
 pub(crate) fn write_pairs<T: Element, U: Element, F: Dyadic>(
     x: T,
     others: &[U],
     function: F,
     room: &mut [i64],
-) -> bool
+) -> usize
     requires room { length others.now ≤ length room.old }
-    ensures values { result ≡ true → AreWritten (pair_number (F.function function) (T.elem_of x) (map U.elem_of others.now)) 0 (length others.now) room.new }
+    ensures within { result ≤ length others.now }
+    ensures values { AreWritten (pair_number (F.function function) (T.elem_of x) (map U.elem_of others.now)) 0 result room.new }
     ensures len { length room.new ≡ length room.old }
 {
     for k in 0..others.len() {
         match pair_at(x, others, k, function) {
             Ok(value) => put(room, k, value),
-            Err(_) => return false,
+            Err(_) => return k,
         }
     }
-    true
-}
-
-/// Puts so many zeros behind other values, as room to be written.
-pub(crate) fn append_zeros(values: &mut Vec<i64>, len: usize)
-    requires { vec_len values.old + len ≤ vec_capacity values.old }
-    ensures items { values.new.items ≡ values.old.items ++ replicate len (pos 0) }
-    ensures capacity { vec_capacity values.new ≡ vec_capacity values.old }
-{
-    for _more in 0..len {
-        values.push_reserved(0);
-    }
+    others.len()
 }
