@@ -1,6 +1,6 @@
 -- One more value, one more stretch of values, and the first fault among them.
 use Rattle.std.proofs.Common.{◌≡◌, ℕ, ◌+◌, ◌-◌, ◌<◌, ◌≤◌, List, [], ◌∷◌, ◌++◌, length, get_or, take, drop, Result, Ok, Err, refl, sym, ap, ◌∙◌, subst, ⊎_elim, arith, length-append, length-drop}
-use Rattle.std.specs.Prelude.{IsOk, OnOk, IfErr}
+use Rattle.std.specs.Prelude.{IsOk, OnOk, IfOk, IfErr}
 use borrow.Rule.Slice.PartMut.{put_mid, post_of}
 use Rattle.std.proofs.lemmas.List.{length_push, get_or_push, get_or_append_left, get_or-append_right, get_or-take, length-take-le}
 use Rattle.std.proofs.lemmas.Bool.{cases_lt}
@@ -70,10 +70,10 @@ module _ {T : Type 0} (outcome : ℕ → Result T Fault) where
         (cases_lt (from + k) mid);
   }
 
-  pub AppendsValues-then_ok : {X E : Type 0} (result : Result X E) (from mid to : ℕ) (old between new : List T) → from ≤ mid → mid ≤ to
-      → AppendsValues outcome from mid old between → OnOk result (AppendsValues outcome mid to between new) → OnOk result (AppendsValues outcome from to old new)
-  AppendsValues-then_ok (Ok x) from mid to old between new low high first second = AppendsValues-then from mid to old between new low high first second
-  AppendsValues-then_ok (Err e) from mid to old between new low high first second = tt
+  pub AppendsValues-then_ok : {E Z : Type 0} (result : Result (Vec T Z) E) (from mid to : ℕ) (old between : List T) → from ≤ mid → mid ≤ to
+      → AppendsValues outcome from mid old between → IfOk result (λ v. AppendsValues outcome mid to between v.items) → IfOk result (λ v. AppendsValues outcome from to old v.items)
+  AppendsValues-then_ok (Ok v) from mid to old between low high first second = AppendsValues-then from mid to old between v.items low high first second
+  AppendsValues-then_ok (Err e) from mid to old between low high first second = tt
 
   -- no place that has given a value has a fault
   pub IsOk-from_appended : (from to : ℕ) (old new : List T) → from ≤ to → AppendsValues outcome from to old new

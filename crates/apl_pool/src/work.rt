@@ -1,5 +1,5 @@
 //! What a worker does with a piece and with its share: its values are put behind others, or into the room for them.
-ghost use Rattle.std.specs.Prelude.{◌≡◌, ℕ, ◌+◌, ◌-◌, ◌<◌, ◌≤◌, ◌^◌, OnOk, IfErr, length, slice_index, vec_len, vec_capacity};
+ghost use Rattle.std.specs.Prelude.{◌≡◌, ℕ, ◌+◌, ◌-◌, ◌<◌, ◌≤◌, ◌^◌, OnOk, IfOk, IfErr, length, slice_index, vec_len, vec_capacity};
 ghost use Rattle.apl_pool.specs.Parts.{AreValuesFrom, IsStopFrom, IsPart};
 ghost use Rattle.apl_pool.specs.Runs.{AppendsValues, AreWritten};
 
@@ -41,49 +41,56 @@ fn append_runs<K: Kernel>(kernel: &K, from: usize, to: usize, values: &mut Vec<K
     }
 }
 
-/// Puts the values at the places from `from` up to before `to` behind others, one by one.
+/// Puts the values at the places from `from` up to before `to` behind others, one by one. The list is
+/// handed over and back, so that its end is kept in a register.
 fn append_places<K: Kernel>(
     kernel: &K,
     from: usize,
     to: usize,
-    values: &mut Vec<K::Out>,
-) -> Result<(), Stop>
+    values: Vec<K::Out>,
+) -> Result<Vec<K::Out>, Stop>
+where
+    K::Out: Drop,
     requires order { from ≤ to }
     requires places { to ≤ K.place_count kernel.now }
     requires most { to ≤ MOST_PLACES }
-    requires room { vec_len values.old + (to - from) ≤ vec_capacity values.old }
-    ensures ok { OnOk result (AppendsValues (K.outcome kernel.now) from to values.old.items values.new.items) }
-    ensures capacity { OnOk result (vec_capacity values.new ≡ vec_capacity values.old) }
+    requires room { vec_len values + (to - from) ≤ vec_capacity values }
+    ensures ok { IfOk result (λ all. AppendsValues (K.outcome kernel.now) from to values.items all.items) }
+    ensures capacity { IfOk result (λ all. vec_capacity all ≡ vec_capacity values) }
     ensures stop { IfErr result (IsStopFrom (K.outcome kernel.now) from to) }
 {
+    let mut all = values;
     for place in from..to {
         match kernel.at(place) {
-            Ok(value) => values.push_reserved(value),
+            Ok(value) => all.push_reserved(value),
             Err(fault) => return Err(stop_at(place, fault)),
         }
     }
-    Ok(())
+    Ok(all)
 }
 
-/// Puts the values of a piece at the end of `values`, by a worker who passes the gate first.
+/// Puts the values of a piece behind others, by a worker who passes the gate first.
 fn append_piece<K: Kernel, G: Gate>(
     kernel: &K,
     gate: &G,
     worker: u8,
     piece: Piece,
-    values: &mut Vec<K::Out>,
-) -> Result<(), Stop>
+    values: Vec<K::Out>,
+) -> Result<Vec<K::Out>, Stop>
+where
+    K::Out: Drop,
     requires order { piece.from ≤ piece.to }
     requires places { piece.to ≤ K.place_count kernel.now }
     requires most { piece.to ≤ MOST_PLACES }
-    requires room { vec_len values.old + (piece.to - piece.from) ≤ vec_capacity values.old }
-    ensures ok { OnOk result (AppendsValues (K.outcome kernel.now) piece.from piece.to values.old.items values.new.items) }
-    ensures capacity { OnOk result (vec_capacity values.new ≡ vec_capacity values.old) }
+    requires room { vec_len values + (piece.to - piece.from) ≤ vec_capacity values }
+    ensures ok { IfOk result (λ all. AppendsValues (K.outcome kernel.now) piece.from piece.to values.items all.items) }
+    ensures capacity { IfOk result (λ all. vec_capacity all ≡ vec_capacity values) }
     ensures stop { IfErr result (IsStopFrom (K.outcome kernel.now) piece.from piece.to) }
 {
     gate.pass(worker, piece.number);
-    let first = append_runs(kernel, piece.from, piece.to, values);
-    append_places(kernel, first, piece.to, values)
+    let mut all = values;
+    let first = append_runs(kernel, piece.from, piece.to, &mut all);
+    append_places(kernel, first, piece.to, all)
 }
 
 /// Writes the values of the kernel's runs into the room for the places from `from` up to before `to`,
@@ -183,7 +190,7 @@ where
         to: end,
     };
     while piece.from < count {
-        append_piece(kernel, gate, worker, piece, &mut values)?;
+        values = append_piece(kernel, gate, worker, piece, values)?;
         piece = next_piece(cut, piece, count);
     }
     Ok(values)
@@ -232,13 +239,7 @@ where
 {
     let mut values = Vec::with_capacity(alloc, room)?;
     for number in share.from..share.to {
-        append_piece(
-            kernel,
-            gate,
-            share.worker,
-            pieces.piece(number),
-            &mut values,
-        )?;
+        values = append_piece(kernel, gate, share.worker, pieces.piece(number), values)?;
     }
     Ok(values)
 }

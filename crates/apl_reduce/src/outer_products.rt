@@ -21,6 +21,7 @@ use apl_scalar::function_types::{Equal, Function, NotEqual};
 use apl_scalar::with_type;
 use std::alloc::Global;
 use std::marker::PhantomData;
+use std::mem::replace;
 use std::thread::Threads;
 
 /// Each element of one list with each element of another, the right one varying fastest.
@@ -31,6 +32,7 @@ struct EachPair<'a, T, U, F: Dyadic> {
     columns: Divisor,
     count: usize,
     function: F,
+    alloc: Global,
     ghost most: { count ≤ MOST_PLACES },
     ghost count_is: { count ≡ length left.now * length right.now },
     ghost columns_are: { columns ≡ length right.now },
@@ -79,13 +81,15 @@ impl<T: Element, U: Element, F: Dyadic> Kernel for EachPair<'_, T, U, F> {
             .of(self.left[row].elem(), self.right[column].elem())
     }
 
-    #[inline(always)]
     fn append_run(&self, from: usize, to: usize, values: &mut Vec<i64>) -> usize {
         if from == to || self.right.len() < NARROW {
             return from;
         }
         let (x, others) = self.row_from(from, to);
-        from + append_pairs(x, others, self.function, values)
+        let own = replace(values, Vec::new(self.alloc));
+        let (count, all) = append_pairs(x, others, self.function, own);
+        *values = all;
+        from + count
     }
 
     #[inline(always)]
@@ -120,6 +124,7 @@ impl<R: Threads + Sync, C: Cut + Sync, G: Gate + Sync> Workers<'_, R, C, G> {
             columns: Divisor::new(right.len()),
             count,
             function,
+            alloc: self.alloc,
         };
         self.pool.fill(self.rt, self.alloc, &kernel)
     }

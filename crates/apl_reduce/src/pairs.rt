@@ -37,20 +37,21 @@ pub(crate) fn append_pairs<T: Element, U: Element, F: Dyadic>(
     x: T,
     others: &[U],
     function: F,
-    values: &mut Vec<i64>,
-) -> usize
-    requires room { vec_len values.old + length others.now ≤ vec_capacity values.old }
-    ensures within { result ≤ length others.now }
-    ensures values { AppendsValues (pair_number (F.function function) (T.elem_of x) (map U.elem_of others.now)) 0 result values.old.items values.new.items }
-    ensures capacity { vec_capacity values.new ≡ vec_capacity values.old }
+    values: Vec<i64>,
+) -> (usize, Vec<i64>)
+    requires room { vec_len values + length others.now ≤ vec_capacity values }
+    ensures within { result.0 ≤ length others.now }
+    ensures values { AppendsValues (pair_number (F.function function) (T.elem_of x) (map U.elem_of others.now)) 0 result.0 values.items result.1.items }
+    ensures capacity { vec_capacity result.1 ≡ vec_capacity values }
 {
+    let mut all = values;
     for k in 0..others.len() {
         match pair_at(x, others, k, function) {
-            Ok(value) => values.push_reserved(value),
-            Err(_) => return k,
+            Ok(value) => all.push_reserved(value),
+            Err(_) => return (k, all),
         }
     }
-    others.len()
+    (others.len(), all)
 }
 
 /// Writes the same into the room for them.

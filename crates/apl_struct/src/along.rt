@@ -6,7 +6,7 @@ ghost use Rattle.apl_pool.specs.declared.kernel.TheConstants.{MOST_PLACES};
 ghost use Rattle.apl_answer.specs.Pointwise.{answer_of, IsAnswerOf};
 ghost use Rattle.apl_struct.specs.Gathering.{element_or_fill, along_axis_or_none};
 
-use crate::gather::{Same, Source};
+use crate::gather::{Absent, Source};
 use crate::lines::{AnyAxis, FirstAxis, LastAxis, Lines, Vector};
 use crate::workers::Workers;
 use apl_answer::OpFault;
@@ -153,7 +153,7 @@ impl<R: Threads + Sync, C: Cut + Sync, G: Gate + Sync> Workers<'_, R, C, G> {
     {
         let count = shape.count();
         if count == 0 {
-            return self.gather(shape, b, Same { count });
+            return self.gather(shape, b, Absent { count });
         }
         let Steps {
             length,

@@ -13,9 +13,9 @@ ghost use Rattle.apl_answer.specs.Rows.{Answers};
 ghost use Rattle.apl_struct.specs.Building.{shape_of_row, ravel_row, reshape_source, reshape_row, iota_row};
 
 use crate::arguments::numbers_among;
-use crate::gather::{Same, Source};
+use crate::gather::Source;
 use crate::workers::Workers;
-use apl_answer::{OpFault, fill_array};
+use apl_answer::{OpFault, array_of_elements, fill_array};
 use apl_array::{Array, MOST_AXES, MOST_ELEMENTS, Origin, Shape, places_match_index_lists};
 use apl_pool::{Cut, Fault, Gate, Kernel, Pool};
 use smallvec::SmallVec;
@@ -80,9 +80,8 @@ pub fn ravel<R: Threads + Sync, C: Cut + Sync, G: Gate + Sync>(
 ) -> Result<Array, OpFault>
     ensures { Answers (ravel_row b.now) result }
 {
-    let workers = Workers { rt, alloc, pool };
     let count = b.shape().count();
-    workers.gather(vector_shape(alloc, count), b, Same { count })
+    array_of_elements(rt, alloc, pool, vector_shape(alloc, count), b)
 }
 
 /// The elements in row order, again and again.
@@ -145,7 +144,7 @@ impl<R: Threads + Sync, C: Cut + Sync, G: Gate + Sync> Workers<'_, R, C, G> {
         let count = shape.count();
         let size = b.shape().count();
         if count <= size {
-            self.gather(shape, b, Same { count })
+            array_of_elements(self.rt, self.alloc, self.pool, shape, b)
         } else if size == 1 {
             self.gather(shape, b, Only { count })
         } else {

@@ -9,7 +9,7 @@ ghost use Rattle.apl_answer.specs.Pointwise.{answer_of, IsAnswerOf};
 ghost use Rattle.apl_struct.specs.Gathered.{filled_at};
 
 use crate::workers::Workers;
-use apl_answer::{Element, OpFault, fill_array};
+use apl_answer::{Element, OpFault, array_of_elements, fill_array};
 use apl_array::{Array, Shape};
 use apl_pool::{Cut, Fault, Gate, Kernel};
 use std::thread::Threads;
@@ -31,30 +31,6 @@ pub(crate) trait Source {
     fn at(&self, place: usize) -> Option<usize>
         requires { place < place_count self.now }
         ensures { result ≡ source self.now place };
-}
-
-/// Each place takes its own.
-#[derive(Drop)]
-pub(crate) struct Same {
-    pub count: usize,
-    ghost most: { count ≤ MOST_PLACES },
-}
-
-impl Source for Same {
-    ghost use Rattle.std.specs.Prelude.{Some};
-
-    ghost place_count = { λ s. s.count };
-
-    ghost source = { λ s place. Some place };
-
-    fn count(&self) -> usize {
-        self.count
-    }
-
-    #[inline(always)]
-    fn at(&self, place: usize) -> Option<usize> {
-        Some(place)
-    }
 }
 
 /// No place takes any.
@@ -152,8 +128,7 @@ impl<R: Threads + Sync, C: Cut + Sync, G: Gate + Sync> Workers<'_, R, C, G> {
         ensures { (source : List ℕ → List ℕ) → IsAnswerOf (answer_of b.now.shape (λ index. Ok (element_at b.now (source index))) b.now.kind) result }
     {
         let shape = b.shape().copy(self.alloc)?;
-        let count = shape.count();
-        self.gather(shape, b, Same { count })
+        array_of_elements(self.rt, self.alloc, self.pool, shape, b)
     }
 
     fn gather_elements<T: Element + Send + Sync, S: Source + Sync + Drop>(

@@ -13,7 +13,7 @@ ghost use Rattle.apl_struct.specs.Selecting.{AreArrays, AreChosen, IsJudged, IsM
 
 use crate::arguments::numbers_among;
 use crate::choose::Picked;
-use crate::gather::Same;
+use crate::gather::Absent;
 use crate::selecting::{Choice, push_choice, push_stretch};
 use crate::workers::Workers;
 use apl_answer::OpFault;
@@ -245,7 +245,7 @@ impl<R: Threads + Sync, C: Cut + Sync, G: Gate + Sync> Workers<'_, R, C, G> {
     {
         let count = shape.count();
         if count == 0 {
-            return self.gather(shape, a, Same { count });
+            return self.gather(shape, a, Absent { count });
         }
         places_match_index_lists();
         are_arrays(slots);

@@ -13,7 +13,7 @@ ghost use Rattle.apl_struct.specs.Moving.{are_all_named, named_axes, transpose_r
 ghost use Rattle.apl_struct.specs.Windows.{extent_of, walked, windows_of};
 
 use crate::arguments::numbers_among;
-use crate::gather::Same;
+use crate::gather::Absent;
 use crate::named::{are_all_named, are_from_origin, axes_named, named_axes};
 use crate::windows::{MOST_STEP, Walk, Window};
 use crate::workers::Workers;
@@ -78,7 +78,7 @@ impl<R: Threads + Sync, C: Cut + Sync, G: Gate + Sync> Workers<'_, R, C, G> {
         let _kind = b.kind();
         let count = shape.count();
         if count == 0 {
-            return self.gather(shape, b, Same { count });
+            return self.gather(shape, b, Absent { count });
         }
         let walk = transposed_walk(self.alloc, &shape, b.shape(), axes)?;
         self.gather_walk(shape, b, walk)

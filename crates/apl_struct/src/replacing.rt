@@ -13,11 +13,11 @@ ghost use Rattle.apl_struct.specs.Selecting.{choice_count, choice_place, total_c
 ghost use Rattle.apl_struct.specs.Numbering.{last_number, value_numbered, element_numbered, replacement_checks, value_step, IsReplacement};
 
 use crate::arguments::is_same_shape;
-use crate::gather::{Same, element_or};
+use crate::gather::element_or;
 use crate::indexing::{are_arrays, choices_of, selected_shape};
 use crate::selecting::{Choice, Places, Several, Single};
 use crate::workers::Workers;
-use apl_answer::{Element, OpFault, fill_array};
+use apl_answer::{Element, OpFault, array_of_elements, fill_array};
 use apl_array::{Array, Origin, Shape, places_match_index_lists};
 use apl_pool::{Cut, Fault, Gate, Kernel, Pool};
 use std::alloc::Global;
@@ -287,8 +287,7 @@ impl<R: Threads + Sync, C: Cut + Sync, G: Gate + Sync> Workers<'_, R, C, G> {
     {
         places_match_index_lists();
         let shape = a.shape().copy(self.alloc)?;
-        let count = shape.count();
-        self.gather(shape, a, Same { count })
+        array_of_elements(self.rt, self.alloc, self.pool, shape, a)
     }
 
     /// The array with the values in the place of the elements that the slots choose.

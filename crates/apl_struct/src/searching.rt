@@ -13,7 +13,7 @@ ghost use Rattle.apl_struct.specs.Searching.{index_of_row, member_row};
 
 use crate::finding::{Sorted, Sought};
 use crate::workers::Workers;
-use apl_answer::{OpFault, fill_array};
+use apl_answer::{OpFault, array_from_fill, fill_array, fill_uniform};
 use apl_array::{Array, Origin, places_match_index_lists};
 use apl_pool::{Cut, Fault, Gate, Kernel, Pool};
 use std::alloc::Global;
@@ -79,34 +79,6 @@ impl<T: Sought> Kernel for Members<'_, T> {
     }
 }
 
-/// One number at all places.
-#[derive(Drop)]
-struct Everywhere {
-    count: usize,
-    number: usize,
-    ghost most: { count ≤ MOST_PLACES },
-    ghost fits: { number ≤ MOST_PLACES + 1 },
-}
-
-impl Kernel for Everywhere {
-    ghost use Rattle.std.specs.Prelude.{Ok, pos};
-
-    type Out = i64;
-
-    ghost place_count = { λ k. k.count };
-
-    ghost outcome = { λ k place. Ok (pos k.number) };
-
-    fn count(&self) -> usize {
-        self.count
-    }
-
-    #[inline(always)]
-    fn at(&self, _place: usize) -> Result<i64, Fault> {
-        Ok(self.number as i64)
-    }
-}
-
 impl<R: Threads + Sync, C: Cut + Sync, G: Gate + Sync> Workers<'_, R, C, G> {
     /// The first place in a list of each of an array's elements, counted from the origin.
     fn first_places<T: Sought + Sync>(
@@ -157,11 +129,9 @@ impl<R: Threads + Sync, C: Cut + Sync, G: Gate + Sync> Workers<'_, R, C, G> {
             → IsAnswerOf (answer_of b.now.shape outcome Number) result }
     {
         let shape = b.shape().copy(self.alloc)?;
-        let kernel = Everywhere {
-            count: shape.count(),
-            number,
-        };
-        fill_array(self.rt, self.alloc, self.pool, shape, &kernel)
+        let count = shape.count();
+        let filled = fill_uniform(self.rt, self.alloc, self.pool, count, Ok(number as i64));
+        array_from_fill(shape, filled)
     }
 }
 

@@ -13,7 +13,7 @@ ghost use Rattle.apl_struct.specs.Windows.{step_of, extent_of, walked, windows_o
 ghost use Rattle.apl_struct.specs.Shaped.{with_shape, left_number, left_numbers};
 
 use crate::arguments::numbers_among;
-use crate::gather::{Absent, Same};
+use crate::gather::Absent;
 use crate::windows::{Walk, Window};
 use crate::workers::Workers;
 use apl_answer::OpFault;
@@ -168,10 +168,7 @@ impl<R: Threads + Sync, C: Cut + Sync, G: Gate + Sync> Workers<'_, R, C, G> {
         // An array that was asked something is known to be lawful.
         let _kind = b.kind();
         let count = shape.count();
-        if count == 0 {
-            return self.gather(shape, b, Same { count });
-        }
-        if argument.count() == 0 {
+        if count == 0 || argument.count() == 0 {
             return self.gather(shape, b, Absent { count });
         }
         let walk = taken_walk(self.alloc, numbers, argument)?;

@@ -4,7 +4,7 @@ use Rattle.apl_pool.proofs.work.append_piece.Goals as goal
 pub returns-clause-ok : goal.returns-clause-ok
 returns-clause-ok g c =
     let runs = c.append_runs-first.ensures in
-    AppendsValues-then_ok _ c.append_places.result _ _ _ _ _ _ runs.order runs.within runs.values c.append_places.ensures.ok
+    AppendsValues-then_ok _ c.append_places.result _ _ _ _ _ runs.order runs.within runs.values c.append_places.ensures.ok
 
 pub returns-clause-stop : goal.returns-clause-stop
 returns-clause-stop g c =

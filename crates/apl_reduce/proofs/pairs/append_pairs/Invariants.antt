@@ -5,5 +5,5 @@ use Rattle.apl_reduce.proofs.pairs.append_pairs.Given as goal
 
 abbrev pub invariant-loop-k : goal.invariant-loop-k
 invariant-loop-k g l =
-    AppendsValues (pair_number (g.F.Dyadic.function l.function) (g.T.Element.elem_of l.x) (map g.U.Element.elem_of l.others)) 0 l.k l.initial.values.items l.values.items
-    × (vec_capacity l.values ≡ vec_capacity l.initial.values)
+    AppendsValues (pair_number (g.F.Dyadic.function l.function) (g.T.Element.elem_of l.x) (map g.U.Element.elem_of l.others)) 0 l.k l.fn.values.items l.all.items
+    × (vec_capacity l.all ≡ vec_capacity l.fn.values)

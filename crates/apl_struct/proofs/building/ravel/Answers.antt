@@ -1,8 +1,7 @@
-use Rattle.std.proofs.Common.{◌≡◌, ◌<◌, [], ◌∷◌, slice_index, sym, ap, ◌∙◌, rules}
+use Rattle.std.proofs.Common.{◌≡◌, ◌<◌, [], ◌∷◌, slice_index, Ok, sym, ap, ◌∙◌, rules}
 use Rattle.apl_array.specs.Shape.{index_at}
 use Rattle.apl_array.specs.Array.{element_in}
 use Rattle.apl_answer.specs.Arguments.{size_of}
-use Rattle.apl_struct.proofs.Elements.{filled_in}
 use Rattle.apl_struct.proofs.Vectors.{vector_place, vector_index}
 use Rattle.apl_struct.proofs.building.ravel.Goals as goal
 
@@ -11,9 +10,9 @@ returns g c =
     let b = c.args.b.now in
     let shapes : c.vector_shape.result ≡ size_of b ∷ [] = search rules in
     rw shapes at
-    (c.gather.ensures (λ index. element_in b (slice_index index 0))
+    (c.array_of_elements.ensures (λ index. Ok (element_in b (slice_index index 0)))
     (λ place inside.
     let below : place < size_of b = vector_place (size_of b) place (rw shapes at inside) in
     let same : slice_index (index_at c.vector_shape.result place) 0 ≡ place =
     ap (λ s. slice_index (index_at s place) 0) shapes ∙ vector_index (size_of b) place below in
-    filled_in b place c.shape.ensures.lawful below ∙ ap (element_in b) (sym same)))
+    ap (λ k. Ok (element_in b k)) (sym same)))

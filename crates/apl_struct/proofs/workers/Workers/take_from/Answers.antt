@@ -7,16 +7,17 @@ use Rattle.apl_struct.specs.Shaped.{with_shape}
 use Rattle.apl_struct.specs.Taking.{take_source}
 use Rattle.apl_struct.proofs.Taken.{taken_none_of_empty, taken_element}
 use Rattle.apl_struct.proofs.workers.Workers.take_from.Goals as goal
+use Rattle.apl_struct.proofs.workers.Workers.take_from.Goals.{then-count-eq0-via-then-count-eq0, then-count-eq0-via-else-count-eq0+then-count-eq0-2}
 
 pub returns-then-count-eq0 : goal.returns-then-count-eq0
-returns-then-count-eq0 g c = λ element same. c.gather.ensures element (λ place inside. absurd (omega (arith, inside, c.if-count-eq0.true, c.count-count.ensures.count)))
-
-pub returns-then-count-eq0-2 : goal.returns-then-count-eq0-2
-returns-then-count-eq0-2 g c = λ element same.
+returns-then-count-eq0 g c = λ element same.
     let argument = c.args.argument.now in
-    let none : count_of argument ≡ 0 = omega arith in
-    c.gather-then-count-eq0-2.ensures element
+    c.gather.ensures element
     (λ place inside.
+    let none : count_of argument ≡ 0 = elim c.then-count-eq0.branch [
+      | then-count-eq0-via-then-count-eq0 w ↦ absurd (omega (arith, inside, w.if-count-eq0.true, c.count-count.ensures.count))
+      | then-count-eq0-via-else-count-eq0+then-count-eq0-2 w ↦ omega (arith, w.if-count-eq0-2.true, w.count.ensures.count)
+    ] in
     let lawful = c.places_match_index_lists.ensures.lawful c.args.shape place inside in
     let P : List ℕ → Type 0 = λ s. IsIndexOf s (index_at c.args.shape place) in
     sym (ap (element_or_fill (with_shape argument c.args.b.now))
