@@ -21,8 +21,8 @@ pub(crate) struct Sums<'a> {
 }
 
 impl Sums<'_> {
-    /// The sum at a place.
-    #[inline(always)]
+    /// The sum at a place. Inlined into a loop over places, it multiplies by the strides at each item.
+    #[inline(never)]
     fn sum_at(&self, place: usize) -> i64
         requires { place < self.now.layout.now.count }
         ensures { result ≡ sum_of (product_at self.now.layout.now self.now.left.now self.now.right.now place) self.now.layout.now.items }

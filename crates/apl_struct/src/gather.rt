@@ -8,10 +8,13 @@ ghost use Rattle.apl_pool.specs.declared.kernel.TheConstants.{MOST_PLACES};
 ghost use Rattle.apl_answer.specs.Pointwise.{answer_of, IsAnswerOf};
 ghost use Rattle.apl_struct.specs.Gathered.{filled_at};
 
+use crate::stretches::{append_elements, stretch_at, write_elements};
 use crate::workers::Workers;
 use apl_answer::{Element, OpFault, array_of_elements, fill_array};
 use apl_array::{Array, Shape};
 use apl_pool::{Cut, Fault, Gate, Kernel};
+use std::alloc::Global;
+use std::mem::replace;
 use std::thread::Threads;
 
 /// Which place of the argument each place of the result takes, or none for the fill.
@@ -22,7 +25,7 @@ pub(crate) trait Source {
     // The place of the argument.
     ghost source: { Self → ℕ → Option ℕ };
 
-    ghost use Rattle.std.specs.Prelude.{Option};
+    ghost use Rattle.std.specs.Prelude.{Option, Some, ◌+◌};
 
     fn count(&self) -> usize
         ensures value { result ≡ place_count self.now }
@@ -31,6 +34,17 @@ pub(crate) trait Source {
     fn at(&self, place: usize) -> Option<usize>
         requires { place < place_count self.now }
         ensures { result ≡ source self.now place };
+
+    /// The first place of a stretch of the argument that the places from `from` up to before `to` begin
+    /// with, and its length: 0 where the source knows of no stretch there.
+    fn stretch(&self, from: usize, _to: usize) -> (usize, usize)
+        requires order { from ≤ _to }
+        requires within { _to ≤ place_count self.now }
+        ensures within { from + result.1 ≤ _to }
+        ensures each { (k : ℕ) → k < result.1 → source self.now (from + k) ≡ Some (result.0 + k) }
+    {
+        (from, 0)
+    }
 }
 
 /// No place takes any.
@@ -74,6 +88,7 @@ struct Gather<'a, T, S> {
     elements: &'a [T],
     source: S,
     fill: T,
+    alloc: Global,
 }
 
 impl<T: Element, S: Source> Kernel for Gather<'_, T, S> {
@@ -96,6 +111,21 @@ impl<T: Element, S: Source> Kernel for Gather<'_, T, S> {
         let taken = self.source.at(place);
         let element = element_or(self.elements, taken.unwrap_or(0), self.fill);
         Ok(if taken.is_some() { element } else { self.fill })
+    }
+
+    fn append_run(&self, from: usize, to: usize, values: &mut Vec<T>) -> usize {
+        let (first, count) = self.source.stretch(from, to);
+        let elements = stretch_at(self.elements, first, count);
+        let own = replace(values, Vec::new(self.alloc));
+        *values = append_elements(elements, own);
+        from + elements.len()
+    }
+
+    fn write_run(&self, from: usize, to: usize, room: &mut [T]) -> usize {
+        let (first, count) = self.source.stretch(from, to);
+        let elements = stretch_at(self.elements, first, count);
+        write_elements(elements, room);
+        from + elements.len()
     }
 }
 
@@ -148,6 +178,7 @@ impl<R: Threads + Sync, C: Cut + Sync, G: Gate + Sync> Workers<'_, R, C, G> {
             elements,
             source,
             fill: T::fill(),
+            alloc: self.alloc,
         };
         fill_array(self.rt, self.alloc, self.pool, shape, &kernel)
     }

@@ -25,6 +25,7 @@ mod rotating;
 mod searching;
 mod selecting;
 mod sorting;
+mod stretches;
 mod taking;
 mod walk;
 mod windows;

@@ -39,6 +39,11 @@ impl Source for OneAxis {
     fn at(&self, place: usize) -> Option<usize> {
         self.first.step(place)
     }
+
+    #[inline(always)]
+    fn stretch(&self, from: usize, to: usize) -> (usize, usize) {
+        self.first.stretch(from, to)
+    }
 }
 
 /// A walk along two axes.

@@ -38,6 +38,21 @@ impl Window {
         }
     }
 
+    /// What the indexes from `from` up to before `to` begin with, where each adds 1 to what the one before
+    /// it adds: what the first one adds, and how many they are.
+    #[inline(always)]
+    pub(crate) fn stretch(&self, from: usize, to: usize) -> (usize, usize)
+        requires order { from ≤ to }
+        requires most { to ≤ MOST_PLACES }
+        ensures within { from + result.1 ≤ to }
+        ensures each { (k : ℕ) → k < result.1 → step_of self.now (from + k) ≡ Some (result.0 + k) }
+    {
+        if self.stride != 1 || from < self.from || self.to <= from {
+            return (from, 0);
+        }
+        (from + self.start - self.from, self.to.min(to) - from)
+    }
+
     /// What index `i` adds where each index takes its own.
     #[inline(always)]
     pub(crate) fn whole_step(&self, i: usize) -> usize
