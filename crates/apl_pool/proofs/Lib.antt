@@ -1,2 +1,4 @@
 pub mod Values
 pub mod Bounds
+pub mod Summaries
+pub mod FoldedParts

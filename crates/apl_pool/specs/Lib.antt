@@ -2,3 +2,5 @@ pub mod Pool
 pub mod Runs
 pub mod Parts
 pub mod Shares
+pub mod Summaries
+pub mod Folds

@@ -4,10 +4,13 @@ ghost use Rattle.std.specs.Thread.{IsSync};
 ghost use Rattle.std.specs.Prelude.{◌≡◌, ◌++◌, ℕ, ◌+◌, ◌-◌, ◌<◌, ◌≤◌, OnOk, IfErr, length};
 ghost use Rattle.apl_pool.specs.Parts.{AreValuesFrom, IsStopFrom, IsPart};
 ghost use Rattle.apl_pool.specs.Shares.{share_start};
+ghost use Rattle.apl_pool.specs.Folds.{IsFoldedPart};
 
+use super::folds::{fold_share, join_both};
 use super::gate::Gate;
 use super::kernel::{Kernel, Stop};
 use super::shares::Shares;
+use super::summary::Summary;
 use super::work::{append_share, write_share};
 use std::alloc::Global;
 use std::thread::{Threads, join, join_mut};
@@ -60,6 +63,37 @@ pub(crate) fn collect_shares<
     let mut more = last?;
     values.append(&mut more)?;
     Ok(values)
+}
+
+/// The summary of the items of the first `tasks` shares, where there are some. Those of the workers are joined in the order of their
+/// places.
+#[cycle(folding)]
+pub(crate) fn fold_shares<
+    R: Threads + Sync,
+    S: Summary + Drop + Send,
+    K: Kernel<Out = S::Item> + Sync,
+    G: Gate + Sync,
+>(rt: &R, kernel: &K, gate: &G, shares: &Shares, tasks: usize) -> Result<Option<S>, Stop>
+    requires some { 0 < tasks }
+    requires within { tasks ≤ shares.now.tasks }
+    requires places { shares.now.pieces.places ≡ K.place_count kernel.now }
+    ensures { IsFoldedPart S.step S.item_count S.outcome (K.outcome kernel.now) 0 (share_start shares.now tasks) result }
+{
+    if tasks == 1 {
+        return fold_share(kernel, gate, shares.pieces(), shares.share(0));
+    }
+    let others = tasks - 1;
+    let last = || -> Result<Option<S>, Stop>
+        requires { IsSync K.row × IsSync G.row × (others < shares.now.tasks) × (shares.now.pieces.places ≡ K.place_count kernel.now) }
+        ensures { IsFoldedPart S.step S.item_count S.outcome (K.outcome kernel.entry.now) (share_start shares.entry.now others) (share_start shares.entry.now (others + 1)) result }
+    { fold_share(kernel, gate, shares.pieces(), shares.share(others)) };
+    let before = || -> Result<Option<S>, Stop>
+        requires { IsSync R.row × IsSync K.row × IsSync G.row × (0 < others) × (others ≤ shares.now.tasks) × (shares.now.pieces.places ≡ K.place_count kernel.now) }
+        ensures { IsFoldedPart S.step S.item_count S.outcome (K.outcome kernel.entry.now) 0 (share_start shares.entry.now others) result }
+    { fold_shares(rt, kernel, gate, shares, others) };
+    let (last, before) = join(rt, last, before);
+    let before = before?;
+    Ok(join_both(before, last?))
 }
 
 /// What the first `tasks` workers write into the room for their shares.

@@ -7,14 +7,17 @@
 
 mod crew;
 mod cut;
+mod folds;
 mod gate;
 mod kernel;
 mod pieces;
 mod pool;
 mod shares;
+mod summary;
 mod work;
 
 pub use cut::{Cut, Every};
 pub use gate::{Gate, Open};
 pub use kernel::{Fault, Kernel, MOST_PLACES, Stop};
 pub use pool::{MOST_WORKERS, Pool};
+pub use summary::{LONGEST_RUN, Summary};

@@ -1,15 +1,20 @@
 //! The pool: how many workers there are, how the places are cut, and what a worker passes before each piece.
-ghost use Rattle.std.specs.Prelude.{◌≡◌, ℕ, ◌+◌, ◌<◌, ◌≤◌, IfOk, OnOk, IfErr, length};
+ghost use Rattle.std.specs.Prelude.{◌≡◌, ℕ, ◌+◌, ◌<◌, ◌≤◌, false, List, IfOk, OnOk, IfErr, length};
+ghost use Rattle.apl_pool.specs.declared.kernel.TheConstants.{MOST_PLACES};
 ghost use Rattle.apl_pool.specs.declared.pool.TheConstants.{MOST_WORKERS};
 ghost use Rattle.apl_pool.specs.Pool.{AreValues, IsStopOf};
 ghost use Rattle.apl_pool.specs.Shares.{share_start};
+ghost use Rattle.apl_pool.specs.Summaries.{IsSummaryOf};
+ghost use Rattle.apl_pool.specs.Folds.{IsFoldedPart};
 
-use super::crew::{collect_shares, write_shares};
+use super::crew::{collect_shares, fold_shares, write_shares};
 use super::cut::Cut;
+use super::folds::fold_all;
 use super::gate::Gate;
-use super::kernel::{Kernel, Stop};
+use super::kernel::{Kernel, MOST_PLACES, Stop};
 use super::pieces::piece_end;
 use super::shares::Shares;
+use super::summary::Summary;
 use super::work::append_all;
 use std::alloc::Global;
 use std::thread::Threads;
@@ -37,6 +42,15 @@ impl<C: Cut + Sync, G: Gate + Sync> Pool<C, G> {
         requires most { workers ≤ MOST_WORKERS }
     {
         Pool { workers, cut, gate }
+    }
+
+    /// Whether several workers share a pass over so many places. One worker, or one piece, is shared by none. It takes no memory.
+    pub fn is_shared(&self, count: usize) -> bool
+        requires most { count ≤ MOST_PLACES }
+        ensures alone { self.now.workers ≡ 1 → result ≡ false }
+        ensures few { count ≤ 1 → result ≡ false }
+    {
+        self.workers > 1 && count > 0 && piece_end(&self.cut, 0, count) < count
     }
 
     /// The value at each place, or the least place that has a fault, and that fault. Want of
@@ -69,6 +83,47 @@ impl<C: Cut + Sync, G: Gate + Sync> Pool<C, G> {
         }
         let shares = Shares::new(alloc, &self.cut, count, end, self.workers)?;
         self.fill_shares(rt, alloc, kernel, &shares, first)
+    }
+
+    /// The summary of the items at all places, in their order, or the least place that has a fault, and
+    /// that fault. Want of memory may come in place of any answer, and then says nothing else. There is
+    /// at least one place.
+    ///
+    /// The workers share the pieces as in `fill`; how their summaries are nested is not seen. No item is
+    /// stored.
+    pub fn fold<R: Threads + Sync, S: Summary + Drop + Send, K: Kernel<Out = S::Item> + Sync>(
+        &self,
+        rt: &R,
+        alloc: Global,
+        kernel: &K,
+    ) -> Result<S, Stop>
+        requires some { 0 < K.place_count kernel.now }
+        ensures summary { IfOk result (λ s. (items : List S.Item) × AreValues (K.outcome kernel.now) (K.place_count kernel.now) items × IsSummaryOf S.step S.item_count S.outcome s items) }
+        ensures stop { IfErr result (IsStopOf (K.outcome kernel.now) (K.place_count kernel.now)) }
+    {
+        match self.fold_pieces(rt, alloc, kernel)? {
+            Some(summary) => Ok(summary),
+            None => unreachable!(),
+        }
+    }
+
+    /// What `fold` answers, as the parts of which it is joined: a summary where there are items.
+    fn fold_pieces<R: Threads + Sync, S: Summary + Drop + Send, K: Kernel<Out = S::Item> + Sync>(
+        &self,
+        rt: &R,
+        alloc: Global,
+        kernel: &K,
+    ) -> Result<Option<S>, Stop>
+        requires some { 0 < K.place_count kernel.now }
+        ensures { IsFoldedPart S.step S.item_count S.outcome (K.outcome kernel.now) 0 (K.place_count kernel.now) result }
+    {
+        let count = kernel.count();
+        let end = piece_end(&self.cut, 0, count);
+        if self.workers == 1 || end == count {
+            return fold_all(kernel, &self.cut, &self.gate, self.workers - 1, end);
+        }
+        let shares = Shares::new(alloc, &self.cut, count, end, self.workers)?;
+        fold_shares(rt, kernel, &self.gate, &shares, shares.tasks())
     }
 
     /// The value at each place, by several workers. Each has a list of its own, or writes into one

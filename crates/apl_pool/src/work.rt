@@ -11,7 +11,7 @@ use super::shares::Share;
 use std::alloc::Global;
 
 /// The stop at a place that has a fault.
-fn stop_at(place: usize, fault: Fault) -> Stop
+pub(crate) fn stop_at(place: usize, fault: Fault) -> Stop
     requires { place ≤ MOST_PLACES }
     ensures { result ≡ Stop.Fault place fault }
 {
@@ -197,7 +197,7 @@ where
 }
 
 /// The piece behind this one, or none of the places where it is the last.
-fn next_piece<C: Cut>(cut: &C, piece: Piece, count: usize) -> Piece
+pub(crate) fn next_piece<C: Cut>(cut: &C, piece: Piece, count: usize) -> Piece
     requires number { piece.number < piece.to }
     requires within { piece.to ≤ count }
     requires most { count ≤ MOST_PLACES }

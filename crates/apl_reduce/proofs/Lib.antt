@@ -1,4 +1,5 @@
 pub mod Folds
+pub mod Onto
 pub mod FoldedRows
 pub mod Reductions
 pub mod ReducedRows
@@ -21,6 +22,7 @@ pub mod OuterPlaces
 pub mod OuterRows
 pub mod InnerPlaces
 pub mod Strides
+pub mod InnerFolds
 pub mod InnerItems
 pub mod Passing
 pub mod Distances

@@ -1,14 +1,18 @@
 //! The items along an axis, folded at each place of the result.
-ghost use Rattle.std.specs.Prelude.{◌≡◌, ℕ, pos, ◌+◌, ◌-◌, ◌*◌, ◌/◌, ◌%◌, ◌<◌, ◌≤◌, ◌++◌, true, IfOk, IfErr, length, map, remove, replicate, slice_index, drop, vec_len, vec_capacity};
+ghost use Rattle.std.specs.Prelude.{◌≡◌, ℕ, pos, ◌+◌, ◌-◌, ◌*◌, ◌/◌, ◌%◌, ◌<◌, ◌≤◌, ◌++◌, true, IfOk, IfErr, length, map, remove, replicate, slice_index, slice_index_or, drop, vec_len, vec_capacity};
+ghost use Rattle.apl_summary.specs.Functions.{has_summary};
 ghost use Rattle.apl_pool.specs.Runs.{AreWritten};
 ghost use Rattle.apl_array.specs.declared.array.Elem.TheVariants.{Int, Chr};
 ghost use Rattle.apl_array.specs.Shape.{count_of};
+ghost use Rattle.apl_pool.specs.declared.kernel.Stop.TheVariants.{Memory};
 ghost use Rattle.apl_pool.specs.declared.kernel.TheConstants.{MOST_PLACES};
 ghost use Rattle.apl_pool.specs.Pool.{AreValues, IsStopOf};
 ghost use Rattle.apl_reduce.specs.Folded.{fold_at};
 
 use crate::folded_rows::{fold_last_rows, fold_rows, from_place};
 use crate::folding::fold_along;
+use crate::stretch::Stretch;
+use crate::workers::Workers;
 use apl_answer::Element;
 use apl_array::{
     Array, ScalarFunction, Shape, inserted_index_has_place, places_match_index_lists,
@@ -36,6 +40,7 @@ pub(crate) struct AxisItems<'a, T> {
     ghost most: { count ≤ MOST_PLACES },
     ghost elements_most: { length elements.now ≤ MOST_PLACES },
     ghost two: { 2 ≤ items },
+    ghost most_items: { items ≤ MOST_PLACES },
     ghost within: { (place : ℕ) → place < count → place / inner * block + place % inner + (items - 1) * inner < length elements.now },
 }
 
@@ -85,6 +90,12 @@ impl<T> AxisItems<'_, T> {
         self.inner.quotient(place) * self.block + self.inner.remainder(place)
     }
 
+    /// Whether too few places lie side by side to be folded together.
+    #[inline(always)]
+    fn has_narrow_rows(&self) -> bool {
+        self.inner.number() < NARROW
+    }
+
     /// How many places from one on up to before another are folded together, all of them in a row.
     fn run_length(&self, from: usize, to: usize) -> usize
         requires order { from ≤ to }
@@ -92,11 +103,10 @@ impl<T> AxisItems<'_, T> {
         ensures order { from + result ≤ to }
         ensures row { 0 < result → from % self.now.inner + result ≤ self.now.inner }
     {
-        let inner = self.inner.number();
-        if from == to || inner < NARROW {
+        if from == to || self.has_narrow_rows() {
             return 0;
         }
-        let rest = inner - self.inner.remainder(from);
+        let rest = self.inner.number() - self.inner.remainder(from);
         rest.min(to - from).min(MOST_TOTALS)
     }
 }
@@ -184,6 +194,68 @@ impl<T: Element, F: Function> Folds<'_, T, F> {
     }
 }
 
+impl AxisItems<'_, i64> {
+    /// All items at a place but the last.
+    fn stretch(&self, place: usize) -> Stretch<'_>
+        requires { place < self.now.count }
+        ensures numbers { result.numbers.now ≡ self.now.elements.now }
+        ensures first { result.first ≡ place / self.now.inner * self.now.block + place % self.now.inner }
+        ensures stride { result.stride ≡ self.now.inner }
+        ensures count { result.count ≡ self.now.items - 1 }
+    {
+        Stretch {
+            numbers: self.elements,
+            first: self.first_item(place),
+            stride: self.inner.number(),
+            count: self.items - 1,
+        }
+    }
+
+    /// The last item at a place.
+    fn last(&self, place: usize) -> i64
+        requires { place < self.now.count }
+        ensures { result ≡ slice_index_or self.now.elements.now (place / self.now.inner * self.now.block + place % self.now.inner + (self.now.items - 1) * self.now.inner) (pos 0) }
+    {
+        self.elements[self.first_item(place) + (self.items - 1) * self.inner.number()]
+    }
+}
+
+impl<R: Threads + Sync, C: Cut + Sync, G: Gate + Sync> Workers<'_, R, C, G> {
+    /// The fold of the items at a place by a function that has summaries.
+    fn fold_at(
+        &self,
+        f: ScalarFunction,
+        axis: &AxisItems<i64>,
+        place: usize,
+    ) -> Result<Result<i64, Fault>, Stop>
+        requires summary { has_summary f ≡ true }
+        requires place { place < axis.now.count }
+        ensures fold { IfOk result (λ outcome. outcome ≡ fold_at f (map Int axis.now.elements.now) axis.now.items axis.now.block axis.now.inner place) }
+        ensures memory { IfErr result (λ stop. stop ≡ Memory) }
+    {
+        self.fold_onto(f, &axis.stretch(place), axis.last(place))
+    }
+
+    /// The folds at each of a few places by a function that has summaries, one after the other.
+    fn fold_each(&self, f: ScalarFunction, axis: &AxisItems<i64>) -> Result<Vec<i64>, Stop>
+        requires summary { has_summary f ≡ true }
+        ensures values { IfOk result (λ v. AreValues (λ place. fold_at f (map Int axis.now.elements.now) axis.now.items axis.now.block axis.now.inner place) axis.now.count v.items) }
+        ensures stop { IfErr result (IsStopOf (λ place. fold_at f (map Int axis.now.elements.now) axis.now.items axis.now.block axis.now.inner place) axis.now.count) }
+    {
+        let mut values = Vec::with_capacity(self.alloc, axis.count)?;
+        for place in 0..axis.count {
+            match self.fold_at(f, axis, place)? {
+                Ok(value) => values.push_reserved(value),
+                Err(fault) => {
+                    let place = place as u32;
+                    return Err(Stop::Fault { place, fault });
+                }
+            }
+        }
+        Ok(values)
+    }
+}
+
 fn fill_folds<
     F: Function + Sync,
     T: Element + Sync,
@@ -201,7 +273,7 @@ fn fill_folds<
     pool.fill(rt, alloc, &kernel)
 }
 
-/// The folds of numbers at each place.
+/// The folds of numbers at each place. The workers share the items of each place, or the places.
 pub(crate) fn fill_number_folds<R: Threads + Sync, C: Cut + Sync, G: Gate + Sync>(
     rt: &R,
     alloc: Global,
@@ -212,6 +284,10 @@ pub(crate) fn fill_number_folds<R: Threads + Sync, C: Cut + Sync, G: Gate + Sync
     ensures values { IfOk result (λ v. AreValues (λ place. fold_at f (map Int axis.now.elements.now) axis.now.items axis.now.block axis.now.inner place) axis.now.count v.items) }
     ensures stop { IfErr result (IsStopOf (λ place. fold_at f (map Int axis.now.elements.now) axis.now.items axis.now.block axis.now.inner place) axis.now.count) }
 {
+    let workers = Workers { rt, alloc, pool };
+    if axis.has_narrow_rows() && workers.share_items(f, axis.count, axis.items) {
+        return workers.fold_each(f, axis);
+    }
     with_type!(f, fill_folds::<F, i64, R, C, G>(rt, alloc, pool, axis))
 }
 

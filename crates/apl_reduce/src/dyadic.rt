@@ -13,8 +13,11 @@ pub(crate) trait Dyadic: Copy {
     ghost use Rattle.apl_array.specs.declared.function.ScalarFunction.{ScalarFunction};
     ghost use Rattle.apl_scalar.specs.Scalar.{dyadic_of, dyadic_numbers, identity_of};
 
-    // Which function it is.
     ghost function: { Self → ScalarFunction };
+
+    /// Which function it is.
+    fn named(&self) -> ScalarFunction
+        ensures { result ≡ function self.now };
 
     /// What it gives of two elements.
     fn of(&self, x: Elem, y: Elem) -> Result<i64, Fault>
@@ -35,6 +38,11 @@ pub(crate) struct Typed<F>(pub PhantomData<F>);
 
 impl<F: Function + Copy> Dyadic for Typed<F> {
     ghost function = { λ d. F.FUNCTION };
+
+    #[inline(always)]
+    fn named(&self) -> ScalarFunction {
+        F::FUNCTION
+    }
 
     #[inline(always)]
     fn of(&self, x: Elem, y: Elem) -> Result<i64, Fault> {
@@ -66,6 +74,11 @@ pub(crate) struct Chosen(pub ScalarFunction);
 
 impl Dyadic for Chosen {
     ghost function = { λ d. d.0 };
+
+    #[inline(always)]
+    fn named(&self) -> ScalarFunction {
+        self.0
+    }
 
     #[inline(always)]
     fn of(&self, x: Elem, y: Elem) -> Result<i64, Fault> {

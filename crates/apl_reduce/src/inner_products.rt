@@ -1,5 +1,5 @@
 //! Inner products.
-ghost use Rattle.std.specs.Prelude.{◌≡◌, ℕ, ◌+◌, ◌*◌, ◌<◌, IfErr, IfOk, IsTrue, length, map};
+ghost use Rattle.std.specs.Prelude.{◌≡◌, ℕ, ◌+◌, ◌*◌, ◌/◌, ◌%◌, ◌<◌, IfErr, IfOk, IsTrue, length, map};
 ghost use Rattle.apl_array.specs.declared.array.Elem.TheVariants.{Int, Chr};
 ghost use Rattle.apl_array.specs.declared.function.ScalarFunction.TheVariants.{Plus as PlusNamed, Times as TimesNamed};
 ghost use Rattle.apl_array.specs.Valences.{has_dyadic};
@@ -30,7 +30,7 @@ use std::thread::Threads;
 
 /// The items at one place: a function of an element of a line and one of another line.
 #[derive(Drop)]
-struct LineItems<'a, T, U, P: Dyadic> {
+pub(crate) struct LineItems<'a, T, U, P: Dyadic> {
     left: &'a [T],
     left_start: usize,
     left_stride: usize,
@@ -65,6 +65,38 @@ impl<T: Element, U: Element, P: Dyadic> Items for LineItems<'_, T, U, P> {
     }
 }
 
+impl<'a, T, U, P: Dyadic> LineItems<'a, T, U, P> {
+    /// The items at a place.
+    #[inline(always)]
+    pub(crate) fn new(
+        layout: &Layout,
+        columns: &Divisor,
+        left: &'a [T],
+        right: &'a [U],
+        pairing: P,
+        place: usize,
+    ) -> LineItems<'a, T, U, P>
+        requires columns { columns.now ≡ layout.now.columns }
+        requires within { IsWithin layout.now (length left.now) (length right.now) }
+        requires place { place < layout.now.count }
+        ensures left { (result.left.now ≡ left.now) × (result.left_start ≡ place / layout.now.columns * layout.now.left.line) × (result.left_stride ≡ layout.now.left.item) }
+        ensures right { (result.right.now ≡ right.now) × (result.right_start ≡ place % layout.now.columns * layout.now.right.line) × (result.right_stride ≡ layout.now.right.item) }
+        ensures count { result.count ≡ layout.now.items }
+        ensures pairing { result.pairing ≡ pairing }
+    {
+        LineItems {
+            left,
+            left_start: columns.quotient(place) * layout.left.line,
+            left_stride: layout.left.item,
+            right,
+            right_start: columns.remainder(place) * layout.right.line,
+            right_stride: layout.right.item,
+            count: layout.items,
+            pairing,
+        }
+    }
+}
+
 /// The reduction of the items at each place of an inner product.
 #[derive(Drop)]
 struct Reductions<'a, T, U, F: Dyadic, P: Dyadic> {
@@ -94,22 +126,20 @@ impl<T: Element, U: Element, F: Dyadic, P: Dyadic> Kernel for Reductions<'_, T, 
 
     #[inline(always)]
     fn at(&self, place: usize) -> Result<i64, Fault> {
-        let items = LineItems {
-            left: self.left,
-            left_start: self.columns.quotient(place) * self.layout.left.line,
-            left_stride: self.layout.left.item,
-            right: self.right,
-            right_start: self.columns.remainder(place) * self.layout.right.line,
-            right_stride: self.layout.right.item,
-            count: self.layout.items,
-            pairing: self.pairing,
-        };
+        let items = LineItems::new(
+            self.layout,
+            &self.columns,
+            self.left,
+            self.right,
+            self.pairing,
+            place,
+        );
         reduced(&items, self.function)
     }
 }
 
 impl<R: Threads + Sync, C: Cut + Sync, G: Gate + Sync> Workers<'_, R, C, G> {
-    /// The reduction of the items at each place.
+    /// The reduction of the items at each place. The workers share the items of each place, or the places.
     fn fill_inner<T: Element + Sync, U: Element + Sync, F: Dyadic + Sync, P: Dyadic + Sync>(
         &self,
         layout: &Layout,
@@ -122,6 +152,10 @@ impl<R: Threads + Sync, C: Cut + Sync, G: Gate + Sync> Workers<'_, R, C, G> {
         ensures values { IfOk result (λ v. AreValues (inner_number layout.now (map T.elem_of left.now) (map U.elem_of right.now) (F.function function) (P.function pairing)) layout.now.count v.items) }
         ensures stop { IfErr result (IsStopOf (inner_number layout.now (map T.elem_of left.now) (map U.elem_of right.now) (F.function function) (P.function pairing)) layout.now.count) }
     {
+        let f = function.named();
+        if self.share_items(f, layout.count, layout.items) {
+            return self.fold_inner(layout, left, right, f, pairing);
+        }
         let kernel = Reductions {
             left,
             right,
@@ -154,7 +188,8 @@ impl<R: Threads + Sync, C: Cut + Sync, G: Gate + Sync> Workers<'_, R, C, G> {
         ensures values { IfOk result (λ v. AreValues (inner_number layout.now (map Int left.now) (map Int right.now) PlusNamed TimesNamed) layout.now.count v.items) }
         ensures stop { IfErr result (IsStopOf (inner_number layout.now (map Int left.now) (map Int right.now) PlusNamed TimesNamed) layout.now.count) }
     {
-        if !layout.repays_a_pass() || !sums_are_small(left, right, layout.items) {
+        let shared = self.share_items(Prim::Plus, layout.count, layout.items);
+        if shared || !layout.repays_a_pass() || !sums_are_small(left, right, layout.items) {
             return self.typed::<i64, Plus, Times>(layout, left, right);
         }
         let kernel = Sums {

@@ -39,6 +39,7 @@ pub(crate) struct Layout {
     ghost some: { 0 < columns },
     ghost most_columns: { columns ≤ MOST_PLACES },
     ghost most: { count ≤ MOST_PLACES },
+    ghost most_items: { items ≤ MOST_PLACES },
 }
 
 impl Layout {

@@ -12,6 +12,7 @@ mod dyadic;
 mod encoding;
 mod folded_rows;
 mod folding;
+mod inner_folds;
 mod inner_products;
 mod items;
 mod laws;
@@ -24,6 +25,7 @@ mod quotient;
 mod range;
 mod reducing;
 mod shapes;
+mod stretch;
 mod sums;
 mod workers;
 

@@ -1,6 +1,7 @@
 //! How the arguments of an inner product meet.
-ghost use Rattle.std.specs.Prelude.{◌≡◌, ℕ, ◌++◌, ◌<◌, true, false, length, MatchOption};
+ghost use Rattle.std.specs.Prelude.{◌≡◌, ℕ, ◌++◌, ◌<◌, ◌≤◌, true, false, length, MatchOption};
 ghost use Rattle.apl_array.specs.Shape.{count_of, index_at};
+ghost use Rattle.apl_pool.specs.declared.kernel.TheConstants.{MOST_PLACES};
 ghost use Rattle.apl_reduce.specs.Items.{item_in};
 ghost use Rattle.apl_reduce.specs.Layouts.{left_place, right_place, IsWithin};
 ghost use Rattle.apl_reduce.specs.Products.{is_single, last_length, first_length, is_common, common_length, left_shape, right_shape, left_element, right_element};
@@ -19,7 +20,8 @@ fn is_single(a: &Array) -> bool
 /// The length of the last axis of an array that has axes.
 fn last_length(a: &Array) -> usize
     requires { is_single a.now ≡ false }
-    ensures { result ≡ last_length a.now }
+    ensures most { result ≤ MOST_PLACES }
+    ensures length { result ≡ last_length a.now }
 {
     a.shape().axis(a.shape().rank() - 1)
 }
@@ -27,14 +29,15 @@ fn last_length(a: &Array) -> usize
 /// The length of the first axis of an array that has axes.
 fn first_length(b: &Array) -> usize
     requires { is_single b.now ≡ false }
-    ensures { result ≡ first_length b.now }
+    ensures most { result ≤ MOST_PLACES }
+    ensures length { result ≡ first_length b.now }
 {
     b.shape().axis(0)
 }
 
 /// How many items are folded at each place, where the arguments agree on that.
 pub(crate) fn common_length(a: &Array, b: &Array) -> Option<usize>
-    ensures { MatchOption result (is_common a.now b.now ≡ false) (λ n. (is_common a.now b.now ≡ true) × (n ≡ common_length a.now b.now)) }
+    ensures { MatchOption result (is_common a.now b.now ≡ false) (λ n. (is_common a.now b.now ≡ true) × (n ≡ common_length a.now b.now) × (n ≤ MOST_PLACES)) }
 {
     match (is_single(a), is_single(b)) {
         (true, true) => Some(1),
@@ -84,6 +87,7 @@ pub(crate) fn layout_of(
 ) -> Layout
     requires common { is_common a.now b.now ≡ true }
     requires items { items ≡ common_length a.now b.now }
+    requires most { items ≤ MOST_PLACES }
     requires shape { shape.now ≡ left_shape a.now ++ right_shape b.now }
     requires axes { left_axes ≡ length (left_shape a.now) }
     ensures count { result.count ≡ count_of shape.now }

@@ -13,3 +13,5 @@ mod printed;
 mod scalars;
 #[cfg(test)]
 mod structures;
+#[cfg(test)]
+mod summaries;

@@ -1,11 +1,13 @@
 //! Work is done by two workers at once: of places, of functions of arrays, and of lines.
-ghost use Rattle.std.specs.Prelude.{◌≤◌};
+ghost use Rattle.std.specs.Prelude.{◌<◌, ◌≤◌};
+ghost use Rattle.apl_pool.specs.declared.kernel.TheConstants.{MOST_PLACES};
 ghost use Rattle.tests_sessions.specs.declared.gates.TheConstants.{HALF};
 
 use super::pools::Numbers;
-use apl_pool::{Every, Gate, Pool};
+use apl_pool::{Every, Fault, Gate, Kernel, MOST_PLACES, Pool, Summary};
 use apl_print::MemorySink;
 use apl_session::{BLOCK, MemorySource, run};
+use apl_summary::SignedSum;
 use std::alloc::{AllocError, Global};
 use std::sync::atomic::{AtomicU64, Ordering};
 use std::test::Fail;
@@ -50,6 +52,31 @@ impl Gate for Meeting {
     }
 }
 
+/// The number 1 at each place.
+#[derive(Drop)]
+struct AllOnes {
+    count: usize,
+    ghost few: { count ≤ MOST_PLACES },
+}
+
+impl Kernel for AllOnes {
+    ghost use Rattle.std.specs.Prelude.{pos, Ok};
+
+    type Out = i64;
+
+    ghost place_count = { λ k. k.count };
+
+    ghost outcome = { λ k place. Ok (pos 1) };
+
+    fn count(&self) -> usize {
+        self.count
+    }
+
+    fn at(&self, _place: usize) -> Result<i64, Fault> {
+        Ok(1)
+    }
+}
+
 /// Half as many places as the largest arrays here have.
 const HALF: usize = 1 << 19;
 
@@ -70,9 +97,22 @@ fn halves_meet<R: Threads + Sync>(rt: &R, alloc: Global, half: usize) -> Result<
     Ok(has_values && values.len() == 2 * half && meeting.met() == 2)
 }
 
+/// Sums twice so many places by two workers. Says whether each place was summed, and both pieces met.
+fn halves_of_a_sum_meet<R: Threads + Sync>(rt: &R, alloc: Global, half: usize) -> Result<bool, Fail>
+    requires some { 0 < half }
+    requires few { half ≤ HALF }
+{
+    let meeting = Meeting::new();
+    let ones = AllOnes { count: 2 * half };
+    let sum: SignedSum<0> = Pool::new(2, Every(half), &meeting).fold(rt, alloc, &ones)?;
+    Ok(sum.apply(0) == Ok(2 * half as i64) && meeting.met() == 2)
+}
+
 #[test]
 fn gate_two(rt: HostRuntime) -> Result<(), Fail> {
-    assert!(rt; halves_meet(&rt, rt.alloc(), 1)? && halves_meet(&rt, rt.alloc(), HALF)?);
+    let alloc = rt.alloc();
+    assert!(rt; halves_meet(&rt, alloc, 1)? && halves_meet(&rt, alloc, HALF)?);
+    assert!(rt; halves_of_a_sum_meet(&rt, alloc, 1)? && halves_of_a_sum_meet(&rt, alloc, HALF)?);
     Ok(())
 }
 
@@ -168,128 +208,128 @@ const STRUCTURES: [(&str, &str); 52] = [
     ("M[;]←1", ""),
 ];
 
-/// What the reductions get: the elements of `A` twice, as two rows and as two columns.
-const TWICE: &str = "C←V⍴A\nD←W⍴A\n";
+/// What the reductions get: so many items for each element of `A`, as rows and as columns.
+const ITEMS: &str = "C←V⍴A\nD←W⍴A\n";
 
 /// Reductions and products of `A`, whose elements are all 1, by each function. Each has as many elements as `A`; here is what it
-/// is for two of them.
+/// is for two of them and three items, as many as `R` has.
 const REDUCTIONS: [(&str, &str); 116] = [
-    ("+/D", "2 2\n"),
-    ("+⌿C", "2 2\n"),
-    ("+/[1]C", "2 2\n"),
-    ("+⌿[2]D", "2 2\n"),
+    ("+/D", "3 3\n"),
+    ("+⌿C", "3 3\n"),
+    ("+/[1]C", "3 3\n"),
+    ("+⌿[2]D", "3 3\n"),
     ("A∘.+1", "2 2\n"),
-    ("D+.×1 1", "2 2\n"),
-    ("-/D", "0 0\n"),
-    ("-⌿C", "0 0\n"),
-    ("-/[1]C", "0 0\n"),
-    ("-⌿[2]D", "0 0\n"),
+    ("D+.×R", "3 3\n"),
+    ("-/D", "1 1\n"),
+    ("-⌿C", "1 1\n"),
+    ("-/[1]C", "1 1\n"),
+    ("-⌿[2]D", "1 1\n"),
     ("A∘.-1", "0 0\n"),
-    ("D-.×1 1", "0 0\n"),
+    ("D-.×R", "1 1\n"),
     ("×/D", "1 1\n"),
     ("×⌿C", "1 1\n"),
     ("×/[1]C", "1 1\n"),
     ("×⌿[2]D", "1 1\n"),
     ("A∘.×1", "1 1\n"),
-    ("D×.×1 1", "1 1\n"),
+    ("D×.×R", "1 1\n"),
     ("÷/D", "1 1\n"),
     ("÷⌿C", "1 1\n"),
     ("÷/[1]C", "1 1\n"),
     ("÷⌿[2]D", "1 1\n"),
     ("A∘.÷1", "1 1\n"),
-    ("D÷.×1 1", "1 1\n"),
+    ("D÷.×R", "1 1\n"),
     ("|/D", "0 0\n"),
     ("|⌿C", "0 0\n"),
     ("|/[1]C", "0 0\n"),
     ("|⌿[2]D", "0 0\n"),
     ("A∘.|1", "0 0\n"),
-    ("D|.×1 1", "0 0\n"),
+    ("D|.×R", "0 0\n"),
     ("*/D", "1 1\n"),
     ("*⌿C", "1 1\n"),
     ("*/[1]C", "1 1\n"),
     ("*⌿[2]D", "1 1\n"),
     ("A∘.*1", "1 1\n"),
-    ("D*.×1 1", "1 1\n"),
+    ("D*.×R", "1 1\n"),
     ("!/D", "1 1\n"),
     ("!⌿C", "1 1\n"),
     ("!/[1]C", "1 1\n"),
     ("!⌿[2]D", "1 1\n"),
     ("A∘.!1", "1 1\n"),
-    ("D!.×1 1", "1 1\n"),
+    ("D!.×R", "1 1\n"),
     ("⌊/D", "1 1\n"),
     ("⌊⌿C", "1 1\n"),
     ("⌊/[1]C", "1 1\n"),
     ("⌊⌿[2]D", "1 1\n"),
     ("A∘.⌊1", "1 1\n"),
-    ("D⌊.×1 1", "1 1\n"),
+    ("D⌊.×R", "1 1\n"),
     ("⌈/D", "1 1\n"),
     ("⌈⌿C", "1 1\n"),
     ("⌈/[1]C", "1 1\n"),
     ("⌈⌿[2]D", "1 1\n"),
     ("A∘.⌈1", "1 1\n"),
-    ("D⌈.×1 1", "1 1\n"),
+    ("D⌈.×R", "1 1\n"),
     ("∧/D", "1 1\n"),
     ("∧⌿C", "1 1\n"),
     ("∧/[1]C", "1 1\n"),
     ("∧⌿[2]D", "1 1\n"),
     ("A∘.∧1", "1 1\n"),
-    ("D∧.×1 1", "1 1\n"),
+    ("D∧.×R", "1 1\n"),
     ("∨/D", "1 1\n"),
     ("∨⌿C", "1 1\n"),
     ("∨/[1]C", "1 1\n"),
     ("∨⌿[2]D", "1 1\n"),
     ("A∘.∨1", "1 1\n"),
-    ("D∨.×1 1", "1 1\n"),
-    ("⍲/D", "0 0\n"),
-    ("⍲⌿C", "0 0\n"),
-    ("⍲/[1]C", "0 0\n"),
-    ("⍲⌿[2]D", "0 0\n"),
+    ("D∨.×R", "1 1\n"),
+    ("⍲/D", "1 1\n"),
+    ("⍲⌿C", "1 1\n"),
+    ("⍲/[1]C", "1 1\n"),
+    ("⍲⌿[2]D", "1 1\n"),
     ("A∘.⍲1", "0 0\n"),
-    ("D⍲.×1 1", "0 0\n"),
+    ("D⍲.×R", "1 1\n"),
     ("⍱/D", "0 0\n"),
     ("⍱⌿C", "0 0\n"),
     ("⍱/[1]C", "0 0\n"),
     ("⍱⌿[2]D", "0 0\n"),
     ("A∘.⍱1", "0 0\n"),
-    ("D⍱.×1 1", "0 0\n"),
+    ("D⍱.×R", "0 0\n"),
     ("</D", "0 0\n"),
     ("<⌿C", "0 0\n"),
     ("</[1]C", "0 0\n"),
     ("<⌿[2]D", "0 0\n"),
     ("A∘.<1", "0 0\n"),
-    ("D<.×1 1", "0 0\n"),
+    ("D<.×R", "0 0\n"),
     ("≤/D", "1 1\n"),
     ("≤⌿C", "1 1\n"),
     ("≤/[1]C", "1 1\n"),
     ("≤⌿[2]D", "1 1\n"),
     ("A∘.≤1", "1 1\n"),
-    ("D≤.×1 1", "1 1\n"),
+    ("D≤.×R", "1 1\n"),
     ("=/D", "1 1\n"),
     ("=⌿C", "1 1\n"),
     ("=/[1]C", "1 1\n"),
     ("=⌿[2]D", "1 1\n"),
     ("A∘.=1", "1 1\n"),
-    ("D=.×1 1", "1 1\n"),
+    ("D=.×R", "1 1\n"),
     ("≥/D", "1 1\n"),
     ("≥⌿C", "1 1\n"),
     ("≥/[1]C", "1 1\n"),
     ("≥⌿[2]D", "1 1\n"),
     ("A∘.≥1", "1 1\n"),
-    ("D≥.×1 1", "1 1\n"),
-    (">/D", "0 0\n"),
-    (">⌿C", "0 0\n"),
-    (">/[1]C", "0 0\n"),
-    (">⌿[2]D", "0 0\n"),
+    ("D≥.×R", "1 1\n"),
+    (">/D", "1 1\n"),
+    (">⌿C", "1 1\n"),
+    (">/[1]C", "1 1\n"),
+    (">⌿[2]D", "1 1\n"),
     ("A∘.>1", "0 0\n"),
-    ("D>.×1 1", "0 0\n"),
-    ("≠/D", "0 0\n"),
-    ("≠⌿C", "0 0\n"),
-    ("≠/[1]C", "0 0\n"),
-    ("≠⌿[2]D", "0 0\n"),
+    ("D>.×R", "1 1\n"),
+    ("≠/D", "1 1\n"),
+    ("≠⌿C", "1 1\n"),
+    ("≠/[1]C", "1 1\n"),
+    ("≠⌿[2]D", "1 1\n"),
     ("A∘.≠1", "0 0\n"),
-    ("D≠.×1 1", "0 0\n"),
+    ("D≠.×R", "1 1\n"),
     ("2⊤A", "1 1\n"),
-    ("1 1+.×C", "2 2\n"),
+    ("R+.×C", "3 3\n"),
 ];
 
 /// Answers a session by two workers and pieces of this length. Says whether it wrote the text, and both pieces met
@@ -371,21 +411,22 @@ fn each_structural_function_uses_the_pool(rt: HostRuntime) -> Result<(), Fail> {
 #[test]
 fn each_reduction_uses_the_pool(rt: HostRuntime) -> Result<(), Fail> {
     let alloc = rt.alloc();
-    let mut two = String::from_str(alloc, "V←2 2\nW←2 2\nA←1 1\n")?;
-    two.push_str(TWICE)?;
+    let mut two = String::from_str(alloc, "V←3 2\nW←2 3\nR←1 1 1\nA←1 1\n")?;
+    two.push_str(ITEMS)?;
     let mut texts = String::new(alloc);
     let mut some = ones(alloc, 2048)?;
-    some.push_str("V←2 2048\nW←2048 2\n")?;
-    some.push_str(TWICE)?;
+    some.push_str("V←2 2048\nW←2048 2\nR←1 1\n")?;
+    some.push_str(ITEMS)?;
     for (function, text) in &REDUCTIONS {
         write!(two, "{function}\n")?;
         texts.push_str(text)?;
         write!(some, "B←{function}\n")?;
     }
     let mut many = ones(alloc, 2 * HALF)?;
-    many.push_str("V←2 1048576\nB←+⌿V⍴A\nB←A∘.×1\n")?;
-    assert!(rt; meets(&rt, alloc, 1, two.as_str(), 120, texts.as_str()));
+    many.push_str("V←2 1048576\nB←+⌿V⍴A\nB←A∘.×1\nB←+/A\nB←A+.×A\n")?;
+    // Both workers meet three times where they reshape, and once at each place of a fold whose items they share.
+    assert!(rt; meets(&rt, alloc, 1, two.as_str(), 198, texts.as_str()));
     assert!(rt; meets(&rt, alloc, 1024, some.as_str(), 121, ""));
-    assert!(rt; meets(&rt, alloc, HALF, many.as_str(), 5, ""));
+    assert!(rt; meets(&rt, alloc, HALF, many.as_str(), 7, ""));
     Ok(())
 }

@@ -93,6 +93,21 @@ fn the_least_fault_is_the_answer(rt: HostRuntime) -> Result<(), Fail> {
     Ok(())
 }
 
+#[test]
+fn several_workers_share_several_pieces(rt: HostRuntime) {
+    for (workers, piece, count, wanted) in [
+        (1u8, 1, 5, false),
+        (2, 5, 5, false),
+        (2, 4, 5, true),
+        (64, 1, 2, true),
+        (64, 1, 1, false),
+        (3, 1, 0, false),
+        (4, 4096, 1 << 30, true),
+    ] {
+        assert!(rt; Pool::new(workers, Every(piece), Open).is_shared(count) == wanted);
+    }
+}
+
 /// No room is taken for the values where the first place has a fault.
 #[test]
 fn a_refusal_takes_no_room(rt: HostRuntime) -> Result<(), Fail> {

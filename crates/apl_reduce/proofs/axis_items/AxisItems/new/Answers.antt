@@ -1,4 +1,4 @@
-use Rattle.std.proofs.Common.{◌≡◌, ◌+◌, ◌-◌, ◌<◌, length, slice_index, ap, sym, ◌∙◌, arith}
+use Rattle.std.proofs.Common.{◌≡◌, ◌+◌, ◌-◌, ◌<◌, length, slice_index, rules, ap, sym, ◌∙◌, arith}
 use Rattle.std.specs.Prelude.{drop, remove}
 use Rattle.std.proofs.lemmas.List.{length-map}
 use Rattle.apl_array.specs.Shape.{count_of}
@@ -44,6 +44,7 @@ invariant_of-result g c =
       most = omega (arith, c.count-count.ensures.count, c.count-count.ensures.lawful.count);
       elements_most = omega (arith, all, c.shape.ensures.lawful.shape.count);
       two = omega (arith, items, c.requires.two);
+      most_items = search rules;
       within = λ place inside.
           let here : place < count_of (remove b.shape c.args.k) = omega (arith, inside, counts) in
           let last : n - 1 < n = omega (arith, c.requires.two) in

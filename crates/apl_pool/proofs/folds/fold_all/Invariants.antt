@@ -1,0 +1,14 @@
+use Rattle.std.proofs.Common.{◌-◌, ◌<◌, ◌≤◌}
+use Rattle.apl_pool.specs.Folds.{IsFolded}
+use Rattle.apl_pool.proofs.folds.fold_all.Given as goal
+
+abbrev pub invariant-loop-piece : goal.invariant-loop-piece
+invariant-loop-piece g l =
+    IsFolded g.S.Summary.step g.S.Summary.item_count g.S.Summary.outcome (g.K.Kernel.outcome l.kernel) 0 l.piece.from l.folded
+    × (l.piece.number ≤ l.piece.from)
+    × (l.piece.from < l.count → l.piece.from < l.piece.to)
+    × (l.piece.from ≤ l.piece.to)
+    × (l.piece.to ≤ l.count)
+
+abbrev pub decreases-loop-piece : goal.decreases-loop-piece
+decreases-loop-piece g l = l.count - l.piece.from

@@ -1,0 +1,29 @@
+-- What a worker answers for the items at a stretch of places. No contract of a public function cites this file.
+use Rattle.std.specs.Prelude.{◌≡◌, ℕ, ℤ, List, Option, Some, None, Result, Ok, Err}
+use Rattle.apl_pool.specs.declared.kernel.Fault.{Fault}
+use Rattle.apl_pool.specs.declared.kernel.Stop.{Stop}
+use Rattle.apl_pool.specs.Parts.{AreValuesFrom, IsStopFrom}
+use Rattle.apl_pool.specs.Summaries.{IsI64, IsSummaryOf}
+
+-- of how many items there is a summary
+abbrev pub items_in : {S : Type 0} → (S → ℕ) → Option S → ℕ
+items_in item_count (Some s) = item_count s
+items_in item_count None = 0
+
+module _ {S X : Type 0} (step : X → ℤ → Result ℤ Fault) (item_count : S → ℕ) (does : S → ℤ → Result ℤ Fault) (outcome : ℕ → Result X Fault) where
+  -- a summary of the items at the places from `from` up to before `to`
+  pub record IsFoldFrom (from to : ℕ) (s : S) : Type 0 where
+    pub items : List X
+    pub values : AreValuesFrom outcome from to items
+    pub summary : IsSummaryOf step item_count does s items
+    pub range : (right z : ℤ) → IsI64 right → does s right ≡ Ok z → IsI64 z
+
+  -- none where there are no such places
+  abbrev pub IsFolded : ℕ → ℕ → Option S → Type 0
+  IsFolded from to (Some s) = IsFoldFrom from to s
+  IsFolded from to None = from ≡ to
+
+  -- what a worker answers for these places
+  abbrev pub IsFoldedPart : ℕ → ℕ → Result (Option S) Stop → Type 0
+  IsFoldedPart from to (Ok folded) = IsFolded from to folded
+  IsFoldedPart from to (Err stop) = IsStopFrom outcome from to stop

@@ -1,0 +1,91 @@
+-- A fold of numbers onto the last one.
+use Rattle.std.proofs.Common.{◌≡◌, ℕ, zero, suc, ◌+◌, ◌*◌, ◌<◌, ℤ, pos, List, [], ◌∷◌, ◌++◌, ⊎_elim, length, map, slice_index_or, Result, Ok, Err, refl, sym, ap, ◌∙◌, arith}
+use Rattle.std.specs.Prelude.{IfErr, IsOk}
+use Rattle.std.proofs.lemmas.List.{length_push, get_or_push, get_or_append_left}
+use Rattle.std.proofs.lemmas.Bool.{cases_lt}
+use Rattle.std.proofs.Math.ListN.{get_or-map}
+use Rattle.apl_array.specs.declared.array.Elem.{Elem}
+use Rattle.apl_array.specs.declared.array.Elem.TheVariants.{Int}
+use Rattle.apl_array.specs.declared.function.ScalarFunction.{ScalarFunction}
+use Rattle.apl_pool.specs.declared.kernel.Fault.{Fault}
+use Rattle.apl_pool.specs.declared.kernel.Stop.{Stop}
+use Rattle.apl_pool.specs.declared.kernel.Stop.TheVariants.{Fault as FaultAt, Memory}
+use Rattle.apl_pool.specs.Pool.{AreValues, IsStopOf}
+use Rattle.apl_pool.specs.Summaries.{and_then, fold_onto}
+use Rattle.apl_scalar.specs.Scalar.{dyadic_of, dyadic_numbers}
+use Rattle.apl_reduce.specs.Folded.{number_step, folded, element_along}
+
+module _ (f : ScalarFunction) where
+  step_onto : (x : ℤ) (r : Result ℤ Fault) → number_step f (Int x) r ≡ and_then r (dyadic_numbers f x)
+  step_onto x (Ok z) = refl
+  step_onto x (Err fault) = refl
+
+  module _ (item : ℕ → Elem) where
+    folds_onto : (xs : List ℤ) (k more : ℕ) (last : ℤ) → length xs ≡ suc more → ((j : ℕ) → j < length xs → item (k + j) ≡ Int (slice_index_or xs j (pos 0)))
+        → item (k + length xs) ≡ Int last → folded f item k more ≡ fold_onto (dyadic_numbers f) xs last
+    folds_onto [] k more last some each end = absurd (omega (arith, some))
+    folds_onto (x ∷ []) k (suc more) last some each end = absurd (omega (arith, some))
+    folds_onto (x ∷ []) k zero last some each end =
+        let first : k + 0 ≡ k = omega arith in
+        let second : suc k ≡ k + 1 = omega arith in
+        ap (λ e. dyadic_of f e (item (suc k))) (ap item (sym first) ∙ each 0 (omega arith)) ∙ ap (dyadic_of f (Int x)) (ap item second ∙ end)
+    folds_onto (x ∷ y ∷ rest) k zero last some each end = absurd (omega (arith, some))
+    folds_onto (x ∷ y ∷ rest) k (suc more) last some each end =
+        let first : k + 0 ≡ k = omega arith in
+        let final : suc k + length (y ∷ rest) ≡ k + length (x ∷ y ∷ rest) = omega arith in
+        ap (λ e. number_step f e (folded f item (suc k) more)) (ap item (sym first) ∙ each 0 (omega arith))
+        ∙ ap (number_step f (Int x))
+        (folds_onto (y ∷ rest) (suc k) more last (omega (arith, some))
+        (λ j h. let same : suc k + j ≡ k + suc j = omega arith in ap item same ∙ each (suc j) (omega (arith, h)))
+        (ap item final ∙ end))
+        ∙ step_onto x (fold_onto (dyadic_numbers f) (y ∷ rest) last)
+
+abbrev value : ℤ → Result ℤ Fault
+value z = Ok z
+
+same_value : (x y : ℤ) → value x ≡ value y → x ≡ y
+same_value x y e = cc
+
+no_fault : (x : ℤ) (fault : Fault) → value x ≡ Err fault → ⊥
+no_fault x fault e = absurd cc
+
+-- the numbers at equal distances, but the last
+abbrev pub number_at : List ℤ → ℕ → ℕ → ℕ → ℤ
+number_at numbers first stride place = slice_index_or numbers (first + place * stride) (pos 0)
+
+pub folded_stretch : (f : ScalarFunction) (numbers items : List ℤ) (first stride n more : ℕ) (last : ℤ) → n ≡ suc more
+    → AreValues (λ place. value (number_at numbers first stride place)) n items → last ≡ number_at numbers first stride n
+    → fold_onto (dyadic_numbers f) items last ≡ folded f (element_along (map Int numbers) first stride) 0 more
+folded_stretch f numbers items first stride n more last some values end =
+    let item = element_along (map Int numbers) first stride in
+    let read : (j : ℕ) → item (0 + j) ≡ Int (number_at numbers first stride j) =
+    λ j. let same : 0 + j ≡ j = omega arith in ap item same ∙ get_or-map Int numbers (first + j * stride) (pos 0) in
+    sym (folds_onto f item items 0 more last (values.len ∙ some)
+    (λ j h. read j ∙ ap Int (same_value _ _ (values.each j (pos 0) (omega (arith, h, values.len)))))
+    (ap (λ m. item (0 + m)) values.len ∙ read n ∙ ap Int (sym end)))
+
+-- no item has a fault
+pub only_memory : (numbers : List ℤ) (first stride n : ℕ) (stop : Stop) → IsStopOf (λ place. value (number_at numbers first stride place)) n stop → stop ≡ Memory
+only_memory numbers first stride n (FaultAt place fault) is = absurd (no_fault (number_at numbers first stride place) fault is.faulty)
+only_memory numbers first stride n Memory is = refl
+
+pub memory_alone : {A : Type 0} (r : Result A Stop) (numbers : List ℤ) (first stride n : ℕ) → IfErr r (IsStopOf (λ place. value (number_at numbers first stride place)) n) → IfErr r (λ stop. stop ≡ Memory)
+memory_alone (Ok x) numbers first stride n h = tt
+memory_alone (Err stop) numbers first stride n h = only_memory numbers first stride n stop h
+
+-- one value more
+pub value_more : (outcome : ℕ → Result ℤ Fault) (n : ℕ) (xs : List ℤ) (x : ℤ) → AreValues outcome n xs → outcome n ≡ Ok x → AreValues outcome (n + 1) (xs ++ x ∷ [])
+value_more outcome n xs x values is = record {
+  len = omega (arith, length_push xs x, values.len);
+  each = λ place d h.
+      ⊎_elim
+      (λ below. values.each place d below ∙ ap Ok (sym (get_or_append_left xs (x ∷ []) d place (omega (arith, below, values.len)))))
+      (λ above.
+      let here : place ≡ n = omega (arith, above, h) in
+      let end : length xs ≡ place = omega (arith, values.len, here) in
+      ap outcome here ∙ is ∙ ap Ok (sym (get_or_push xs x d place end)))
+      (cases_lt place n);
+}
+
+pub has_value : (outcome : ℕ → Result ℤ Fault) (n : ℕ) (xs : List ℤ) (k : ℕ) → AreValues outcome n xs → k < n → IsOk (outcome k)
+has_value outcome n xs k values below = rw (values.each k (pos 0) below) refl

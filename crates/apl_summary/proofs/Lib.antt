@@ -1,0 +1,9 @@
+pub mod SignedSums
+pub mod SmallSums
+pub mod SmallRuns
+pub mod SmallProducts
+pub mod Products
+pub mod ScaledProducts
+pub mod ExtremeItems
+pub mod TwoValuedAnswers
+pub mod Examples

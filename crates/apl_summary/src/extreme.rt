@@ -1,0 +1,53 @@
+//! Summaries under `⌊` and under `⌈`.
+ghost use Rattle.std.specs.Prelude.{◌≡◌, ℕ};
+ghost use Rattle.apl_pool.specs.Summaries.{IsI64};
+
+use crate::extremum::{Extremum, extremum_of_run};
+use apl_pool::{Fault, Kernel, Summary};
+
+/// The summary of numbers under `⌊` where `GREATEST` is 0, else under `⌈`: the least or the greatest of
+/// them. Nothing that comes in is refused.
+#[derive(Clone, Copy)]
+pub struct Extreme<const GREATEST: u8> {
+    extremum: Extremum,
+    ghost lawful: { IsI64 extremum.item },
+}
+
+impl<const GREATEST: u8> Summary for Extreme<GREATEST> {
+    type Item = i64;
+
+    ghost use Rattle.std.specs.Prelude.{nat_eq};
+    ghost use Rattle.apl_scalar.specs.Scalar.{dyadic_numbers};
+    ghost use Rattle.apl_summary.specs.Extremes.{extreme_function, extreme_outcome};
+
+    ghost step = { dyadic_numbers (extreme_function (nat_eq GREATEST 0)) };
+
+    ghost item_count = { λ s. s.extremum.count };
+
+    ghost outcome = { λ s right. extreme_outcome (nat_eq GREATEST 0) s.extremum right };
+
+    fn one(item: i64) -> Self {
+        Extreme {
+            extremum: Extremum::one(item),
+        }
+    }
+
+    fn join(left: &Self, right: &Self) -> Self {
+        Extreme {
+            extremum: left.extremum.joined(GREATEST == 0, &right.extremum),
+        }
+    }
+
+    fn items(&self) -> u32 {
+        self.extremum.count
+    }
+
+    fn apply(&self, right: i64) -> Result<i64, Fault> {
+        Ok(self.extremum.apply(GREATEST == 0, right))
+    }
+
+    fn of_run<K: Kernel<Out = i64>>(kernel: &K, from: usize, to: usize) -> Option<Self> {
+        let extremum = extremum_of_run(GREATEST == 0, kernel, from, to)?;
+        Some(Extreme { extremum })
+    }
+}

@@ -1,0 +1,93 @@
+//! The least or the greatest of items.
+ghost use Rattle.std.specs.Prelude.{◌≡◌, ℕ, ◌+◌, ◌-◌, ◌<◌, ◌≤◌, Ok, IfSome};
+ghost use Rattle.apl_pool.specs.declared.kernel.TheConstants.{MOST_PLACES};
+ghost use Rattle.apl_pool.specs.declared.summary.TheConstants.{LONGEST_RUN};
+ghost use Rattle.apl_pool.specs.Summaries.{IsI64, IsSummaryFrom};
+ghost use Rattle.apl_scalar.specs.Scalar.{dyadic_numbers};
+ghost use Rattle.apl_summary.specs.Extremes.{extreme_function, extreme_of_two, extreme_outcome, extremum_of_one, extremum_of_both};
+
+use crate::range::{greater_of, lesser_of};
+use apl_pool::Kernel;
+
+/// How many items there are, and the least or the greatest of them.
+#[derive(Clone, Copy)]
+pub struct Extremum {
+    pub count: u32,
+    pub item: i64,
+}
+
+#[inline(always)]
+fn extreme_of_two(is_least: bool, a: i64, b: i64) -> i64
+    ensures { result ≡ extreme_of_two is_least a b }
+{
+    if is_least {
+        lesser_of(a, b)
+    } else {
+        greater_of(a, b)
+    }
+}
+
+impl Extremum {
+    /// That of one item.
+    pub fn one(item: i64) -> Extremum
+        ensures { result ≡ extremum_of_one item }
+    {
+        Extremum { count: 1, item }
+    }
+
+    /// That of these items, and then those of `right`.
+    pub fn joined(&self, is_least: bool, right: &Extremum) -> Extremum
+        requires { self.now.count + right.now.count ≤ MOST_PLACES }
+        ensures { result ≡ extremum_of_both is_least self.now right.now }
+    {
+        Extremum {
+            count: self.count + right.count,
+            item: extreme_of_two(is_least, self.item, right.item),
+        }
+    }
+
+    /// The least or the greatest of the items and the number that comes in.
+    pub fn apply(&self, is_least: bool, right: i64) -> i64
+        ensures { result ≡ extreme_of_two is_least self.now.item right }
+    {
+        extreme_of_two(is_least, self.item, right)
+    }
+}
+
+/// The item at a place, unless that has a fault.
+#[inline(always)]
+fn item_at<K: Kernel<Out = i64>>(kernel: &K, place: usize) -> Option<i64>
+    requires { place < K.place_count kernel.now }
+    ensures item { IfSome result (λ item. K.outcome kernel.now place ≡ Ok item) }
+    ensures range { IfSome result (λ item. IsI64 item) }
+{
+    match kernel.at(place) {
+        Ok(item) => Some(item),
+        Err(_) => None,
+    }
+}
+
+/// The least or the greatest of the items at the places from `from` up to before `to`, where none has a
+/// fault.
+#[inline(always)]
+pub fn extremum_of_run<K: Kernel<Out = i64>>(
+    is_least: bool,
+    kernel: &K,
+    from: usize,
+    to: usize,
+) -> Option<Extremum>
+    requires some { from < to }
+    requires places { to ≤ K.place_count kernel.now }
+    requires few { to - from ≤ LONGEST_RUN }
+    ensures summary { IfSome result (λ e. IsSummaryFrom (dyadic_numbers (extreme_function is_least)) (λ (e : Extremum). e.count) (extreme_outcome is_least) (K.outcome kernel.now) from to e) }
+    ensures range { IfSome result (λ e. IsI64 e.item) }
+{
+    let mut place = to - 1;
+    let mut item = item_at(kernel, place)?;
+    while from < place {
+        place -= 1;
+        item = extreme_of_two(is_least, item_at(kernel, place)?, item);
+    }
+    let count = (to - from) as u32;
+    Some(Extremum { count, item })
+}

@@ -1,0 +1,23 @@
+//! Summaries of numbers that are folded from the right by a scalar function.
+#![tactic(auto)]
+
+mod answers;
+mod coefficients;
+mod constants;
+mod extreme;
+mod extremum;
+mod folding;
+mod range;
+mod scaled;
+mod signed_sum;
+mod small_coefficients;
+mod small_constants;
+mod two_valued;
+
+pub use apl_array::ScalarFunction as Prim;
+pub use apl_scalar::function_types;
+pub use extreme::Extreme;
+pub use folding::{fold_onto, has_summary};
+pub use scaled::Scaled;
+pub use signed_sum::SignedSum;
+pub use two_valued::{TwoValued, TwoValuedFunction};

@@ -1,0 +1,58 @@
+//! Summaries under `×`.
+ghost use Rattle.std.specs.Prelude.{◌≡◌, ℕ};
+ghost use Rattle.apl_summary.specs.Coefficients.{AreCoefficients};
+
+use crate::coefficients::Coefficients;
+use crate::small_coefficients::small_coefficients;
+use apl_pool::{Fault, Kernel, Summary};
+
+/// The summary of numbers under `×`.
+///
+/// Each partial result is a coefficient times what comes in. A number that comes in is refused where the
+/// least or the greatest coefficient times it is outside the range, so 0 never is.
+#[derive(Clone, Copy)]
+pub struct Scaled {
+    coefficients: Coefficients,
+    ghost lawful: { AreCoefficients coefficients },
+}
+
+impl Summary for Scaled {
+    type Item = i64;
+
+    ghost use Rattle.apl_array.specs.declared.function.ScalarFunction.TheVariants.{Times};
+    ghost use Rattle.apl_scalar.specs.Scalar.{dyadic_numbers};
+    ghost use Rattle.apl_summary.specs.Coefficients.{scaled_outcome};
+
+    ghost step = { dyadic_numbers Times };
+
+    ghost item_count = { λ s. s.coefficients.count };
+
+    ghost outcome = { λ s right. scaled_outcome s.coefficients right };
+
+    fn one(item: i64) -> Self {
+        Scaled {
+            coefficients: Coefficients::one(item),
+        }
+    }
+
+    fn join(left: &Self, right: &Self) -> Self {
+        Scaled {
+            coefficients: left.coefficients.joined(&right.coefficients),
+        }
+    }
+
+    fn items(&self) -> u32 {
+        self.coefficients.count
+    }
+
+    fn apply(&self, right: i64) -> Result<i64, Fault> {
+        self.coefficients.apply(right)
+    }
+
+    fn of_run<K: Kernel<Out = i64>>(kernel: &K, from: usize, to: usize) -> Option<Self> {
+        let small = small_coefficients(kernel, from, to)?;
+        Some(Scaled {
+            coefficients: small.widened(),
+        })
+    }
+}

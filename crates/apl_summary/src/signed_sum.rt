@@ -1,0 +1,58 @@
+//! Summaries under `+` and under `-`.
+ghost use Rattle.std.specs.Prelude.{◌≡◌, ℕ, nat_eq};
+ghost use Rattle.apl_summary.specs.Constants.{AreConstants};
+
+use crate::constants::Constants;
+use crate::small_constants::small_constants;
+use apl_pool::{Fault, Kernel, Summary};
+
+/// The summary of numbers under `+` where `MINUS` is 0, else under `-`.
+///
+/// Each partial result is a constant plus what comes in, or a constant less it. A number that comes in
+/// is refused where it takes the least or the greatest of these constants out of the range.
+#[derive(Clone, Copy)]
+pub struct SignedSum<const MINUS: u8> {
+    constants: Constants,
+    ghost lawful: { AreConstants (nat_eq MINUS 0) constants },
+}
+
+impl<const MINUS: u8> Summary for SignedSum<MINUS> {
+    type Item = i64;
+
+    ghost use Rattle.std.specs.Prelude.{nat_eq};
+    ghost use Rattle.apl_scalar.specs.Scalar.{dyadic_numbers};
+    ghost use Rattle.apl_summary.specs.Constants.{signed_function, signed_outcome};
+
+    ghost step = { dyadic_numbers (signed_function (nat_eq MINUS 0)) };
+
+    ghost item_count = { λ s. s.constants.count };
+
+    ghost outcome = { λ s right. signed_outcome s.constants right };
+
+    fn one(item: i64) -> Self {
+        SignedSum {
+            constants: Constants::one(MINUS == 0, item),
+        }
+    }
+
+    fn join(left: &Self, right: &Self) -> Self {
+        SignedSum {
+            constants: left.constants.joined(MINUS == 0, &right.constants),
+        }
+    }
+
+    fn items(&self) -> u32 {
+        self.constants.count
+    }
+
+    fn apply(&self, right: i64) -> Result<i64, Fault> {
+        self.constants.apply(right)
+    }
+
+    fn of_run<K: Kernel<Out = i64>>(kernel: &K, from: usize, to: usize) -> Option<Self> {
+        let small = small_constants(MINUS == 0, kernel, from, to)?;
+        Some(SignedSum {
+            constants: small.widened(),
+        })
+    }
+}

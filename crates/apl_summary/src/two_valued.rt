@@ -1,0 +1,100 @@
+//! Summaries under the logical functions and the comparisons.
+ghost use Rattle.std.specs.Prelude.{◌≡◌, ℕ, true, refl};
+ghost use Rattle.apl_summary.specs.Answers.{is_two_valued};
+
+use crate::answers::Answers;
+use apl_pool::{Fault, Summary};
+use apl_scalar::function_types::{
+    And, Equal, Function, Greater, GreaterOrEqual, Less, LessOrEqual, Nand, Nor, NotEqual, Or,
+};
+use std::marker::PhantomData;
+
+/// A scalar function whose results are 0 and 1 alone.
+pub trait TwoValuedFunction: Function {
+    ghost two_valued: { is_two_valued Self.Function.FUNCTION ≡ true };
+}
+
+impl TwoValuedFunction for And {
+    ghost two_valued = { refl };
+}
+
+impl TwoValuedFunction for Or {
+    ghost two_valued = { refl };
+}
+
+impl TwoValuedFunction for Nand {
+    ghost two_valued = { refl };
+}
+
+impl TwoValuedFunction for Nor {
+    ghost two_valued = { refl };
+}
+
+impl TwoValuedFunction for Less {
+    ghost two_valued = { refl };
+}
+
+impl TwoValuedFunction for LessOrEqual {
+    ghost two_valued = { refl };
+}
+
+impl TwoValuedFunction for Equal {
+    ghost two_valued = { refl };
+}
+
+impl TwoValuedFunction for GreaterOrEqual {
+    ghost two_valued = { refl };
+}
+
+impl TwoValuedFunction for Greater {
+    ghost two_valued = { refl };
+}
+
+impl TwoValuedFunction for NotEqual {
+    ghost two_valued = { refl };
+}
+
+/// The summary of numbers under the function that `P` names.
+///
+/// The last item is the first that meets what comes in. Its result is 0 or 1, so of the items to its left
+/// it is enough to know what they answer for these two.
+#[derive(Clone, Copy)]
+pub struct TwoValued<P> {
+    answers: Answers,
+    function: PhantomData<P>,
+}
+
+impl<P: TwoValuedFunction> Summary for TwoValued<P> {
+    type Item = i64;
+
+    ghost use Rattle.apl_scalar.specs.Scalar.{dyadic_numbers};
+    ghost use Rattle.apl_summary.specs.Answers.{two_valued_outcome};
+
+    ghost step = { dyadic_numbers P.FUNCTION };
+
+    ghost item_count = { λ s. s.answers.count };
+
+    ghost outcome = { λ s right. two_valued_outcome P.FUNCTION s.answers right };
+
+    fn one(item: i64) -> Self {
+        TwoValued {
+            answers: Answers::one(item),
+            function: PhantomData,
+        }
+    }
+
+    fn join(left: &Self, right: &Self) -> Self {
+        TwoValued {
+            answers: left.answers.joined::<P>(&right.answers),
+            function: PhantomData,
+        }
+    }
+
+    fn items(&self) -> u32 {
+        self.answers.count
+    }
+
+    fn apply(&self, right: i64) -> Result<i64, Fault> {
+        self.answers.apply::<P>(right)
+    }
+}
