@@ -1,0 +1,7 @@
+mod Claims
+mod Ends
+mod FoundPlaces
+mod LeastPlaces
+mod Preserved
+mod Splits
+mod Totals
