@@ -1,5 +1,5 @@
 -- How a row is cut into the rooms of its pieces.
-use Rattle.std.specs.Prelude.{◌≡◌, ℕ, ◌+◌, ◌*◌, ◌^◌, ◌<◌, ◌≤◌, List, length, Option, Some}
+use Rattle.std.specs.Prelude.{◌≡◌, ℕ, ◌+◌, ◌*◌, ◌^◌, ◌<◌, ◌≤◌, List, length, slice_range, Option, Some}
 use mathlib.Core.Option.{some}
 use lib.ListN.{get_elem?}
 use denote.RattleType.{RattleType}
@@ -33,3 +33,7 @@ module _ (R : RattleType) (start : ℕ → ℕ) where
   -- a row is cut into the rooms of all pieces
   abbrev pub AreRoomsOf : Slots R.Denot → ℕ → List (Option (Room R.Denot)) → Type 0
   AreRoomsOf row count rooms = AreRoomsFrom (slots_ptr row) (slots_len row) count rooms
+
+-- the values in the places of a piece
+abbrev pub piece_of : {X : Type 0} → (ℕ → ℕ) → ℕ → List X → List X
+piece_of start n items = slice_range items (start n) (start (n + 1))

@@ -19,6 +19,10 @@ module _ {X : Type 0} where
   IsSameRoom (Some a) None = ⊥
   IsSameRoom None b = ⊥
 
+  -- the room has the places that were laid out for this number
+  abbrev pub IsRoomAt : List (Option (Room X)) → ℕ → Room X → Type 0
+  IsRoomAt rooms n r = (y : Option (Room X)) × (get_elem? rooms n ≡ some y) × IsSameRoom y (Some r)
+
   -- it has the values of its piece
   abbrev pub IsRightRoom : (List X → Type 0) → Option (Room X) → Type 0
   IsRightRoom right (Some r) = right r.items

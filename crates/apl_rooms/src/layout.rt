@@ -1,6 +1,5 @@
 //! How a row is cut into the rooms of its pieces, and glued.
-ghost use Rattle.std.specs.Prelude.{◌≡◌, ℕ, ◌+◌, ◌*◌, ◌^◌, ◌<◌, ◌≤◌, [], length, vec_capacity, vec_len};
-ghost use Rattle.core.specs.Mem.Slots.Ownership.{bytes_of};
+ghost use Rattle.std.specs.Prelude.{◌≡◌, ◌<◌, ◌≤◌, [], vec_capacity};
 ghost use Rattle.apl_rooms.specs.Layout.{AreRoomsFrom};
 
 use crate::room::Room;
@@ -38,7 +37,8 @@ pub(crate) fn glue_all<T, F: Task<T>>(
     homes: Vec<Option<Room<T>>>,
 ) -> Room<T>
     requires front { front.len ≡ 0 }
-    requires rooms { AreRoomsFrom T.row (F.start_of task.now) front.ptr (F.start_of task.now (F.piece_count task.now)) (F.piece_count task.now) homes.items }
+    requires rooms { AreRoomsFrom T.row (F.start_of task.now) front.ptr (F.start_of task.now (F.piece_count task.now))
+        (F.piece_count task.now) homes.items }
     ensures { (result.ptr ≡ front.ptr) × (result.len ≡ F.start_of task.now (F.piece_count task.now)) }
 {
     let mut homes = homes;

@@ -1,4 +1,4 @@
-//! Rooms: the places of a list, cut into pieces that are written where they lie by whichever thread takes them.
+//! Rooms: a row of places is cut into pieces that are written where they lie, by whichever thread takes them.
 #![tactic(auto)]
 
 mod layout;
@@ -8,6 +8,5 @@ mod rooms;
 mod task;
 mod view;
 
-pub use room::Room;
 pub use rooms::{Filled, RoomSeat, Rooms};
 pub use task::Task;

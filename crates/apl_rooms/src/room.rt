@@ -1,8 +1,10 @@
 //! Places side by side that are owned, so that they can be cut and glued and go to another thread.
-ghost use Rattle.std.specs.Prelude.{◌≡◌, ◌+◌, ◌*◌, ◌^◌, ◌<◌, ◌≤◌, ◌++◌, List, length, take, drop, replicate, true};
-ghost use Rattle.core.specs.Ptr.{ptr_add};
+//!
+//! This is the only unsafe code of the crate: a borrowed row can't be laid into a table, since the proof would no longer know
+//! which row it was. So a room owns its places, as a pointer and a length.
+ghost use Rattle.std.specs.Prelude.{◌≡◌, ◌^◌, ◌<◌, ◌≤◌, List, length, replicate, true};
 ghost use Rattle.core.specs.Mem.Slots.{slots_items, slots_ptr, slots_len, IsFull};
-ghost use Rattle.core.specs.Mem.Slots.Ownership.{owned, bytes_of};
+ghost use Rattle.core.specs.Mem.Slots.Ownership.{owned};
 
 use core::slots::Slots;
 use std::marker::Model;
@@ -23,11 +25,14 @@ impl<T> Model for Room<T> {
 
 unsafe impl<T: Send> Send for Room<T> {}
 
+// A `&` to a room reaches none of its values.
+unsafe impl<T: Send> Sync for Room<T> {}
+
 impl<T> Room<T> {
-    ghost use Rattle.apl_rooms.specs.Rooms.{room_follows_slice};
+    ghost use Rattle.apl_rooms.specs.Rooms.{room_follows_slice, IsCut, AreNeighbours, IsGlued};
     ghost use types.Logic.{sem};
 
-    /// The values, to be read and written.
+    /// The values, to be read and written. When the borrow ends, the room has what was written.
     pub fn as_mut_slice(&mut self) -> &mut [T]
         ensures* writes_back { sem 𝓛 (room_follows_slice T.row self.entry result) }
         ensures value { result.now ≡ self.old.items }
@@ -39,7 +44,7 @@ impl<T> Room<T> {
     /// The first `mid` places, and the rest.
     pub fn cut(self, mid: usize) -> (Room<T>, Room<T>)
         requires { mid ≤ self.len }
-        ensures { (result.0.items ≡ take mid self.items) × (result.1.items ≡ drop mid self.items) × (result.0.ptr ≡ self.ptr) × (result.0.len ≡ mid) × (result.1.ptr ≡ ptr_add T.row mid self.ptr) × (result.1.len + mid ≡ self.len) × (self.len * bytes_of T.row < 2 ^ 63) }
+        ensures { IsCut T.row self mid result.0 result.1 }
     {
         let Room { ptr, len } = self;
         let rest = len - mid;
@@ -55,8 +60,8 @@ impl<T> Room<T> {
 
     /// The places of both, where `other` begins behind `self`.
     pub fn glue(self, other: Room<T>) -> Room<T>
-        requires { (other.ptr ≡ ptr_add T.row self.len self.ptr) × ((self.len + other.len) * bytes_of T.row < 2 ^ 63) × (self.len + other.len < 2 ^ 64) }
-        ensures { (result.items ≡ self.items ++ other.items) × (result.ptr ≡ self.ptr) × (result.len ≡ self.len + other.len) }
+        requires { AreNeighbours T.row self other }
+        ensures { IsGlued self other result }
     {
         let Room { ptr, len } = self;
         let Room { ptr: _, len: more } = other;

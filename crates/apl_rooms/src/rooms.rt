@@ -1,11 +1,10 @@
-//! The rooms of the pieces of a list, each in a slot of a table: who takes one writes it and lays it back.
-ghost use Rattle.std.specs.Prelude.{◌≡◌, ◌≢◌, ℕ, ◌+◌, ◌-◌, ◌*◌, ◌^◌, ◌<◌, ◌≤◌, ◌∷◌, [], true, List, IfOk, IfErr, IfSome, MatchOption, length, slice_index_or, slice_range, false, vec_len, vec_capacity, Option, Some, None, replicate};
-ghost use mathlib.Core.Option.{some};
-ghost use lib.ListN.{get_elem?};
+//! The rooms of the pieces of a row, each in a slot of a table: who takes one writes it and lays it back.
+ghost use Rattle.std.specs.Prelude.{◌≡◌, ◌≢◌, ℕ, ◌+◌, ◌<◌, ◌≤◌, ◌∷◌, [], true, IfOk, IfErr, MatchOption, length};
+ghost use Rattle.std.specs.Prelude.{slice_index_or, false, vec_len, vec_capacity, None};
 ghost use Rattle.core.specs.Mem.Slots.{slots_items, slots_ptr, slots_len, IsFull, Refills};
-ghost use Rattle.apl_rooms.specs.Rule.{IsSameRoom};
+ghost use Rattle.apl_rooms.specs.Layout.{AreRoomsOf, piece_of};
+ghost use Rattle.apl_rooms.specs.Rule.{IsRoomAt};
 ghost use Rattle.apl_rooms.specs.Views.{with_out, with_none};
-ghost use Rattle.apl_rooms.specs.declared.room.Room.{Room as RoomValue};
 
 use crate::layout::{glue_all, lay_out};
 use crate::plays::{CutShare, JoinSeats, Laid, Lay, RoomRule, Take};
@@ -24,7 +23,8 @@ const OUT: u64 = 1;
 
 const RIGHT: u64 = 2;
 
-/// The rooms of all pieces. They lie in a table, and each is taken by one seat at a time.
+/// The rooms of all pieces of a row. Threads share them by reference: each room is with one seat at a time, or at home. Rooms that
+/// are dropped and not closed are forgotten, with their values.
 #[derive(Drop)]
 pub struct Rooms<T, F: Task<T>> {
     table: Table<Option<Room<T>>, View<T>, Laid<T, F>, RoomRule<F>, Global>,
@@ -38,7 +38,8 @@ pub struct Rooms<T, F: Task<T>> {
     ghost room: { length table.shared.key.rooms.value.items ≤ vec_capacity marks },
 }
 
-/// A part of the right to the rooms. It has no bytes.
+/// A part of the right to the rooms: each thread fills them with a seat of its own. A seat has one or more of the shares that the
+/// rooms were made with, and has no bytes. Where one is dropped its shares are lost, and the rooms can't be closed.
 #[derive(Drop)]
 pub struct RoomSeat<T> {
     seat: Seat<Option<Room<T>>, View<T>>,
@@ -47,114 +48,29 @@ pub struct RoomSeat<T> {
     ghost some: { 0 < seat.me.0.share },
 }
 
-/// What became of a room.
+/// What became of a room that a seat wanted to fill.
 #[derive(Clone, Copy, Debug, PartialEq, Eq)]
 pub enum Filled {
-    /// It has the values of its piece.
+    /// It has the values of its piece, and stays as it is.
     Right,
-    /// There is no value at this place of its piece.
+    /// The task answered this place. The room is at home again, to be filled once more.
     Stopped(u32),
-    /// It wasn't there: another seat has it, or it is right already.
+    /// It wasn't there: another seat has it, it is right already, or there is no such piece. Nothing was written.
     Gone,
 }
 
 // The word of a room that is laid back.
 fn word_of(is_right: bool) -> u64
-    ensures { (result ≢ 1) × (result ≡ 2 → is_right ≡ true) }
+    ensures { (result ≢ 1) × (result ≡ 2 → is_right ≡ true) × (is_right ≡ true → result ≡ 2) }
 {
     if is_right { RIGHT } else { HOME }
 }
 
 impl<T, F: Task<T>> Rooms<T, F> {
     ghost use Rattle.apl_rooms.specs.Seats.{share_of, seats_of, task_of, row_of, laid_out, IsSeatOf};
-    ghost use Rattle.apl_rooms.specs.Layout.{AreRoomsOf};
 
-    // Takes the room of a piece out of its slot.
-    fn take(&self, seat: &mut Seat<Option<Room<T>>, View<T>>, number: usize) -> Option<Room<T>>
-        requires number { number < self.now.table.shared.table_id.words }
-        requires seat { seat.old.table_id ≡ self.now.table.shared.table_id }
-        requires idle { (seat.old.me.1 ≡ []) × (seat.old.me.0.out ≡ []) × (0 < seat.old.me.0.share) }
-        ensures seat { seat.new.table_id ≡ seat.old.table_id }
-        ensures none { MatchOption result (seat.new.me ≡ seat.old.me)
-            (λ r. (seat.new.me ≡ (with_out seat.old.me.0 number, (number, None) ∷ [])) × (y : Option (RoomValue T)) × (get_elem? seat.old.me.0.rooms number ≡ some y) × IsSameRoom y (Some r)) }
-    {
-        let found = self
-            .table
-            .shared
-            .compare_exchange::<Take>(seat, number, HOME, OUT);
-        if found != HOME {
-            return None;
-        }
-        self.table.shared.exchange(seat, number, None)
-    }
-
-    // Lays a room back into its slot. Where it is right it stays there.
-    fn lay(
-        &self,
-        seat: &mut Seat<Option<Room<T>>, View<T>>,
-        number: usize,
-        room: Room<T>,
-        is_right: bool,
-    )
-        requires number { number < self.now.table.shared.table_id.words }
-        requires seat { (seat.old.table_id ≡ self.now.table.shared.table_id) × (seat.old.me.0.rooms ≡ laid_out self.now) }
-        requires out { (seat.old.me.1 ≡ (number, None) ∷ []) × (seat.old.me.0.out ≡ number ∷ []) × (0 < seat.old.me.0.share) }
-        requires same { (y : Option (RoomValue T)) × (get_elem? seat.old.me.0.rooms number ≡ some y) × IsSameRoom y (Some room) }
-        requires right { is_right ≡ true → F.is_right (task_of self.now) number room.items }
-        ensures { (seat.new.table_id ≡ seat.old.table_id) × (seat.new.me ≡ (with_none seat.old.me.0, [])) }
-    {
-        let word = word_of(is_right);
-        self.table.shared.exchange(seat, number, Some(room));
-        self.table.shared.store::<Lay>(seat, number, word);
-    }
-
-    /// Takes the room of a piece, writes its values and lays it back. It takes no memory.
-    pub fn fill(&self, seat: &mut RoomSeat<T>, task: &F, number: usize) -> Filled
-        requires seat { IsSeatOf self.now seat.old }
-        requires task { task_of self.now ≡ task.now }
-        requires rooms { AreRoomsOf T.row (F.start_of task.now) (row_of self.now) (F.piece_count task.now) (laid_out self.now) }
-        ensures seat { IsSeatOf self.now seat.new }
-        ensures share { share_of seat.new ≡ share_of seat.old }
-    {
-        if number >= self.table.word_count() {
-            return Filled::Gone;
-        }
-        let Some(mut room) = self.take(&mut seat.seat, number) else {
-            return Filled::Gone;
-        };
-        let written = task.write(number, room.as_mut_slice());
-        self.lay(&mut seat.seat, number, room, written.is_ok());
-        match written {
-            Ok(()) => Filled::Right,
-            Err(place) => Filled::Stopped(place),
-        }
-    }
-
-    /// One share is cut off: the first seat keeps the others.
-    pub fn split(&self, seat: RoomSeat<T>) -> (RoomSeat<T>, RoomSeat<T>)
-        requires seat { IsSeatOf self.now seat }
-        requires several { 1 < share_of seat }
-        ensures seats { IsSeatOf self.now result.0 × IsSeatOf self.now result.1 }
-        ensures shares { (share_of result.0 + 1 ≡ share_of seat) × (share_of result.1 ≡ 1) }
-    {
-        let RoomSeat { mut seat } = seat;
-        let part = self.table.shared.split_seat::<CutShare>(&mut seat);
-        (RoomSeat { seat }, RoomSeat { seat: part })
-    }
-
-    /// One seat of both: shares add.
-    pub fn join(&self, first: RoomSeat<T>, second: RoomSeat<T>) -> RoomSeat<T>
-        requires seats { IsSeatOf self.now first × IsSeatOf self.now second }
-        ensures seat { IsSeatOf self.now result }
-        ensures share { share_of result ≡ share_of first + share_of second }
-    {
-        let RoomSeat { mut seat } = first;
-        let RoomSeat { seat: other } = second;
-        self.table.shared.join_seat::<JoinSeats>(&mut seat, other);
-        RoomSeat { seat }
-    }
-
-    /// The rooms of a row, and the seat that has all shares of the right to them. For want of memory the row comes back.
+    /// The rooms of a row, cut where the task's pieces begin, and the seat that has all shares, as many as `seats`. None is right
+    /// yet. The row comes back, full and in its places, where the allocator refuses memory, and only then. No other call takes any.
     pub fn new(
         alloc: Global,
         row: Slots<T>,
@@ -165,8 +81,10 @@ impl<T, F: Task<T>> Rooms<T, F> {
         requires all { F.start_of task.now (F.piece_count task.now) ≡ slots_len row }
         requires some { 0 < F.piece_count task.now }
         requires seats { 0 < seats }
-        ensures made { IfOk result (λ m. (row_of m.0 ≡ row) × (task_of m.0 ≡ task.now) × (seats_of m.0 ≡ seats) × IsSeatOf m.0 m.1 × (share_of m.1 ≡ seats)) }
-        ensures rooms { IfOk result (λ m. AreRoomsOf T.row (F.start_of task.now) row (F.piece_count task.now) (laid_out m.0)) }
+        ensures made { IfOk result (λ m. (row_of m.0 ≡ row) × (task_of m.0 ≡ task.now) × (seats_of m.0 ≡ seats)
+            × IsSeatOf m.0 m.1 × (share_of m.1 ≡ seats)) }
+        ensures rooms { IfOk result (λ m.
+            AreRoomsOf T.row (F.start_of task.now) row (F.piece_count task.now) (laid_out m.0)) }
         ensures refused { IfErr result (Refills row) }
     {
         let count = task.count();
@@ -201,7 +119,58 @@ impl<T, F: Task<T>> Rooms<T, F> {
         }
     }
 
-    /// The row, of which each place has a value, and for each piece whether its values are right.
+    /// Takes the room of the piece with this number, has the task write its values there, and lays it back: marked as right where
+    /// the task answers `Ok` (`Filled::Right`), and else not (`Filled::Stopped`, with the task's place). It answers `Filled::Gone`
+    /// at once where the room isn't there to be taken. It takes no memory and never waits for another thread, as long as the task's
+    /// `write` does neither.
+    pub fn fill(&self, seat: &mut RoomSeat<T>, task: &F, number: usize) -> Filled
+        requires seat { IsSeatOf self.now seat.old }
+        requires task { task_of self.now ≡ task.now }
+        requires rooms { AreRoomsOf T.row (F.start_of task.now) (row_of self.now) (F.piece_count task.now) (laid_out self.now) }
+        ensures seat { IsSeatOf self.now seat.new }
+        ensures share { share_of seat.new ≡ share_of seat.old }
+    {
+        if number >= self.table.word_count() {
+            return Filled::Gone;
+        }
+        let Some(mut room) = self.take(&mut seat.seat, number) else {
+            return Filled::Gone;
+        };
+        let written = task.write(number, room.as_mut_slice());
+        self.lay(&mut seat.seat, number, room, written.is_ok());
+        match written {
+            Ok(()) => Filled::Right,
+            Err(place) => Filled::Stopped(place),
+        }
+    }
+
+    /// One share is cut off, for another thread: the second seat has it, and the first keeps the others. It takes no memory and
+    /// never waits.
+    pub fn split(&self, seat: RoomSeat<T>) -> (RoomSeat<T>, RoomSeat<T>)
+        requires seat { IsSeatOf self.now seat }
+        requires several { 1 < share_of seat }
+        ensures seats { IsSeatOf self.now result.0 × IsSeatOf self.now result.1 }
+        ensures shares { (share_of result.0 + 1 ≡ share_of seat) × (share_of result.1 ≡ 1) }
+    {
+        let RoomSeat { mut seat } = seat;
+        let part = self.table.shared.split_seat::<CutShare>(&mut seat);
+        (RoomSeat { seat }, RoomSeat { seat: part })
+    }
+
+    /// One seat of both, with the shares of both. It takes no memory and never waits.
+    pub fn join(&self, first: RoomSeat<T>, second: RoomSeat<T>) -> RoomSeat<T>
+        requires seats { IsSeatOf self.now first × IsSeatOf self.now second }
+        ensures seat { IsSeatOf self.now result }
+        ensures share { share_of result ≡ share_of first + share_of second }
+    {
+        let RoomSeat { mut seat } = first;
+        let RoomSeat { seat: other } = second;
+        self.table.shared.join_seat::<JoinSeats>(&mut seat, other);
+        RoomSeat { seat }
+    }
+
+    /// The whole row, and for each piece a mark. Each place has a value, whatever the threads did; a marked piece has the values
+    /// of its piece, and of one that isn't marked nothing is known. It takes no memory: `new` took that of the marks.
     pub fn close(self, seat: RoomSeat<T>) -> (Slots<T>, Vec<bool>)
         requires seat { IsSeatOf self seat }
         requires all { share_of seat ≡ seats_of self }
@@ -209,7 +178,7 @@ impl<T, F: Task<T>> Rooms<T, F> {
         ensures row { Refills (row_of self) result.0 }
         ensures marks { vec_len result.1 ≡ F.piece_count (task_of self) }
         ensures right { (n : ℕ) → n < F.piece_count (task_of self) → slice_index_or result.1.items n false ≡ true
-            → F.is_right (task_of self) n (slice_range (slots_items result.0) (F.start_of (task_of self) n) (F.start_of (task_of self) (n + 1))) }
+            → F.is_right (task_of self) n (piece_of (F.start_of (task_of self)) n (slots_items result.0)) }
     {
         let Rooms {
             table,
@@ -229,5 +198,44 @@ impl<T, F: Task<T>> Rooms<T, F> {
         }
         closed.free();
         (whole.into_slots(), marks)
+    }
+
+    // Takes the room of a piece out of its slot, where it is at home and not right.
+    fn take(&self, seat: &mut Seat<Option<Room<T>>, View<T>>, number: usize) -> Option<Room<T>>
+        requires number { number < self.now.table.shared.table_id.words }
+        requires seat { seat.old.table_id ≡ self.now.table.shared.table_id }
+        requires idle { (seat.old.me.1 ≡ []) × (seat.old.me.0.out ≡ []) × (0 < seat.old.me.0.share) }
+        ensures seat { seat.new.table_id ≡ seat.old.table_id }
+        ensures none { MatchOption result (seat.new.me ≡ seat.old.me)
+            (λ r. (seat.new.me ≡ (with_out seat.old.me.0 number, (number, None) ∷ [])) × IsRoomAt seat.old.me.0.rooms number r) }
+    {
+        let found = self
+            .table
+            .shared
+            .compare_exchange::<Take>(seat, number, HOME, OUT);
+        if found != HOME {
+            return None;
+        }
+        self.table.shared.exchange(seat, number, None)
+    }
+
+    // Lays a room back into its slot. Where it is right it stays there.
+    fn lay(
+        &self,
+        seat: &mut Seat<Option<Room<T>>, View<T>>,
+        number: usize,
+        room: Room<T>,
+        is_right: bool,
+    )
+        requires number { number < self.now.table.shared.table_id.words }
+        requires seat { (seat.old.table_id ≡ self.now.table.shared.table_id) × (seat.old.me.0.rooms ≡ laid_out self.now) }
+        requires out { (seat.old.me.1 ≡ (number, None) ∷ []) × (seat.old.me.0.out ≡ number ∷ []) × (0 < seat.old.me.0.share) }
+        requires same { IsRoomAt seat.old.me.0.rooms number room }
+        requires right { is_right ≡ true → F.is_right (task_of self.now) number room.items }
+        ensures { (seat.new.table_id ≡ seat.old.table_id) × (seat.new.me ≡ (with_none seat.old.me.0, [])) }
+    {
+        let word = word_of(is_right);
+        self.table.shared.exchange(seat, number, Some(room));
+        self.table.shared.store::<Lay>(seat, number, word);
     }
 }

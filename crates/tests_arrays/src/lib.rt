@@ -1,14 +1,21 @@
-//! Tests of arrays, of the scalar and the structural functions, of reductions and products, and of printed values.
+//! Tests of arrays, of the scalar and the structural functions, of reductions and products, of printed values, and of what workers
+//! share: boards, deques and rooms.
 #![tactic(auto)]
 
 #[cfg(test)]
 mod arrays;
+#[cfg(test)]
+mod board;
+#[cfg(test)]
+mod deques;
 #[cfg(test)]
 mod elements;
 #[cfg(test)]
 mod filled;
 #[cfg(test)]
 mod printed;
+#[cfg(test)]
+mod rooms;
 #[cfg(test)]
 mod scalars;
 #[cfg(test)]
