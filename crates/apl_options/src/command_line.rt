@@ -3,7 +3,7 @@ ghost use Rattle.std.specs.Prelude.{◌≡◌, ◌≢◌, ◌<◌, ◌≤◌, le
 ghost use Rattle.clap.specs.Words.{kind_of};
 
 use super::options::{LONGEST_PIECE, Settings};
-use apl_pool::MOST_WORKERS;
+use apl_pool::{MOST_WORKERS, Schedule};
 use clap::error::ErrorKind;
 use clap::{Arg, Command, Error, value_parser};
 use std::alloc::Global;
@@ -27,13 +27,20 @@ pub fn settings(alloc: Global, words: &[&str]) -> Result<Settings, Error>
         .help("How many elements each piece of the work has, from 1 to 1048576")
         .value_parser(value_parser!(u32).range(1..=i64::from(LONGEST_PIECE)))
         .default_value(PIECE);
+    let schedule = Arg::new(alloc, "schedule")
+        .long("schedule")
+        .value_name("RULE")
+        .help("How the pieces come to the workers")
+        .value_parser([CLAIMS, DEQUES].as_slice())
+        .default_value(DEQUES);
     let command = Command::new(alloc, "aplcalc")
         .about(
             "Reads lines of APL from standard input, and writes the answer to each to standard output.",
         )
         .after_help(STATUSES)
         .arg(workers)?
-        .arg(piece)?;
+        .arg(piece)?
+        .arg(schedule)?;
     let matches = command.try_get_matches_from(words)?;
     // The ranges are checked and the defaults are filled in by now, so nothing changes below.
     let workers = matches.get_one::<u8>("workers").unwrap_or(1);
@@ -41,6 +48,10 @@ pub fn settings(alloc: Global, words: &[&str]) -> Result<Settings, Error>
     Ok(Settings {
         workers: workers.clamp(1, MOST_WORKERS),
         piece: piece.clamp(1, LONGEST_PIECE),
+        schedule: match matches.get_str("schedule") {
+            Some(CLAIMS) => Schedule::Claims,
+            _ => Schedule::Deques,
+        },
     })
 }
 
@@ -49,6 +60,12 @@ const WORKERS: &str = "4";
 
 /// How many elements a piece has where no option says so.
 const PIECE: &str = "4096";
+
+/// The word for workers who claim the pieces in their order, each the next one.
+const CLAIMS: &str = "claims";
+
+/// The word for workers who have deques of pieces. It is meant where no option says so.
+const DEQUES: &str = "deques";
 
 /// The end of the help.
 const STATUSES: &str = "Exit status:

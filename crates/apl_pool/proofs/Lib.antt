@@ -2,3 +2,4 @@ pub mod Values
 pub mod Bounds
 pub mod Summaries
 pub mod FoldedParts
+pub mod Completes

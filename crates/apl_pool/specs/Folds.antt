@@ -1,5 +1,5 @@
 -- What a worker answers for the items at a stretch of places. No contract of a public function cites this file.
-use Rattle.std.specs.Prelude.{◌≡◌, ℕ, ℤ, List, Option, Some, None, Result, Ok, Err}
+use Rattle.std.specs.Prelude.{◌≡◌, ℕ, ℤ, List, Option, Some, None, Result, Ok, Err, slice_index_or}
 use Rattle.apl_pool.specs.declared.kernel.Fault.{Fault}
 use Rattle.apl_pool.specs.declared.kernel.Stop.{Stop}
 use Rattle.apl_pool.specs.Parts.{AreValuesFrom, IsStopFrom}
@@ -27,3 +27,7 @@ module _ {S X : Type 0} (step : X → ℤ → Result ℤ Fault) (item_count : S 
   abbrev pub IsFoldedPart : ℕ → ℕ → Result (Option S) Stop → Type 0
   IsFoldedPart from to (Ok folded) = IsFolded from to folded
   IsFoldedPart from to (Err stop) = IsStopFrom outcome from to stop
+
+  -- the first of a list is the summary of these places
+  abbrev pub IsFoldedFirst : ℕ → ℕ → List (Option S) → Type 0
+  IsFoldedFirst from to values = IsFolded from to (slice_index_or values 0 None)

@@ -19,6 +19,10 @@ module _ {T : Type 0} (outcome : ℕ → Result T Fault) where
     pub len : from + length values ≡ to
     pub each : (k : ℕ) (d : T) → k < length values → outcome (from + k) ≡ Ok (slice_index_or values k d)
 
+  -- the values at these places stand there in a list of those at all places
+  abbrev pub AreValuesAt : ℕ → ℕ → List T → Type 0
+  AreValuesAt from to values = (k : ℕ) (d : T) → from ≤ k → k < to → outcome k ≡ Ok (slice_index_or values k d)
+
   -- the first place from `from` up to before `to` that has a fault, and that fault
   pub record IsFirstFault (from to place : ℕ) (fault : Fault) : Type 0 where
     pub at_least : from ≤ place

@@ -1,161 +1,169 @@
 //! What several workers do at once: the first in this thread, and each other one in a thread of its own. This thread starts them
 //! all: a thread that has only just begun tends to share its processor with what it starts.
 ghost use Rattle.std.specs.Thread.{IsSync};
-ghost use Rattle.std.specs.Prelude.{◌≡◌, ◌++◌, ℕ, ◌+◌, ◌-◌, ◌<◌, ◌≤◌, OnOk, IfErr, length};
-ghost use Rattle.apl_pool.specs.Parts.{AreValuesFrom, IsStopFrom, IsPart};
-ghost use Rattle.apl_pool.specs.Shares.{share_start};
-ghost use Rattle.apl_pool.specs.Folds.{IsFoldedPart};
+ghost use Rattle.std.specs.Prelude.{◌≡◌, ℕ, ◌+◌, ◌-◌, ◌<◌, ◌≤◌};
+ghost use Rattle.apl_board.specs.Seats.{view, IsSeatOf};
+ghost use Rattle.apl_pool.specs.Crew.{AreSeatsOf, AreRoomsFor};
 
-use super::folds::{fold_share, join_both};
+use super::ends::Ends;
 use super::gate::Gate;
-use super::kernel::{Kernel, Stop};
 use super::shares::Shares;
-use super::summary::Summary;
-use super::work::{append_share, write_share};
-use std::alloc::Global;
-use std::thread::{Threads, join, join_mut};
+use apl_board::{Board, BoardSeat};
+use apl_rooms::{Filled, RoomSeat, Rooms, Task};
+use std::thread::{Threads, join};
 
-/// The values of the first `tasks` shares. Each worker has a list of its own, and they are put together in the order of their
-/// places.
-#[cycle(collect)]
-pub(crate) fn collect_shares<
-    R: Threads + Sync,
-    T: Copy + Send,
-    K: Kernel<Out = T> + Sync,
-    G: Gate + Sync,
->(
-    rt: &R,
-    alloc: Global,
-    kernel: &K,
+/// The seats of some workers, at the rooms of all pieces and at the board.
+#[derive(Drop)]
+pub(crate) struct Seats<T> {
+    pub rooms: RoomSeat<T>,
+    pub board: BoardSeat,
+}
+
+/// The number of the next piece: of the worker's deques where there are some, else from the board.
+fn next_piece(ends: &mut Option<Ends>, board: &Board, seat: &mut BoardSeat) -> Option<u32>
+    requires { IsSeatOf board.now seat.old }
+    ensures seat { IsSeatOf board.now seat.new }
+    ensures share { (view seat.new).share ≡ (view seat.old).share }
+{
+    match ends.as_mut() {
+        Some(ends) => ends.next(),
+        None => board.claim(seat),
+    }
+}
+
+/// Whether a place before `start` is known to have a fault.
+fn is_behind(board: &Board, seat: &mut BoardSeat, start: usize) -> bool
+    requires { IsSeatOf board.now seat.old }
+    ensures seat { IsSeatOf board.now seat.new }
+    ensures share { (view seat.new).share ≡ (view seat.old).share }
+{
+    match board.least(seat) {
+        Some(place) => (place as usize) < start,
+        None => false,
+    }
+}
+
+/// What one worker does: piece by piece, it passes the gate, fills the piece's room, and reports the place at which that stopped. A piece
+/// that begins behind a place that was reported is left out.
+fn work<T, F: Task<T>, G: Gate>(
+    rooms: &Rooms<T, F>,
+    board: &Board,
+    task: &F,
     gate: &G,
     shares: &Shares,
-    tasks: usize,
-) -> Result<Vec<T>, Stop>
-    requires some { 0 < tasks }
-    requires within { tasks ≤ shares.now.tasks }
-    requires places { shares.now.pieces.places ≡ K.place_count kernel.now }
-    ensures { IsPart (K.outcome kernel.now) 0 (share_start shares.now tasks) result }
+    worker: u8,
+    own: Option<Ends>,
+    seats: Seats<T>,
+) -> Seats<T>
+    requires rooms { AreRoomsFor T.row F.start_of F.piece_count rooms.now task.now }
+    requires pieces { F.piece_count task.now ≡ shares.now.pieces.count }
+    requires seats { AreSeatsOf rooms.now board.now seats 1 }
+    ensures { AreSeatsOf rooms.now board.now result 1 }
 {
-    if tasks == 1 {
-        let room = shares.pieces().places();
-        return append_share(alloc, kernel, gate, shares.pieces(), shares.share(0), room);
+    let mut ends = own;
+    let mut seats = seats;
+    for _ in 0..task.count() {
+        let Some(number) = next_piece(&mut ends, board, &mut seats.board) else {
+            break;
+        };
+        let number = number as usize;
+        if number >= task.count()
+            || is_behind(board, &mut seats.board, shares.pieces().start(number))
+        {
+            continue;
+        }
+        gate.pass(worker, number as u32);
+        if let Filled::Stopped(place) = rooms.fill(&mut seats.rooms, task, number) {
+            board.report(&mut seats.board, place);
+        }
     }
-    let others = tasks - 1;
-    let last = || -> Result<Vec<T>, Stop>
-        requires { IsSync K.row × IsSync G.row × (others < shares.now.tasks) × (shares.now.pieces.places ≡ K.place_count kernel.now) }
-        ensures { IsPart (K.outcome kernel.entry.now) (share_start shares.entry.now others) (share_start shares.entry.now (others + 1)) result }
-    {
-        append_share(
-            alloc,
-            kernel,
-            gate,
-            shares.pieces(),
-            shares.share(others),
-            shares.length(others),
-        )
-    };
-    let before = || -> Result<Vec<T>, Stop>
-        requires { IsSync R.row × IsSync K.row × IsSync G.row × (0 < others) × (others ≤ shares.now.tasks) × (shares.now.pieces.places ≡ K.place_count kernel.now) }
-        ensures { IsPart (K.outcome kernel.entry.now) 0 (share_start shares.entry.now others) result }
-    { collect_shares(rt, alloc, kernel, gate, shares, others) };
-    let (last, before) = join(rt, last, before);
-    let mut values = before?;
-    let mut more = last?;
-    values.append(&mut more)?;
-    Ok(values)
+    seats
 }
 
-/// The summary of the items of the first `tasks` shares, where there are some. Those of the workers are joined in the order of their
-/// places.
-#[cycle(folding)]
-pub(crate) fn fold_shares<
-    R: Threads + Sync,
-    S: Summary + Drop + Send,
-    K: Kernel<Out = S::Item> + Sync,
-    G: Gate + Sync,
->(rt: &R, kernel: &K, gate: &G, shares: &Shares, tasks: usize) -> Result<Option<S>, Stop>
-    requires some { 0 < tasks }
-    requires within { tasks ≤ shares.now.tasks }
-    requires places { shares.now.pieces.places ≡ K.place_count kernel.now }
-    ensures { IsFoldedPart S.step S.item_count S.outcome (K.outcome kernel.now) 0 (share_start shares.now tasks) result }
+/// One share is cut off the seats.
+fn split_one<T, F: Task<T>>(
+    rooms: &Rooms<T, F>,
+    board: &Board,
+    seats: Seats<T>,
+    share: u8,
+) -> (Seats<T>, Seats<T>)
+    requires several { 1 < share }
+    requires seats { AreSeatsOf rooms.now board.now seats share }
+    ensures rest { AreSeatsOf rooms.now board.now result.0 (share - 1) }
+    ensures one { AreSeatsOf rooms.now board.now result.1 1 }
 {
-    if tasks == 1 {
-        return fold_share(kernel, gate, shares.pieces(), shares.share(0));
+    let (rest, one) = rooms.split(seats.rooms);
+    match board.split(seats.board, 1) {
+        Ok((others, own)) => (
+            Seats {
+                rooms: rest,
+                board: others,
+            },
+            Seats {
+                rooms: one,
+                board: own,
+            },
+        ),
+        Err(_) => unreachable!(),
     }
-    let others = tasks - 1;
-    let last = || -> Result<Option<S>, Stop>
-        requires { IsSync K.row × IsSync G.row × (others < shares.now.tasks) × (shares.now.pieces.places ≡ K.place_count kernel.now) }
-        ensures { IsFoldedPart S.step S.item_count S.outcome (K.outcome kernel.entry.now) (share_start shares.entry.now others) (share_start shares.entry.now (others + 1)) result }
-    { fold_share(kernel, gate, shares.pieces(), shares.share(others)) };
-    let before = || -> Result<Option<S>, Stop>
-        requires { IsSync R.row × IsSync K.row × IsSync G.row × (0 < others) × (others ≤ shares.now.tasks) × (shares.now.pieces.places ≡ K.place_count kernel.now) }
-        ensures { IsFoldedPart S.step S.item_count S.outcome (K.outcome kernel.entry.now) 0 (share_start shares.entry.now others) result }
-    { fold_shares(rt, kernel, gate, shares, others) };
-    let (last, before) = join(rt, last, before);
-    let before = before?;
-    Ok(join_both(before, last?))
 }
 
-/// What the first `tasks` workers write into the room for their shares.
+/// The seats of both.
+fn join_seats<T, F: Task<T>>(
+    rooms: &Rooms<T, F>,
+    board: &Board,
+    rest: Seats<T>,
+    one: Seats<T>,
+    share: u8,
+) -> Seats<T>
+    requires share { 0 < share }
+    requires rest { AreSeatsOf rooms.now board.now rest (share - 1) }
+    requires one { AreSeatsOf rooms.now board.now one 1 }
+    ensures { AreSeatsOf rooms.now board.now result share }
+{
+    Seats {
+        rooms: rooms.join(rest.rooms, one.rooms),
+        board: board.join(rest.board, one.board),
+    }
+}
+
+/// What the first `workers` workers do, each with the ends of the deques that are its own where there are some.
 #[cycle(crew)]
-pub(crate) fn write_shares<
-    R: Threads + Sync,
-    T: Copy + Send,
-    K: Kernel<Out = T> + Sync,
-    G: Gate + Sync,
->(rt: &R, kernel: &K, gate: &G, shares: &Shares, tasks: usize, values: &mut [T]) -> Result<(), Stop>
-    requires some { 0 < tasks }
-    requires within { tasks ≤ shares.now.tasks }
-    requires places { shares.now.pieces.places ≡ K.place_count kernel.now }
-    requires room { length values.old ≡ share_start shares.now tasks }
-    ensures ok { OnOk result (AreValuesFrom (K.outcome kernel.now) 0 (share_start shares.now tasks) values.new) }
-    ensures stop { IfErr result (IsStopFrom (K.outcome kernel.now) 0 (share_start shares.now tasks)) }
-    ensures len { length values.new ≡ length values.old }
-{
-    if tasks == 1 {
-        return write_share(kernel, gate, shares.pieces(), shares.share(0), values);
-    }
-    let others = tasks - 1;
-    let (front, back) = values.split_at_mut(shares.start(others));
-    write_beside(rt, kernel, gate, shares, others, front, back)
-}
-
-/// The same for the first `others` workers, and for one more, who writes behind them.
-#[cycle(crew)]
-fn write_beside<R: Threads + Sync, T: Copy + Send, K: Kernel<Out = T> + Sync, G: Gate + Sync>(
+pub(crate) fn work_together<T: Send, R: Threads + Sync, F: Task<T> + Sync, G: Gate + Sync>(
     rt: &R,
-    kernel: &K,
+    rooms: &Rooms<T, F>,
+    board: &Board,
+    task: &F,
     gate: &G,
     shares: &Shares,
-    others: usize,
-    front: &mut [T],
-    back: &mut [T],
-) -> Result<(), Stop>
-    requires some { 0 < others }
-    requires within { others < shares.now.tasks }
-    requires places { shares.now.pieces.places ≡ K.place_count kernel.now }
-    requires front_room { length front.old ≡ share_start shares.now others }
-    requires back_room { share_start shares.now others + length back.old ≡ share_start shares.now (others + 1) }
-    ensures ok { OnOk result (AreValuesFrom (K.outcome kernel.now) 0 (share_start shares.now (others + 1)) (front.new ++ back.new)) }
-    ensures stop { IfErr result (IsStopFrom (K.outcome kernel.now) 0 (share_start shares.now (others + 1))) }
-    ensures front_len { length front.new ≡ length front.old }
-    ensures back_len { length back.new ≡ length back.old }
+    workers: u8,
+    ends: Vec<Ends>,
+    seats: Seats<T>,
+) -> Seats<T>
+    requires some { 0 < workers }
+    requires within { workers ≤ shares.now.tasks }
+    requires rooms { AreRoomsFor T.row F.start_of F.piece_count rooms.now task.now }
+    requires pieces { F.piece_count task.now ≡ shares.now.pieces.count }
+    requires seats { AreSeatsOf rooms.now board.now seats workers }
+    ensures { AreSeatsOf rooms.now board.now result workers }
 {
-    let mut one = || -> Result<(), Stop>
-        requires { IsSync K.row × IsSync G.row × (others < shares.now.tasks) × (shares.now.pieces.places ≡ K.place_count kernel.now)
-            × (share_start shares.now others + length back.now ≡ share_start shares.now (others + 1)) }
-        ensures { OnOk result (AreValuesFrom (K.outcome kernel.entry.now) (share_start shares.entry.now others) (share_start shares.entry.now (others + 1)) back.exit.now)
-            × IfErr result (IsStopFrom (K.outcome kernel.entry.now) (share_start shares.entry.now others) (share_start shares.entry.now (others + 1)))
-            × (length back.exit.now ≡ length back.entry.now) }
-    { write_share(kernel, gate, shares.pieces(), shares.share(others), back) };
-    let mut rest = || -> Result<(), Stop>
-        requires { IsSync R.row × IsSync K.row × IsSync G.row × (0 < others) × (others ≤ shares.now.tasks) × (shares.now.pieces.places ≡ K.place_count kernel.now)
-            × (length front.now ≡ share_start shares.now others) }
-        ensures { OnOk result (AreValuesFrom (K.outcome kernel.entry.now) 0 (share_start shares.entry.now others) front.exit.now)
-            × IfErr result (IsStopFrom (K.outcome kernel.entry.now) 0 (share_start shares.entry.now others))
-            × (length front.exit.now ≡ length front.entry.now) }
-    { write_shares(rt, kernel, gate, shares, others, front) };
-    let (one, rest) = join_mut(rt, &mut one, &mut rest);
-    rest?;
-    one
+    let mut ends = ends;
+    let own = ends.pop();
+    let others = workers - 1;
+    let worker = shares.share(others as usize).worker;
+    if others == 0 {
+        return work(rooms, board, task, gate, shares, worker, own, seats);
+    }
+    let (rest, one) = split_one(rooms, board, seats, workers);
+    let last = move || -> Seats<T>
+        requires { IsSync F.row × IsSync G.row × AreRoomsFor T.row F.start_of F.piece_count rooms.now task.now × (F.piece_count task.now ≡ shares.now.pieces.count) × AreSeatsOf rooms.now board.now one 1 }
+        ensures { AreSeatsOf rooms.entry.now board.entry.now result 1 }
+    { work(rooms, board, task, gate, shares, worker, own, one) };
+    let before = move || -> Seats<T>
+        requires { IsSync R.row × IsSync F.row × IsSync G.row × (0 < others) × (others ≤ shares.now.tasks) × AreRoomsFor T.row F.start_of F.piece_count rooms.now task.now
+            × (F.piece_count task.now ≡ shares.now.pieces.count) × AreSeatsOf rooms.now board.now rest others }
+        ensures { AreSeatsOf rooms.entry.now board.entry.now result others }
+    { work_together(rt, rooms, board, task, gate, shares, others, ends, rest) };
+    let (one, rest) = join(rt, last, before);
+    join_seats(rooms, board, rest, one, workers)
 }

@@ -1,5 +1,5 @@
 //! What a worker does with its share of a fold: the items at its places are summarized.
-ghost use Rattle.std.specs.Prelude.{◌≡◌, ℕ, ◌+◌, ◌-◌, ◌<◌, ◌≤◌, Result, slice_index};
+ghost use Rattle.std.specs.Prelude.{◌≡◌, ℕ, ◌+◌, ◌-◌, ◌<◌, ◌≤◌, true, false, Result, None, IfOk, length, slice_index, slice_index_or, vec_len};
 ghost use Rattle.apl_pool.specs.declared.kernel.Fault.{Fault};
 ghost use Rattle.apl_pool.specs.declared.kernel.TheConstants.{MOST_PLACES};
 ghost use Rattle.apl_pool.specs.declared.summary.TheConstants.{LONGEST_RUN};
@@ -8,10 +8,15 @@ ghost use Rattle.apl_pool.specs.Folds.{items_in, IsFolded, IsFoldedPart};
 use super::cut::Cut;
 use super::gate::Gate;
 use super::kernel::{Kernel, Stop};
+use super::pass::fill_rooms;
 use super::pieces::{Piece, Pieces};
-use super::shares::Share;
+use super::schedule::Schedule;
+use super::shares::Shares;
 use super::summary::{LONGEST_RUN, Summary};
+use super::tasks::Summaries;
 use super::work::{next_piece, stop_at};
+use std::alloc::{AllocError, Global};
+use std::thread::Threads;
 
 /// The summary of the items of both, where there are some.
 pub(crate) fn join_both<S: Summary + Drop>(left: Option<S>, right: Option<S>) -> Option<S>
@@ -68,7 +73,7 @@ fn fold_run<S: Summary + Drop, K: Kernel<Out = S::Item>>(
 }
 
 /// The summary of the items at the places from `from` up to before `to`, where there are some, run by run.
-fn fold_places<S: Summary + Drop, K: Kernel<Out = S::Item>>(
+pub(crate) fn fold_places<S: Summary + Drop, K: Kernel<Out = S::Item>>(
     kernel: &K,
     from: usize,
     to: usize,
@@ -115,23 +120,84 @@ pub(crate) fn fold_all<S: Summary + Drop, K: Kernel<Out = S::Item>, C: Cut, G: G
     Ok(folded)
 }
 
-/// The summary of the items of a worker's share, where there are some.
-pub(crate) fn fold_share<S: Summary + Drop, K: Kernel<Out = S::Item>, G: Gate>(
+/// The summary of a piece, where it has some items. Where it isn't there already the first worker makes it, who passes the gate before.
+fn complete_part<S: Summary + Drop, K: Kernel<Out = S::Item>, G: Gate>(
+    kernel: &K,
+    gate: &G,
+    piece: Piece,
+    is_right: bool,
+    part: Option<S>,
+) -> Result<Option<S>, Stop>
+    requires order { piece.from ≤ piece.to }
+    requires places { piece.to ≤ K.place_count kernel.now }
+    requires most { piece.to ≤ MOST_PLACES }
+    requires right { is_right ≡ true → IsFolded S.step S.item_count S.outcome (K.outcome kernel.now) piece.from piece.to part }
+    ensures { IsFoldedPart S.step S.item_count S.outcome (K.outcome kernel.now) piece.from piece.to result }
+{
+    if is_right {
+        return Ok(part);
+    }
+    gate.pass(0, piece.number);
+    fold_places(kernel, piece.from, piece.to)
+}
+
+/// The summary of all pieces, joined in their order: those that are marked stand in the list, and the first worker makes each other one.
+fn join_parts<S: Summary + Drop, K: Kernel<Out = S::Item>, G: Gate>(
     kernel: &K,
     gate: &G,
     pieces: &Pieces,
-    share: Share,
+    marks: &[bool],
+    parts: Vec<Option<S>>,
 ) -> Result<Option<S>, Stop>
-    requires order { share.from ≤ share.to }
-    requires within { share.to ≤ pieces.now.count }
     requires places { pieces.now.places ≡ K.place_count kernel.now }
-    ensures { IsFoldedPart S.step S.item_count S.outcome (K.outcome kernel.now) (slice_index pieces.now.starts.items share.from) (slice_index pieces.now.starts.items share.to) result }
+    requires len { vec_len parts ≡ pieces.now.count }
+    requires marked { length marks.now ≡ pieces.now.count }
+    requires right { (n : ℕ) → n < pieces.now.count → slice_index_or marks.now n false ≡ true
+        → IsFolded S.step S.item_count S.outcome (K.outcome kernel.now) (slice_index pieces.now.starts.items n) (slice_index pieces.now.starts.items (n + 1)) (slice_index_or parts.items n None) }
+    ensures { IsFoldedPart S.step S.item_count S.outcome (K.outcome kernel.now) 0 (K.place_count kernel.now) result }
 {
     let mut folded = None;
-    for number in share.from..share.to {
-        let piece = pieces.piece(number);
-        gate.pass(share.worker, piece.number);
-        folded = join_both(folded, fold_places(kernel, piece.from, piece.to)?);
+    let mut parts = parts;
+    for number in 0..pieces.count() {
+        let part = parts[number].take();
+        let part = complete_part(kernel, gate, pieces.piece(number), marks[number], part)?;
+        folded = join_both(folded, part);
     }
     Ok(folded)
+}
+
+/// A list of as many parts, none of which is there yet.
+fn no_parts<S: Drop>(alloc: Global, count: usize) -> Result<Vec<Option<S>>, AllocError>
+    ensures { IfOk result (λ parts. vec_len parts ≡ count) }
+{
+    let mut parts = Vec::with_capacity(alloc, count)?;
+    for _ in 0..count {
+        parts.push_reserved(None);
+    }
+    Ok(parts)
+}
+
+/// The summary of all items, by several workers: one of each piece, and then all of them are joined.
+pub(crate) fn fold_together<
+    R: Threads + Sync,
+    S: Summary + Drop + Send,
+    K: Kernel<Out = S::Item> + Sync,
+    G: Gate + Sync,
+>(
+    rt: &R,
+    alloc: Global,
+    kernel: &K,
+    gate: &G,
+    shares: &Shares,
+    schedule: Schedule,
+) -> Result<Option<S>, Stop>
+    requires places { shares.now.pieces.places ≡ K.place_count kernel.now }
+    ensures { IsFoldedPart S.step S.item_count S.outcome (K.outcome kernel.now) 0 (K.place_count kernel.now) result }
+{
+    let pieces = shares.pieces();
+    let mut parts = no_parts(alloc, pieces.count())?;
+    let task = Summaries { kernel, pieces };
+    let room = parts.as_mut_slice();
+    let marks = fill_rooms(rt, alloc, &task, gate, shares, schedule, room)?;
+    join_parts(kernel, gate, pieces, marks.as_slice(), parts)
 }

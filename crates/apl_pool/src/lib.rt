@@ -5,19 +5,25 @@
 //! nor the cutting is seen in it.
 #![tactic(auto)]
 
+mod complete;
 mod crew;
 mod cut;
+mod ends;
 mod folds;
 mod gate;
 mod kernel;
+mod pass;
 mod pieces;
 mod pool;
+mod schedule;
 mod shares;
 mod summary;
+mod tasks;
 mod work;
 
 pub use cut::{Cut, Every};
 pub use gate::{Gate, Open};
 pub use kernel::{Fault, Kernel, MOST_PLACES, Stop};
 pub use pool::{MOST_WORKERS, Pool};
+pub use schedule::Schedule;
 pub use summary::{LONGEST_RUN, Summary};

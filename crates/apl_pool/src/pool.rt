@@ -3,16 +3,16 @@ ghost use Rattle.std.specs.Prelude.{◌≡◌, ℕ, ◌+◌, ◌<◌, ◌≤◌,
 ghost use Rattle.apl_pool.specs.declared.kernel.TheConstants.{MOST_PLACES};
 ghost use Rattle.apl_pool.specs.declared.pool.TheConstants.{MOST_WORKERS};
 ghost use Rattle.apl_pool.specs.Pool.{AreValues, IsStopOf};
-ghost use Rattle.apl_pool.specs.Shares.{share_start};
 ghost use Rattle.apl_pool.specs.Summaries.{IsSummaryOf};
 ghost use Rattle.apl_pool.specs.Folds.{IsFoldedPart};
 
-use super::crew::{collect_shares, fold_shares, write_shares};
+use super::complete::fill_values;
 use super::cut::Cut;
-use super::folds::fold_all;
+use super::folds::{fold_all, fold_together};
 use super::gate::Gate;
 use super::kernel::{Kernel, MOST_PLACES, Stop};
 use super::pieces::piece_end;
+use super::schedule::Schedule;
 use super::shares::Shares;
 use super::summary::Summary;
 use super::work::append_all;
@@ -29,6 +29,7 @@ const MOST_UNTRIED: usize = 1 << 16;
 #[derive(Drop)]
 pub struct Pool<C, G> {
     workers: u8,
+    schedule: Schedule,
     cut: C,
     gate: G,
     ghost some: { 1 ≤ workers },
@@ -36,12 +37,25 @@ pub struct Pool<C, G> {
 }
 
 impl<C: Cut + Sync, G: Gate + Sync> Pool<C, G> {
-    /// A pool of 1 to 64 workers. It takes no memory.
+    /// A pool of 1 to 64 workers, who have deques of pieces. It takes no memory.
     pub fn new(workers: u8, cut: C, gate: G) -> Self
         requires some { 1 ≤ workers }
         requires most { workers ≤ MOST_WORKERS }
     {
-        Pool { workers, cut, gate }
+        Pool::with(workers, Schedule::Deques, cut, gate)
+    }
+
+    /// The same with a schedule, by which the pieces come to the workers. It takes no memory.
+    pub fn with(workers: u8, schedule: Schedule, cut: C, gate: G) -> Self
+        requires some { 1 ≤ workers }
+        requires most { workers ≤ MOST_WORKERS }
+    {
+        Pool {
+            workers,
+            schedule,
+            cut,
+            gate,
+        }
     }
 
     /// Whether several workers share a pass over so many places. One worker, or one piece, is shared by none. It takes no memory.
@@ -75,14 +89,17 @@ impl<C: Cut + Sync, G: Gate + Sync> Pool<C, G> {
         if count == 0 {
             return Ok(Vec::new(alloc));
         }
-        let first = first_value(kernel)?;
+        if count > MOST_UNTRIED {
+            first_value(kernel)?;
+        }
         let end = piece_end(&self.cut, 0, count);
         if self.workers == 1 || end == count {
             let last = self.workers - 1;
             return append_all(alloc, kernel, &self.cut, &self.gate, last, end);
         }
         let shares = Shares::new(alloc, &self.cut, count, end, self.workers)?;
-        self.fill_shares(rt, alloc, kernel, &shares, first)
+        let value = first_value(kernel)?;
+        self.fill_shares(rt, alloc, kernel, &shares, value)
     }
 
     /// The summary of the items at all places, in their order, or the least place that has a fault, and
@@ -123,47 +140,38 @@ impl<C: Cut + Sync, G: Gate + Sync> Pool<C, G> {
             return fold_all(kernel, &self.cut, &self.gate, self.workers - 1, end);
         }
         let shares = Shares::new(alloc, &self.cut, count, end, self.workers)?;
-        fold_shares(rt, kernel, &self.gate, &shares, shares.tasks())
+        fold_together(rt, alloc, kernel, &self.gate, &shares, self.schedule)
     }
 
-    /// The value at each place, by several workers. Each has a list of its own, or writes into one
-    /// that is made full of the first value, where that is known.
+    /// The value at each place, by several workers, who write into a list that is made full of one value.
     fn fill_shares<R: Threads + Sync, K: Kernel + Sync>(
         &self,
         rt: &R,
         alloc: Global,
         kernel: &K,
         shares: &Shares,
-        first: Option<K::Out>,
+        value: K::Out,
     ) -> Result<Vec<K::Out>, Stop>
     where
         K::Out: Copy + Send,
         requires places { shares.now.pieces.places ≡ K.place_count kernel.now }
-        requires all { share_start shares.now shares.now.tasks ≡ K.place_count kernel.now }
         ensures values { IfOk result (λ v. AreValues (K.outcome kernel.now) (K.place_count kernel.now) v.items) }
         ensures stop { IfErr result (IsStopOf (K.outcome kernel.now) (K.place_count kernel.now)) }
     {
-        let Some(value) = first else {
-            return collect_shares(rt, alloc, kernel, &self.gate, shares, shares.tasks());
-        };
         let mut values = vec![in alloc; value; kernel.count()]?;
         let room = values.as_mut_slice();
-        write_shares(rt, kernel, &self.gate, shares, shares.tasks(), room)?;
+        fill_values(rt, alloc, kernel, &self.gate, shares, self.schedule, room)?;
         Ok(values)
     }
 }
 
-/// The value at the first place where the room for all is large, so that a kernel that has a fault
-/// there takes none. It is computed again with its piece.
-fn first_value<K: Kernel>(kernel: &K) -> Result<Option<K::Out>, Stop>
+/// The value at the first place. It is computed again with its piece.
+fn first_value<K: Kernel>(kernel: &K) -> Result<K::Out, Stop>
     requires { 0 < K.place_count kernel.now }
     ensures { IfErr result (IsStopOf (K.outcome kernel.now) (K.place_count kernel.now)) }
 {
-    if kernel.count() <= MOST_UNTRIED {
-        return Ok(None);
-    }
     match kernel.at(0) {
-        Ok(value) => Ok(Some(value)),
+        Ok(value) => Ok(value),
         Err(fault) => Err(Stop::Fault { place: 0, fault }),
     }
 }

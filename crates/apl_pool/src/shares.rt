@@ -1,5 +1,5 @@
 //! Who has which pieces.
-ghost use Rattle.std.specs.Prelude.{◌≡◌, ℕ, ◌+◌, ◌-◌, ◌*◌, ◌/◌, ◌<◌, ◌≤◌, IfOk, slice_index};
+ghost use Rattle.std.specs.Prelude.{◌≡◌, ℕ, ◌+◌, ◌-◌, ◌*◌, ◌/◌, ◌<◌, ◌≤◌, IfOk};
 ghost use Rattle.apl_pool.specs.declared.pool.TheConstants.{MOST_WORKERS};
 
 use super::cut::Cut;
@@ -30,8 +30,6 @@ pub(crate) struct Shares {
 }
 
 impl Shares {
-    ghost use Rattle.apl_pool.specs.Shares.{share_start};
-
     /// The shares of `places` places, where the first piece ends at `end`.
     pub(crate) fn new<C: Cut>(
         alloc: Global,
@@ -45,7 +43,7 @@ impl Shares {
         requires most { places ≤ MOST_PLACES }
         requires some_workers { 0 < workers }
         requires most_workers { workers ≤ MOST_WORKERS }
-        ensures { IfOk result (λ shares. (shares.pieces.places ≡ places) × (share_start shares shares.tasks ≡ places)) }
+        ensures { IfOk result (λ shares. shares.pieces.places ≡ places) }
     {
         let pieces = Pieces::new(alloc, cut, places, end)?;
         let tasks = pieces.count().min(workers as usize);
@@ -79,28 +77,9 @@ impl Shares {
         task * self.pieces.count() / self.tasks
     }
 
-    /// Where the share with this number begins, which isn't behind its end.
-    pub(crate) fn start(&self, task: usize) -> usize
-        requires { task < self.now.tasks }
-        ensures start { result ≡ share_start self.now task }
-        ensures order { result ≤ share_start self.now (task + 1) }
-    {
-        self.pieces.start(self.first_piece(task))
-    }
-
-    /// How many places the share with this number has.
-    pub(crate) fn length(&self, task: usize) -> usize
-        requires { task < self.now.tasks }
-        ensures { share_start self.now task + result ≡ share_start self.now (task + 1) }
-    {
-        self.pieces.start(self.first_piece(task + 1)) - self.start(task)
-    }
-
     /// The share with this number.
     pub(crate) fn share(&self, task: usize) -> Share
         requires { task < self.now.tasks }
-        ensures from { slice_index self.now.pieces.starts.items result.from ≡ share_start self.now task }
-        ensures to { slice_index self.now.pieces.starts.items result.to ≡ share_start self.now (task + 1) }
         ensures order { result.from ≤ result.to }
         ensures within { result.to ≤ self.now.pieces.count }
     {

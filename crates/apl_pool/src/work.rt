@@ -6,8 +6,7 @@ ghost use Rattle.apl_pool.specs.Runs.{AppendsValues, AreWritten};
 use super::cut::Cut;
 use super::gate::Gate;
 use super::kernel::{Fault, Kernel, MOST_PLACES, Stop};
-use super::pieces::{Piece, Pieces, piece_end};
-use super::shares::Share;
+use super::pieces::{Piece, piece_end};
 use std::alloc::Global;
 
 /// The stop at a place that has a fault.
@@ -145,11 +144,9 @@ where
     Ok(())
 }
 
-/// Puts the values of a piece into the room for them, by a worker who passes the gate first.
-fn write_piece<K: Kernel, G: Gate>(
+/// Puts the values of a piece into the room for them.
+pub(crate) fn write_piece<K: Kernel>(
     kernel: &K,
-    gate: &G,
-    worker: u8,
     piece: Piece,
     room: &mut [K::Out],
 ) -> Result<(), Stop>
@@ -162,7 +159,6 @@ where
     ensures stop { IfErr result (IsStopFrom (K.outcome kernel.now) piece.from piece.to) }
     ensures len { length room.new ≡ length room.old }
 {
-    gate.pass(worker, piece.number);
     let first = write_runs(kernel, piece.from, piece.to, room);
     write_places(kernel, piece.from, first, piece.to, room)
 }
@@ -218,55 +214,4 @@ pub(crate) fn next_piece<C: Cut>(cut: &C, piece: Piece, count: usize) -> Piece
         from,
         to,
     }
-}
-
-/// The values of a worker's share, in a list that has room for `room` of them.
-pub(crate) fn append_share<K: Kernel, G: Gate>(
-    alloc: Global,
-    kernel: &K,
-    gate: &G,
-    pieces: &Pieces,
-    share: Share,
-    room: usize,
-) -> Result<Vec<K::Out>, Stop>
-where
-    K::Out: Drop,
-    requires order { share.from ≤ share.to }
-    requires within { share.to ≤ pieces.now.count }
-    requires places { pieces.now.places ≡ K.place_count kernel.now }
-    requires room { slice_index pieces.now.starts.items share.to ≤ room + slice_index pieces.now.starts.items share.from }
-    ensures { IsPart (K.outcome kernel.now) (slice_index pieces.now.starts.items share.from) (slice_index pieces.now.starts.items share.to) result }
-{
-    let mut values = Vec::with_capacity(alloc, room)?;
-    for number in share.from..share.to {
-        values = append_piece(kernel, gate, share.worker, pieces.piece(number), values)?;
-    }
-    Ok(values)
-}
-
-/// Puts the values of a worker's share into the room for them.
-pub(crate) fn write_share<K: Kernel, G: Gate>(
-    kernel: &K,
-    gate: &G,
-    pieces: &Pieces,
-    share: Share,
-    values: &mut [K::Out],
-) -> Result<(), Stop>
-where
-    K::Out: Copy,
-    requires order { share.from ≤ share.to }
-    requires within { share.to ≤ pieces.now.count }
-    requires places { pieces.now.places ≡ K.place_count kernel.now }
-    requires room { slice_index pieces.now.starts.items share.from + length values.old ≡ slice_index pieces.now.starts.items share.to }
-    ensures ok { OnOk result (AreValuesFrom (K.outcome kernel.now) (slice_index pieces.now.starts.items share.from) (slice_index pieces.now.starts.items share.to) values.new) }
-    ensures stop { IfErr result (IsStopFrom (K.outcome kernel.now) (slice_index pieces.now.starts.items share.from) (slice_index pieces.now.starts.items share.to)) }
-    ensures len { length values.new ≡ length values.old }
-{
-    let first = pieces.start(share.from);
-    for number in share.from..share.to {
-        let piece = pieces.piece(number);
-        let room = &mut values[piece.from - first..piece.to - first];
-        write_piece(kernel, gate, share.worker, piece, room)?;
-    }
-    Ok(())
 }

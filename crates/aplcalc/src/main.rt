@@ -15,7 +15,8 @@ use std::{env, io};
 fn main(rt: HostRuntime) -> ExitCode {
     let status = match given_settings(&rt) {
         Ok(settings) => {
-            let pool = Pool::new(settings.workers, Every(settings.piece as usize), Open);
+            let cut = Every(settings.piece as usize);
+            let pool = Pool::with(settings.workers, settings.schedule, cut, Open);
             let mut source = In::new(rt.stdin());
             let mut sink = Out::new(rt.stdout());
             end(&rt, &run(&rt, rt.alloc(), &pool, &mut source, &mut sink))

@@ -4,7 +4,7 @@ ghost use Rattle.apl_pool.specs.declared.kernel.TheConstants.{MOST_PLACES};
 ghost use Rattle.tests_sessions.specs.declared.gates.TheConstants.{HALF};
 
 use super::pools::Numbers;
-use apl_pool::{Every, Fault, Gate, Kernel, MOST_PLACES, Pool, Summary};
+use apl_pool::{Every, Fault, Gate, Kernel, MOST_PLACES, Pool, Schedule, Summary};
 use apl_print::MemorySink;
 use apl_session::{BLOCK, MemorySource, run};
 use apl_summary::SignedSum;
@@ -80,39 +80,137 @@ impl Kernel for AllOnes {
 /// Half as many places as the largest arrays here have.
 const HALF: usize = 1 << 19;
 
-/// Fills twice so many places by two workers. Says whether each place has its value, and both pieces met.
-fn halves_meet<R: Threads + Sync>(rt: &R, alloc: Global, half: usize) -> Result<bool, Fail>
-    requires { half ≤ HALF }
+/// The pieces 0 and 1 are each held at the gate until another piece has come there.
+#[derive(Drop)]
+struct Holding {
+    awaited: [usize; 2],
+    come: [AtomicU64; 4],
+    met: AtomicU64,
+}
+
+impl Holding {
+    fn new(awaited: [usize; 2]) -> Holding {
+        Holding {
+            awaited,
+            come: [
+                AtomicU64::new(0),
+                AtomicU64::new(0),
+                AtomicU64::new(0),
+                AtomicU64::new(0),
+            ],
+            met: AtomicU64::new(0),
+        }
+    }
+
+    /// How many pieces were held until the other one had come.
+    fn met(&self) -> u64 {
+        self.met.load(Ordering::SeqCst)
+    }
+}
+
+impl Gate for Holding {
+    fn pass(&self, _worker: u8, piece: u32) {
+        if let Some(here) = self.come.get(piece as usize) {
+            here.fetch_add(1, Ordering::SeqCst);
+        }
+        let Some(awaited) = self.awaited.get(piece as usize) else {
+            return;
+        };
+        let Some(other) = self.come.get(*awaited) else {
+            return;
+        };
+        for _ in 0..2_000_000_000u64 {
+            if other.load(Ordering::SeqCst) > 0 {
+                self.met.fetch_add(1, Ordering::SeqCst);
+                return;
+            }
+        }
+    }
+}
+
+/// Fills the places of so many pieces by two workers, and says whether each place has its value, and both held pieces went on.
+fn holds_while_filling<R: Threads + Sync>(
+    rt: &R,
+    alloc: Global,
+    schedule: Schedule,
+    awaited: [usize; 2],
+    pieces: usize,
+    length: usize,
+) -> Result<bool, Fail>
+    requires { (pieces ≤ 4) × (length ≤ HALF) }
 {
-    let meeting = Meeting::new();
+    let holding = Holding::new(awaited);
+    let count = pieces * length;
     let kernel = Numbers {
-        count: 2 * half,
-        limit: 2 * half,
+        count,
+        limit: count,
     };
-    let values = Pool::new(2, Every(half), &meeting).fill(rt, alloc, &kernel)?;
+    let values = Pool::with(2, schedule, Every(length), &holding).fill(rt, alloc, &kernel)?;
     let has_values = values
         .iter()
         .enumerate()
         .all(|(place, value)| place == *value);
-    Ok(has_values && values.len() == 2 * half && meeting.met() == 2)
+    Ok(has_values && values.len() == count && holding.met() == 2)
 }
 
-/// Sums twice so many places by two workers. Says whether each place was summed, and both pieces met.
-fn halves_of_a_sum_meet<R: Threads + Sync>(rt: &R, alloc: Global, half: usize) -> Result<bool, Fail>
-    requires some { 0 < half }
-    requires few { half ≤ HALF }
+/// Sums the places of so many pieces by two workers, and says whether each place was summed, and both held pieces went on.
+fn holds_while_folding<R: Threads + Sync>(
+    rt: &R,
+    alloc: Global,
+    schedule: Schedule,
+    awaited: [usize; 2],
+    pieces: usize,
+    length: usize,
+) -> Result<bool, Fail>
+    requires { (0 < pieces) × (pieces ≤ 4) × (0 < length) × (length ≤ HALF) }
 {
-    let meeting = Meeting::new();
-    let ones = AllOnes { count: 2 * half };
-    let sum: SignedSum<0> = Pool::new(2, Every(half), &meeting).fold(rt, alloc, &ones)?;
-    Ok(sum.apply(0) == Ok(2 * half as i64) && meeting.met() == 2)
+    let holding = Holding::new(awaited);
+    let ones = AllOnes {
+        count: pieces * length,
+    };
+    let sum: SignedSum<0> = Pool::with(2, schedule, Every(length), &holding).fold(
+        rt, alloc, &ones,
+    )?;
+    Ok(sum.apply(0) == Ok((pieces * length) as i64) && holding.met() == 2)
 }
 
+/// Each of two pieces waits for the other one.
 #[test]
 fn gate_two(rt: HostRuntime) -> Result<(), Fail> {
     let alloc = rt.alloc();
-    assert!(rt; halves_meet(&rt, alloc, 1)? && halves_meet(&rt, alloc, HALF)?);
-    assert!(rt; halves_of_a_sum_meet(&rt, alloc, 1)? && halves_of_a_sum_meet(&rt, alloc, HALF)?);
+    for schedule in [Schedule::Claims, Schedule::Deques] {
+        for length in [1, HALF] {
+            let filled = holds_while_filling(&rt, alloc, schedule, [1, 0], 2, length)?;
+            let folded = holds_while_folding(&rt, alloc, schedule, [1, 0], 2, length)?;
+            assert!(rt; filled && folded);
+        }
+    }
+    Ok(())
+}
+
+/// Of four pieces the first two wait for each other, so they come to two workers.
+#[test]
+fn gate_four(rt: HostRuntime) -> Result<(), Fail> {
+    let alloc = rt.alloc();
+    for schedule in [Schedule::Claims, Schedule::Deques] {
+        for length in [1, 1000] {
+            let filled = holds_while_filling(&rt, alloc, schedule, [1, 0], 4, length)?;
+            let folded = holds_while_folding(&rt, alloc, schedule, [1, 0], 4, length)?;
+            assert!(rt; filled && folded);
+        }
+    }
+    Ok(())
+}
+
+/// Of four pieces in two deques the first two wait for the last one, which is the second worker's from the start.
+#[test]
+fn gate_deal(rt: HostRuntime) -> Result<(), Fail> {
+    let alloc = rt.alloc();
+    for length in [1, 1000] {
+        let filled = holds_while_filling(&rt, alloc, Schedule::Deques, [3, 3], 4, length)?;
+        let folded = holds_while_folding(&rt, alloc, Schedule::Deques, [3, 3], 4, length)?;
+        assert!(rt; filled && folded);
+    }
     Ok(())
 }
 
@@ -337,13 +435,14 @@ const REDUCTIONS: [(&str, &str); 116] = [
 fn meets<R: Threads + Sync>(
     rt: &R,
     alloc: Global,
+    schedule: Schedule,
     piece: usize,
     session: &str,
     functions: u32,
     text: &str,
 ) -> bool {
     let meeting = Meeting::new();
-    let pool = Pool::new(2, Every(piece), &meeting);
+    let pool = Pool::with(2, schedule, Every(piece), &meeting);
     let mut source = MemorySource::new(session.as_bytes(), BLOCK, None);
     let mut sink = MemorySink::new(alloc, BLOCK, None);
     let outcome = run(rt, alloc, &pool, &mut source, &mut sink);
@@ -352,7 +451,9 @@ fn meets<R: Threads + Sync>(
 
 #[test]
 fn gate_run(rt: HostRuntime) {
-    assert!(rt; meets(&rt, rt.alloc(), 1, "1 2+3 4\n", 1, "4 6\n"));
+    for schedule in [Schedule::Claims, Schedule::Deques] {
+        assert!(rt; meets(&rt, rt.alloc(), schedule, 1, "1 2+3 4\n", 1, "4 6\n"));
+    }
 }
 
 /// The line that makes `A` so many numbers 1.
@@ -378,9 +479,11 @@ fn each_scalar_function_uses_the_pool(rt: HostRuntime) -> Result<(), Fail> {
     }
     let mut many = ones(alloc, 2 * HALF)?;
     many.push_str("B←~A\nB←A+A\n")?;
-    assert!(rt; meets(&rt, alloc, 1, two.as_str(), 28, texts.as_str()));
-    assert!(rt; meets(&rt, alloc, 1024, some.as_str(), 29, ""));
-    assert!(rt; meets(&rt, alloc, HALF, many.as_str(), 3, ""));
+    for schedule in [Schedule::Claims, Schedule::Deques] {
+        assert!(rt; meets(&rt, alloc, schedule, 1, two.as_str(), 28, texts.as_str()));
+        assert!(rt; meets(&rt, alloc, schedule, 1024, some.as_str(), 29, ""));
+        assert!(rt; meets(&rt, alloc, schedule, HALF, many.as_str(), 3, ""));
+    }
     Ok(())
 }
 
@@ -402,9 +505,11 @@ fn each_structural_function_uses_the_pool(rt: HostRuntime) -> Result<(), Fail> {
     texts.push_str("1 2\n")?;
     let mut many = ones(alloc, 2 * HALF)?;
     many.push_str("B←⌽A\nB←A,''\nB←A[A]\nA[1]←2\n")?;
-    assert!(rt; meets(&rt, alloc, 1, two.as_str(), 54, texts.as_str()));
-    assert!(rt; meets(&rt, alloc, 1024, some.as_str(), 54, ""));
-    assert!(rt; meets(&rt, alloc, HALF, many.as_str(), 5, ""));
+    for schedule in [Schedule::Claims, Schedule::Deques] {
+        assert!(rt; meets(&rt, alloc, schedule, 1, two.as_str(), 54, texts.as_str()));
+        assert!(rt; meets(&rt, alloc, schedule, 1024, some.as_str(), 54, ""));
+        assert!(rt; meets(&rt, alloc, schedule, HALF, many.as_str(), 5, ""));
+    }
     Ok(())
 }
 
@@ -425,8 +530,10 @@ fn each_reduction_uses_the_pool(rt: HostRuntime) -> Result<(), Fail> {
     let mut many = ones(alloc, 2 * HALF)?;
     many.push_str("V←2 1048576\nB←+⌿V⍴A\nB←A∘.×1\nB←+/A\nB←A+.×A\n")?;
     // Both workers meet three times where they reshape, and once at each place of a fold whose items they share.
-    assert!(rt; meets(&rt, alloc, 1, two.as_str(), 198, texts.as_str()));
-    assert!(rt; meets(&rt, alloc, 1024, some.as_str(), 121, ""));
-    assert!(rt; meets(&rt, alloc, HALF, many.as_str(), 7, ""));
+    for schedule in [Schedule::Claims, Schedule::Deques] {
+        assert!(rt; meets(&rt, alloc, schedule, 1, two.as_str(), 198, texts.as_str()));
+        assert!(rt; meets(&rt, alloc, schedule, 1024, some.as_str(), 121, ""));
+        assert!(rt; meets(&rt, alloc, schedule, HALF, many.as_str(), 7, ""));
+    }
     Ok(())
 }

@@ -2,7 +2,7 @@
 ghost use Rattle.std.specs.Prelude.{◌≤◌};
 ghost use Rattle.apl_pool.specs.declared.kernel.TheConstants.{MOST_PLACES};
 
-use apl_pool::{Cut, Every, Fault, Gate, Kernel, MOST_PLACES, Open, Pool, Stop};
+use apl_pool::{Cut, Every, Fault, Gate, Kernel, MOST_PLACES, Open, Pool, Schedule, Stop};
 use std::sync::atomic::{AtomicU64, Ordering};
 use std::test::Fail;
 
@@ -137,7 +137,7 @@ impl Cut for Uneven {
     }
 }
 
-/// For each of four pieces 1000 for each time that it passed, and the numbers of the workers.
+/// How often each of four pieces passed.
 #[derive(Drop)]
 struct Noting {
     passed: [AtomicU64; 4],
@@ -155,7 +155,8 @@ impl Noting {
         }
     }
 
-    fn noted(&self) -> [u64; 4] {
+    /// How often each piece passed.
+    fn times(&self) -> [u64; 4] {
         [
             self.passed[0].load(Ordering::SeqCst),
             self.passed[1].load(Ordering::SeqCst),
@@ -166,29 +167,34 @@ impl Noting {
 }
 
 impl Gate for Noting {
-    fn pass(&self, worker: u8, piece: u32) {
+    fn pass(&self, _worker: u8, piece: u32) {
         if let Some(note) = self.passed.get(piece as usize) {
-            note.fetch_add(1000 + worker as u64, Ordering::SeqCst);
+            note.fetch_add(1, Ordering::SeqCst);
         }
     }
 }
 
-/// Of 3 pieces: one worker has all, of two the second has the last two, of five the second, the
-/// fourth and the fifth have one each. One piece is the last worker's, by the caller's own thread.
+/// Each of 3 pieces passes once, whoever takes it. One piece is the last worker's, by the caller's own thread, and so is each of
+/// one worker.
 #[test]
 fn each_piece_passes_once(rt: HostRuntime) -> Result<(), Fail> {
-    for (workers, piece, wanted) in [
-        (1u8, 2, [1000, 1000, 1000, 0]),
-        (2, 2, [1000, 1001, 1001, 0]),
-        (3, 2, [1000, 1001, 1002, 0]),
-        (5, 2, [1001, 1003, 1004, 0]),
-        (64, 2, [1021, 1042, 1063, 0]),
-        (4, usize::MAX, [1003, 0, 0, 0]),
-    ] {
-        let noting = Noting::new();
-        let kernel = Numbers { count: 5, limit: 5 };
-        let values = Pool::new(workers, Every(piece), &noting).fill(&rt, rt.alloc(), &kernel)?;
-        assert!(rt; values.as_slice() == [0, 1, 2, 3, 4].as_slice() && noting.noted() == wanted);
+    for schedule in [Schedule::Claims, Schedule::Deques] {
+        for (workers, piece, wanted) in [
+            (1u8, 2, [1, 1, 1, 0]),
+            (2, 2, [1, 1, 1, 0]),
+            (3, 2, [1, 1, 1, 0]),
+            (5, 2, [1, 1, 1, 0]),
+            (64, 2, [1, 1, 1, 0]),
+            (4, usize::MAX, [1, 0, 0, 0]),
+        ] {
+            let noting = Noting::new();
+            let kernel = Numbers { count: 5, limit: 5 };
+            let pool = Pool::with(workers, schedule, Every(piece), &noting);
+            let values = pool.fill(&rt, rt.alloc(), &kernel)?;
+            assert!(rt;
+                values.as_slice() == [0, 1, 2, 3, 4].as_slice() && noting.times() == wanted
+            );
+        }
     }
     Ok(())
 }
@@ -200,7 +206,7 @@ fn pieces_may_be_uneven(rt: HostRuntime) -> Result<(), Fail> {
     let values = Pool::new(3, Uneven, &noting).fill(&rt, rt.alloc(), &kernel)?;
     assert!(rt;
         values.as_slice() == [0, 1, 2, 3, 4, 5, 6, 7, 8].as_slice()
-            && noting.noted() == [1000, 1001, 1002, 1002]
+            && noting.times() == [1, 1, 1, 1]
     );
     Ok(())
 }

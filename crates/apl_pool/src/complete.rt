@@ -1,0 +1,91 @@
+//! What the first worker does after the others: the pieces that nobody brought.
+ghost use Rattle.std.specs.Prelude.{◌≡◌, ℕ, ◌+◌, ◌-◌, ◌<◌, ◌≤◌, ◌⊎◌, true, OnOk, IfErr, length, slice_index, slice_index_or};
+ghost use Rattle.apl_pool.specs.declared.kernel.TheConstants.{MOST_PLACES};
+ghost use Rattle.apl_pool.specs.Parts.{AreValuesFrom, AreValuesAt, IsStopFrom};
+ghost use Rattle.apl_pool.specs.Crew.{AreMarks};
+
+use super::gate::Gate;
+use super::kernel::{Kernel, Stop};
+use super::pass::fill_rooms;
+use super::pieces::{Piece, Pieces};
+use super::schedule::Schedule;
+use super::shares::Shares;
+use super::tasks::Values;
+use super::work::write_piece;
+use std::alloc::Global;
+use std::thread::Threads;
+
+/// The values of one piece at its places in the list. Where they don't stand there already the first worker writes them, who passes
+/// the gate before.
+fn complete_piece<K: Kernel, G: Gate>(
+    kernel: &K,
+    gate: &G,
+    piece: Piece,
+    is_right: bool,
+    values: &mut [K::Out],
+) -> Result<(), Stop>
+where
+    K::Out: Copy,
+    requires order { piece.from ≤ piece.to }
+    requires places { piece.to ≤ K.place_count kernel.now }
+    requires most { piece.to ≤ MOST_PLACES }
+    requires room { piece.to ≤ length values.old }
+    requires right { is_right ≡ true → AreValuesAt (K.outcome kernel.now) piece.from piece.to values.old }
+    ensures ok { OnOk result (AreValuesAt (K.outcome kernel.now) piece.from piece.to values.new) }
+    ensures kept { (k : ℕ) (d : K.Out) → (k < piece.from) ⊎ (piece.to ≤ k) → slice_index_or values.new k d ≡ slice_index_or values.old k d }
+    ensures len { length values.new ≡ length values.old }
+    ensures stop { IfErr result (IsStopFrom (K.outcome kernel.now) piece.from piece.to) }
+{
+    if is_right {
+        return Ok(());
+    }
+    gate.pass(0, piece.number);
+    write_piece(kernel, piece, &mut values[piece.from..piece.to])
+}
+
+/// The values of all pieces: those that are marked stand already, and the first worker writes each other one, from place 0 upwards.
+fn complete<K: Kernel, G: Gate>(
+    kernel: &K,
+    gate: &G,
+    pieces: &Pieces,
+    marks: &[bool],
+    values: &mut [K::Out],
+) -> Result<(), Stop>
+where
+    K::Out: Copy,
+    requires places { pieces.now.places ≡ K.place_count kernel.now }
+    requires room { length values.old ≡ pieces.now.places }
+    requires marks { AreMarks (λ n. AreValuesFrom (K.outcome kernel.now) (slice_index pieces.now.starts.items n) (slice_index pieces.now.starts.items (n + 1))) (slice_index pieces.now.starts.items) pieces.now.count values.old marks.now }
+    ensures ok { OnOk result (AreValuesFrom (K.outcome kernel.now) 0 (K.place_count kernel.now) values.new) }
+    ensures stop { IfErr result (IsStopFrom (K.outcome kernel.now) 0 (K.place_count kernel.now)) }
+    ensures len { length values.new ≡ length values.old }
+{
+    for number in 0..pieces.count() {
+        complete_piece(kernel, gate, pieces.piece(number), marks[number], values)?;
+    }
+    Ok(())
+}
+
+/// The values at all places, written into the room for them by several workers.
+pub(crate) fn fill_values<R: Threads + Sync, K: Kernel + Sync, G: Gate + Sync>(
+    rt: &R,
+    alloc: Global,
+    kernel: &K,
+    gate: &G,
+    shares: &Shares,
+    schedule: Schedule,
+    values: &mut [K::Out],
+) -> Result<(), Stop>
+where
+    K::Out: Copy + Send,
+    requires places { shares.now.pieces.places ≡ K.place_count kernel.now }
+    requires room { length values.old ≡ shares.now.pieces.places }
+    ensures ok { OnOk result (AreValuesFrom (K.outcome kernel.now) 0 (K.place_count kernel.now) values.new) }
+    ensures stop { IfErr result (IsStopFrom (K.outcome kernel.now) 0 (K.place_count kernel.now)) }
+    ensures len { length values.new ≡ length values.old }
+{
+    let pieces = shares.pieces();
+    let task = Values { kernel, pieces };
+    let marks = fill_rooms(rt, alloc, &task, gate, shares, schedule, values)?;
+    complete(kernel, gate, pieces, marks.as_slice(), values)
+}

@@ -1,0 +1,91 @@
+//! One pass of several workers over the rooms of all pieces.
+ghost use Rattle.std.specs.Thread.{IsSync};
+ghost use Rattle.std.specs.Prelude.{◌≡◌, ◌<◌, ◌≤◌, IfOk, IfSome, length};
+ghost use Rattle.core.specs.Mem.Slots.{slots_items, slots_len, IsFull, Refills};
+ghost use Rattle.apl_board.specs.Seats.{view, IsSeatOf};
+ghost use Rattle.apl_pool.specs.Crew.{AreMarks};
+
+use super::crew::{Seats, work_together};
+use super::ends::{Ends, deal};
+use super::gate::Gate;
+use super::schedule::Schedule;
+use super::shares::Shares;
+use apl_board::{Board, BoardSeat};
+use apl_rooms::{Rooms, Task};
+use core::slots::{Slots, with_slots};
+use std::alloc::{AllocError, Global};
+use std::thread::Threads;
+
+/// All workers fill the rooms of a row, which comes back with a mark for each piece whose values are right. There are no marks for want
+/// of memory.
+fn fill_row<T: Send, R: Threads + Sync, F: Task<T> + Sync, G: Gate + Sync>(
+    rt: &R,
+    alloc: Global,
+    task: &F,
+    gate: &G,
+    shares: &Shares,
+    board: &Board,
+    seat: BoardSeat,
+    ends: Vec<Ends>,
+    row: Slots<T>,
+) -> (Slots<T>, Option<Vec<bool>>)
+    requires full { IsFull row }
+    requires all { F.start_of task.now (F.piece_count task.now) ≡ slots_len row }
+    requires pieces { F.piece_count task.now ≡ shares.now.pieces.count }
+    requires seat { IsSeatOf board.now seat × ((view seat).share ≡ shares.now.tasks) }
+    ensures row { Refills row result.0 }
+    ensures marks { IfSome result.1 (λ marks. AreMarks (F.is_right task.now) (F.start_of task.now) (F.piece_count task.now) (slots_items result.0) marks.items) }
+{
+    let workers = shares.tasks() as u8;
+    match Rooms::new(alloc, row, task, workers) {
+        Ok((rooms, places)) => {
+            let seats = Seats {
+                rooms: places,
+                board: seat,
+            };
+            let seats = work_together(rt, &rooms, board, task, gate, shares, workers, ends, seats);
+            let (row, marks) = rooms.close(seats.rooms);
+            (row, Some(marks))
+        }
+        Err(row) => (row, None),
+    }
+}
+
+/// All workers fill the room of each piece where it lies in the list. Of a piece that is marked the values are right; of another one
+/// nothing is known.
+pub(crate) fn fill_rooms<T: Send, R: Threads + Sync, F: Task<T> + Sync, G: Gate + Sync>(
+    rt: &R,
+    alloc: Global,
+    task: &F,
+    gate: &G,
+    shares: &Shares,
+    schedule: Schedule,
+    values: &mut [T],
+) -> Result<Vec<bool>, AllocError>
+    requires all { F.start_of task.now (F.piece_count task.now) ≡ length values.old }
+    requires pieces { F.piece_count task.now ≡ shares.now.pieces.count }
+    ensures len { length values.new ≡ length values.old }
+    ensures marks { IfOk result (λ marks. AreMarks (F.is_right task.now) (F.start_of task.now) (F.piece_count task.now) values.new marks.items) }
+{
+    let (board, seat) = Board::new(alloc, shares.pieces().count() as u32, shares.tasks() as u8)?;
+    let ends = match schedule {
+        Schedule::Claims => Vec::new(alloc),
+        Schedule::Deques => deal(alloc, shares)?,
+    };
+    let marks = unsafe {
+        with_slots(
+            values,
+            &mut (),
+            rt,
+            |row: Slots<T>, _: (), rt: &R| -> (Slots<T>, (), Option<Vec<bool>>)
+                requires { IsSync F.row × IsSync G.row × IsFull row × (F.start_of task.now (F.piece_count task.now) ≡ slots_len row) × (F.piece_count task.now ≡ shares.now.pieces.count)
+                    × IsSeatOf board seat × ((view seat).share ≡ shares.now.tasks) }
+                ensures { Refills row result.0 × IfSome result.2 (λ marks. AreMarks (F.is_right task.entry.now) (F.start_of task.entry.now) (F.piece_count task.entry.now) (slots_items result.0) marks.items) }
+            {
+                let (row, marks) = fill_row(rt, alloc, task, gate, shares, &board, seat, ends, row);
+                (row, (), marks)
+            },
+        )
+    };
+    marks.ok_or(AllocError)
+}

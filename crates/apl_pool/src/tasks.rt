@@ -1,0 +1,80 @@
+//! What the workers of a pass write into the room of each piece: the values at its places, or a summary of them.
+ghost use Rattle.std.specs.Prelude.{◌≡◌, ◌+◌, slice_index};
+ghost use Rattle.apl_pool.specs.Parts.{AreValuesFrom};
+ghost use Rattle.apl_pool.specs.Folds.{IsFoldedFirst};
+
+use super::folds::fold_places;
+use super::kernel::{Kernel, Stop};
+use super::pieces::Pieces;
+use super::summary::Summary;
+use super::work::write_piece;
+use apl_rooms::Task;
+
+/// The values of a kernel in pieces.
+#[derive(Drop)]
+pub(crate) struct Values<'a, K: Kernel> {
+    pub kernel: &'a K,
+    pub pieces: &'a Pieces,
+    ghost all: { pieces.now.places ≡ K.place_count kernel.now },
+}
+
+impl<'a, T: Copy, K: Kernel<Out = T>> Task<T> for Values<'a, K> {
+    ghost piece_count = { λ t. t.pieces.now.count };
+
+    ghost start_of = { λ t n. slice_index t.pieces.now.starts.items n };
+
+    ghost is_right = { λ t n values. AreValuesFrom (K.outcome t.kernel.now) (slice_index t.pieces.now.starts.items n) (slice_index t.pieces.now.starts.items (n + 1)) values };
+
+    fn count(&self) -> usize {
+        self.pieces.count()
+    }
+
+    fn start(&self, number: usize) -> usize {
+        self.pieces.start(number)
+    }
+
+    fn write(&self, number: usize, values: &mut [T]) -> Result<(), u32> {
+        let piece = self.pieces.piece(number);
+        match write_piece(self.kernel, piece, values) {
+            Ok(()) => Ok(()),
+            Err(Stop::Fault { place, .. }) => Err(place),
+            Err(Stop::Memory) => Err(0),
+        }
+    }
+}
+
+/// A summary of the items of each piece, where there are some.
+#[derive(Drop)]
+pub(crate) struct Summaries<'a, K: Kernel> {
+    pub kernel: &'a K,
+    pub pieces: &'a Pieces,
+    ghost all: { pieces.now.places ≡ K.place_count kernel.now },
+}
+
+impl<'a, S: Summary + Drop, K: Kernel<Out = S::Item>> Task<Option<S>> for Summaries<'a, K> {
+    ghost piece_count = { λ t. t.pieces.now.count };
+
+    ghost start_of = { λ t n. n };
+
+    ghost is_right = { λ t n values. IsFoldedFirst S.step S.item_count S.outcome (K.outcome t.kernel.now) (slice_index t.pieces.now.starts.items n) (slice_index t.pieces.now.starts.items (n + 1)) values };
+
+    fn count(&self) -> usize {
+        self.pieces.count()
+    }
+
+    fn start(&self, number: usize) -> usize {
+        number
+    }
+
+    fn write(&self, number: usize, values: &mut [Option<S>]) -> Result<(), u32> {
+        let piece = self.pieces.piece(number);
+        match fold_places(self.kernel, piece.from, piece.to) {
+            Ok(folded) => {
+                values[0] = folded;
+                Ok(())
+            }
+            Err(Stop::Fault { place, .. }) => Err(place),
+            Err(Stop::Memory) => Err(0),
+        }
+    }
+}
