@@ -1,5 +1,5 @@
 -- Values that stand at their places in a list of all.
-use Rattle.std.proofs.Common.{◌≡◌, ℕ, ◌+◌, ◌-◌, ◌<◌, ◌≤◌, ◌⊎◌, inl, inr, List, length, get_or, take, drop, Result, Ok, sym, ap, ◌∙◌, subst, ⊎_elim, arith, length-drop, slice_range}
+use Rattle.std.proofs.Common.{◌≡◌, ℕ, ◌+◌, ◌-◌, ◌<◌, ◌≤◌, ◌⊎◌, inl, inr, List, length, get_or, drop, Result, Ok, sym, ap, ◌∙◌, ⊎_elim, arith, slice_range}
 use Rattle.std.proofs.lemmas.List.{get_or-take, get_or-drop}
 use Rattle.std.proofs.lemmas.Bool.{cases_lt}
 use Rattle.apl_pool.specs.declared.kernel.Fault.{Fault}

@@ -3,3 +3,4 @@ pub mod Bounds
 pub mod Summaries
 pub mod FoldedParts
 pub mod Completes
+pub mod RowParts

@@ -1,5 +1,5 @@
 -- What a worker answers for the items at a stretch of places. No contract of a public function cites this file.
-use Rattle.std.specs.Prelude.{◌≡◌, ℕ, ℤ, List, Option, Some, None, Result, Ok, Err, slice_index_or}
+use Rattle.std.specs.Prelude.{◌≡◌, ℕ, ◌+◌, ◌*◌, ◌<◌, ℤ, List, Bool, true, false, Option, Some, None, Result, Ok, Err, slice_index_or}
 use Rattle.apl_pool.specs.declared.kernel.Fault.{Fault}
 use Rattle.apl_pool.specs.declared.kernel.Stop.{Stop}
 use Rattle.apl_pool.specs.Parts.{AreValuesFrom, IsStopFrom}
@@ -31,3 +31,9 @@ module _ {S X : Type 0} (step : X → ℤ → Result ℤ Fault) (item_count : S 
   -- the first of a list is the summary of these places
   abbrev pub IsFoldedFirst : ℕ → ℕ → List (Option S) → Type 0
   IsFoldedFirst from to values = IsFolded from to (slice_index_or values 0 None)
+
+-- where a part is marked it is the summary of its piece: each row has `count` pieces, which begin and end at `start`, and the rows' first
+-- pieces come first
+abbrev pub ArePartsOf : {S X : Type 0} → (X → ℤ → Result ℤ Fault) → (S → ℕ) → (S → ℤ → Result ℤ Fault) → (ℕ → ℕ → Result X Fault) → (rows count : ℕ) → (ℕ → ℕ) → List Bool → List (Option S) → Type 0
+ArePartsOf step item_count does outcome rows count start marks parts = (row n : ℕ) → row < rows → n < count → slice_index_or marks (n * rows + row) false ≡ true
+    → IsFolded step item_count does (outcome row) (start n) (start (n + 1)) (slice_index_or parts (n * rows + row) None)

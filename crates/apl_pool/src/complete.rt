@@ -78,6 +78,7 @@ pub(crate) fn fill_values<R: Threads + Sync, K: Kernel + Sync, G: Gate + Sync>(
 ) -> Result<(), Stop>
 where
     K::Out: Copy + Send,
+    requires rows { shares.now.rows ≡ 1 }
     requires places { shares.now.pieces.places ≡ K.place_count kernel.now }
     requires room { length values.old ≡ shares.now.pieces.places }
     ensures ok { OnOk result (AreValuesFrom (K.outcome kernel.now) 0 (K.place_count kernel.now) values.new) }

@@ -1,7 +1,7 @@
 //! What several workers do at once: the first in this thread, and each other one in a thread of its own. This thread starts them
 //! all: a thread that has only just begun tends to share its processor with what it starts.
 ghost use Rattle.std.specs.Thread.{IsSync};
-ghost use Rattle.std.specs.Prelude.{◌≡◌, ℕ, ◌+◌, ◌-◌, ◌<◌, ◌≤◌};
+ghost use Rattle.std.specs.Prelude.{◌≡◌, ℕ, ◌+◌, ◌-◌, ◌<◌, ◌≤◌, ◌*◌};
 ghost use Rattle.apl_board.specs.Seats.{view, IsSeatOf};
 ghost use Rattle.apl_pool.specs.Crew.{AreSeatsOf, AreRoomsFor};
 
@@ -56,7 +56,7 @@ fn work<T, F: Task<T>, G: Gate>(
     seats: Seats<T>,
 ) -> Seats<T>
     requires rooms { AreRoomsFor T.row F.start_of F.piece_count rooms.now task.now }
-    requires pieces { F.piece_count task.now ≡ shares.now.pieces.count }
+    requires pieces { F.piece_count task.now ≡ shares.now.rows * shares.now.pieces.count }
     requires seats { AreSeatsOf rooms.now board.now seats 1 }
     ensures { AreSeatsOf rooms.now board.now result 1 }
 {
@@ -67,9 +67,7 @@ fn work<T, F: Task<T>, G: Gate>(
             break;
         };
         let number = number as usize;
-        if number >= task.count()
-            || is_behind(board, &mut seats.board, shares.pieces().start(number))
-        {
+        if number >= task.count() || is_behind(board, &mut seats.board, shares.start(number)) {
             continue;
         }
         gate.pass(worker, number as u32);
@@ -143,7 +141,7 @@ pub(crate) fn work_together<T: Send, R: Threads + Sync, F: Task<T> + Sync, G: Ga
     requires some { 0 < workers }
     requires within { workers ≤ shares.now.tasks }
     requires rooms { AreRoomsFor T.row F.start_of F.piece_count rooms.now task.now }
-    requires pieces { F.piece_count task.now ≡ shares.now.pieces.count }
+    requires pieces { F.piece_count task.now ≡ shares.now.rows * shares.now.pieces.count }
     requires seats { AreSeatsOf rooms.now board.now seats workers }
     ensures { AreSeatsOf rooms.now board.now result workers }
 {
@@ -156,12 +154,12 @@ pub(crate) fn work_together<T: Send, R: Threads + Sync, F: Task<T> + Sync, G: Ga
     }
     let (rest, one) = split_one(rooms, board, seats, workers);
     let last = move || -> Seats<T>
-        requires { IsSync F.row × IsSync G.row × AreRoomsFor T.row F.start_of F.piece_count rooms.now task.now × (F.piece_count task.now ≡ shares.now.pieces.count) × AreSeatsOf rooms.now board.now one 1 }
+        requires { IsSync F.row × IsSync G.row × AreRoomsFor T.row F.start_of F.piece_count rooms.now task.now × (F.piece_count task.now ≡ shares.now.rows * shares.now.pieces.count) × AreSeatsOf rooms.now board.now one 1 }
         ensures { AreSeatsOf rooms.entry.now board.entry.now result 1 }
     { work(rooms, board, task, gate, shares, worker, own, one) };
     let before = move || -> Seats<T>
         requires { IsSync R.row × IsSync F.row × IsSync G.row × (0 < others) × (others ≤ shares.now.tasks) × AreRoomsFor T.row F.start_of F.piece_count rooms.now task.now
-            × (F.piece_count task.now ≡ shares.now.pieces.count) × AreSeatsOf rooms.now board.now rest others }
+            × (F.piece_count task.now ≡ shares.now.rows * shares.now.pieces.count) × AreSeatsOf rooms.now board.now rest others }
         ensures { AreSeatsOf rooms.entry.now board.entry.now result others }
     { work_together(rt, rooms, board, task, gate, shares, others, ends, rest) };
     let (one, rest) = join(rt, last, before);

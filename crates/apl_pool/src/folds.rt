@@ -1,15 +1,17 @@
 //! What a worker does with its share of a fold: the items at its places are summarized.
-ghost use Rattle.std.specs.Prelude.{◌≡◌, ℕ, ◌+◌, ◌-◌, ◌<◌, ◌≤◌, true, false, Result, None, IfOk, length, slice_index, slice_index_or, vec_len};
+ghost use Rattle.std.specs.Prelude.{◌≡◌, ℕ, ◌+◌, ◌-◌, ◌*◌, ◌<◌, ◌≤◌, true, false, Result, None, IfOk, length, slice_index, slice_index_or, slice_set, vec_len, vec_capacity};
 ghost use Rattle.apl_pool.specs.declared.kernel.Fault.{Fault};
 ghost use Rattle.apl_pool.specs.declared.kernel.TheConstants.{MOST_PLACES};
 ghost use Rattle.apl_pool.specs.declared.summary.TheConstants.{LONGEST_RUN};
-ghost use Rattle.apl_pool.specs.Folds.{items_in, IsFolded, IsFoldedPart};
+ghost use Rattle.apl_pool.specs.Folds.{items_in, IsFolded, IsFoldedPart, ArePartsOf};
+ghost use Rattle.apl_pool.specs.Summaries.{AreFolds};
 
 use super::cut::Cut;
 use super::gate::Gate;
 use super::kernel::{Kernel, Stop};
 use super::pass::fill_rooms;
 use super::pieces::{Piece, Pieces};
+use super::rows::{Folds, Row, Rows};
 use super::schedule::Schedule;
 use super::shares::Shares;
 use super::summary::{LONGEST_RUN, Summary};
@@ -141,29 +143,115 @@ fn complete_part<S: Summary + Drop, K: Kernel<Out = S::Item>, G: Gate>(
     fold_places(kernel, piece.from, piece.to)
 }
 
-/// The summary of all pieces, joined in their order: those that are marked stand in the list, and the first worker makes each other one.
+/// Takes a part out of the list.
+fn take_part<S: Drop>(parts: &mut [Option<S>], index: usize) -> Option<S>
+    requires { index < length parts.old }
+    ensures part { result ≡ slice_index_or parts.old index None }
+    ensures rest { parts.new ≡ slice_set parts.old index None }
+{
+    parts[index].take()
+}
+
+/// The summary of the pieces of one of several rows, joined in their order. In the list the parts of the rows' first pieces come
+/// first: those that are marked stand there, and the first worker makes each other one.
 fn join_parts<S: Summary + Drop, K: Kernel<Out = S::Item>, G: Gate>(
     kernel: &K,
     gate: &G,
     pieces: &Pieces,
     marks: &[bool],
-    parts: Vec<Option<S>>,
+    parts: &mut [Option<S>],
+    rows: usize,
+    row: usize,
 ) -> Result<Option<S>, Stop>
     requires places { pieces.now.places ≡ K.place_count kernel.now }
-    requires len { vec_len parts ≡ pieces.now.count }
-    requires marked { length marks.now ≡ pieces.now.count }
-    requires right { (n : ℕ) → n < pieces.now.count → slice_index_or marks.now n false ≡ true
-        → IsFolded S.step S.item_count S.outcome (K.outcome kernel.now) (slice_index pieces.now.starts.items n) (slice_index pieces.now.starts.items (n + 1)) (slice_index_or parts.items n None) }
-    ensures { IsFoldedPart S.step S.item_count S.outcome (K.outcome kernel.now) 0 (K.place_count kernel.now) result }
+    requires row { row < rows }
+    requires parts { rows * pieces.now.count ≡ length parts.old }
+    requires marks { rows * pieces.now.count ≡ length marks.now }
+    requires most { rows * pieces.now.count ≤ MOST_PLACES }
+    requires right { (n : ℕ) → n < pieces.now.count → slice_index_or marks.now (n * rows + row) false ≡ true
+        → IsFolded S.step S.item_count S.outcome (K.outcome kernel.now) (slice_index pieces.now.starts.items n) (slice_index pieces.now.starts.items (n + 1)) (slice_index_or parts.old (n * rows + row) None) }
+    ensures folded { IsFoldedPart S.step S.item_count S.outcome (K.outcome kernel.now) 0 (K.place_count kernel.now) result }
+    ensures len { length parts.new ≡ length parts.old }
+    ensures kept { (n other : ℕ) → row < other → other < rows → slice_index_or parts.new (n * rows + other) None ≡ slice_index_or parts.old (n * rows + other) None }
 {
     let mut folded = None;
-    let mut parts = parts;
     for number in 0..pieces.count() {
-        let part = parts[number].take();
-        let part = complete_part(kernel, gate, pieces.piece(number), marks[number], part)?;
+        let index = number * rows + row;
+        let part = take_part(parts, index);
+        let piece = pieces.piece_as(number, index as u32);
+        let part = complete_part(kernel, gate, piece, marks[index], part)?;
         folded = join_both(folded, part);
     }
     Ok(folded)
+}
+
+/// The summaries of all rows, one after the other, put into the room for them.
+fn join_rows<S: Summary + Drop, K: Rows<Out = S::Item>, G: Gate>(
+    rows: &K,
+    gate: &G,
+    pieces: &Pieces,
+    marks: &[bool],
+    parts: &mut [Option<S>],
+    room: Vec<S>,
+) -> Folds<S>
+    requires some { 0 < K.place_count rows.now }
+    requires places { pieces.now.places ≡ K.place_count rows.now }
+    requires parts { K.row_count rows.now * pieces.now.count ≡ length parts.old }
+    requires marks { K.row_count rows.now * pieces.now.count ≡ length marks.now }
+    requires most { K.row_count rows.now * pieces.now.count ≤ MOST_PLACES }
+    requires right { ArePartsOf S.step S.item_count S.outcome (K.outcome rows.now) (K.row_count rows.now) pieces.now.count (slice_index pieces.now.starts.items) marks.now parts.old }
+    requires empty { vec_len room ≡ 0 }
+    requires room { K.row_count rows.now ≤ vec_capacity room }
+    ensures { AreFolds S.step S.item_count S.outcome (K.outcome rows.now) (K.row_count rows.now) (K.place_count rows.now) result.summaries.items result.end }
+{
+    let mut summaries = room;
+    let count = rows.rows();
+    for row in 0..count {
+        match join_parts(&Row { rows, row }, gate, pieces, marks, parts, count, row) {
+            Ok(Some(summary)) => summaries.push_reserved(summary),
+            Ok(None) => unreachable!(),
+            Err(stop) => {
+                let end = Err(stop);
+                return Folds { summaries, end };
+            }
+        }
+    }
+    Folds {
+        summaries,
+        end: Ok(()),
+    }
+}
+
+/// The summaries of all rows, by one worker who has all pieces. The first one of each row ends at `end`.
+pub(crate) fn fold_rows_alone<S: Summary + Drop, K: Rows<Out = S::Item>, C: Cut, G: Gate>(
+    rows: &K,
+    cut: &C,
+    gate: &G,
+    worker: u8,
+    end: usize,
+    room: Vec<S>,
+) -> Folds<S>
+    requires some { 0 < end }
+    requires within { end ≤ K.place_count rows.now }
+    requires empty { vec_len room ≡ 0 }
+    requires room { K.row_count rows.now ≤ vec_capacity room }
+    ensures { AreFolds S.step S.item_count S.outcome (K.outcome rows.now) (K.row_count rows.now) (K.place_count rows.now) result.summaries.items result.end }
+{
+    let mut summaries = room;
+    for row in 0..rows.rows() {
+        match fold_all(&Row { rows, row }, cut, gate, worker, end) {
+            Ok(Some(summary)) => summaries.push_reserved(summary),
+            Ok(None) => unreachable!(),
+            Err(stop) => {
+                let end = Err(stop);
+                return Folds { summaries, end };
+            }
+        }
+    }
+    Folds {
+        summaries,
+        end: Ok(()),
+    }
 }
 
 /// A list of as many parts, none of which is there yet.
@@ -177,27 +265,68 @@ fn no_parts<S: Drop>(alloc: Global, count: usize) -> Result<Vec<Option<S>>, Allo
     Ok(parts)
 }
 
-/// The summary of all items, by several workers: one of each piece, and then all of them are joined.
-pub(crate) fn fold_together<
+/// The summaries of all rows, by several workers, who put one of each piece into a list of as many parts; then those of each row are
+/// joined.
+fn fold_into_parts<
     R: Threads + Sync,
     S: Summary + Drop + Send,
-    K: Kernel<Out = S::Item> + Sync,
+    K: Rows<Out = S::Item> + Sync,
     G: Gate + Sync,
 >(
     rt: &R,
     alloc: Global,
-    kernel: &K,
+    rows: &K,
     gate: &G,
     shares: &Shares,
     schedule: Schedule,
-) -> Result<Option<S>, Stop>
-    requires places { shares.now.pieces.places ≡ K.place_count kernel.now }
-    ensures { IsFoldedPart S.step S.item_count S.outcome (K.outcome kernel.now) 0 (K.place_count kernel.now) result }
+    parts: &mut [Option<S>],
+    room: Vec<S>,
+) -> Result<Folds<S>, AllocError>
+    requires some { 0 < K.place_count rows.now }
+    requires rows { shares.now.rows ≡ K.row_count rows.now }
+    requires places { shares.now.pieces.places ≡ K.place_count rows.now }
+    requires parts { K.row_count rows.now * shares.now.pieces.count ≡ length parts.old }
+    requires empty { vec_len room ≡ 0 }
+    requires room { K.row_count rows.now ≤ vec_capacity room }
+    ensures { IfOk result (λ f. AreFolds S.step S.item_count S.outcome (K.outcome rows.now) (K.row_count rows.now) (K.place_count rows.now) f.summaries.items f.end) }
 {
     let pieces = shares.pieces();
-    let mut parts = no_parts(alloc, pieces.count())?;
-    let task = Summaries { kernel, pieces };
-    let room = parts.as_mut_slice();
-    let marks = fill_rooms(rt, alloc, &task, gate, shares, schedule, room)?;
-    join_parts(kernel, gate, pieces, marks.as_slice(), parts)
+    let task = Summaries { rows, pieces };
+    let marks = fill_rooms(rt, alloc, &task, gate, shares, schedule, parts)?;
+    Ok(join_rows(rows, gate, pieces, marks.as_slice(), parts, room))
+}
+
+/// The summaries of all rows, by several workers.
+pub(crate) fn fold_rows_together<
+    R: Threads + Sync,
+    S: Summary + Drop + Send,
+    K: Rows<Out = S::Item> + Sync,
+    G: Gate + Sync,
+>(
+    rt: &R,
+    alloc: Global,
+    rows: &K,
+    gate: &G,
+    shares: &Shares,
+    schedule: Schedule,
+    room: Vec<S>,
+) -> Result<Folds<S>, AllocError>
+    requires some { 0 < K.place_count rows.now }
+    requires rows { shares.now.rows ≡ K.row_count rows.now }
+    requires places { shares.now.pieces.places ≡ K.place_count rows.now }
+    requires empty { vec_len room ≡ 0 }
+    requires room { K.row_count rows.now ≤ vec_capacity room }
+    ensures { IfOk result (λ f. AreFolds S.step S.item_count S.outcome (K.outcome rows.now) (K.row_count rows.now) (K.place_count rows.now) f.summaries.items f.end) }
+{
+    let mut parts = no_parts(alloc, shares.count())?;
+    fold_into_parts(
+        rt,
+        alloc,
+        rows,
+        gate,
+        shares,
+        schedule,
+        parts.as_mut_slice(),
+        room,
+    )
 }

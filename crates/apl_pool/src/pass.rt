@@ -1,6 +1,6 @@
 //! One pass of several workers over the rooms of all pieces.
 ghost use Rattle.std.specs.Thread.{IsSync};
-ghost use Rattle.std.specs.Prelude.{◌≡◌, ◌<◌, ◌≤◌, IfOk, IfSome, length};
+ghost use Rattle.std.specs.Prelude.{◌≡◌, ◌<◌, ◌≤◌, IfOk, IfSome, length, ◌*◌};
 ghost use Rattle.core.specs.Mem.Slots.{slots_items, slots_len, IsFull, Refills};
 ghost use Rattle.apl_board.specs.Seats.{view, IsSeatOf};
 ghost use Rattle.apl_pool.specs.Crew.{AreMarks};
@@ -31,7 +31,7 @@ fn fill_row<T: Send, R: Threads + Sync, F: Task<T> + Sync, G: Gate + Sync>(
 ) -> (Slots<T>, Option<Vec<bool>>)
     requires full { IsFull row }
     requires all { F.start_of task.now (F.piece_count task.now) ≡ slots_len row }
-    requires pieces { F.piece_count task.now ≡ shares.now.pieces.count }
+    requires pieces { F.piece_count task.now ≡ shares.now.rows * shares.now.pieces.count }
     requires seat { IsSeatOf board.now seat × ((view seat).share ≡ shares.now.tasks) }
     ensures row { Refills row result.0 }
     ensures marks { IfSome result.1 (λ marks. AreMarks (F.is_right task.now) (F.start_of task.now) (F.piece_count task.now) (slots_items result.0) marks.items) }
@@ -63,11 +63,11 @@ pub(crate) fn fill_rooms<T: Send, R: Threads + Sync, F: Task<T> + Sync, G: Gate 
     values: &mut [T],
 ) -> Result<Vec<bool>, AllocError>
     requires all { F.start_of task.now (F.piece_count task.now) ≡ length values.old }
-    requires pieces { F.piece_count task.now ≡ shares.now.pieces.count }
+    requires pieces { F.piece_count task.now ≡ shares.now.rows * shares.now.pieces.count }
     ensures len { length values.new ≡ length values.old }
     ensures marks { IfOk result (λ marks. AreMarks (F.is_right task.now) (F.start_of task.now) (F.piece_count task.now) values.new marks.items) }
 {
-    let (board, seat) = Board::new(alloc, shares.pieces().count() as u32, shares.tasks() as u8)?;
+    let (board, seat) = Board::new(alloc, shares.count() as u32, shares.tasks() as u8)?;
     let ends = match schedule {
         Schedule::Claims => Vec::new(alloc),
         Schedule::Deques => deal(alloc, shares)?,
@@ -78,7 +78,7 @@ pub(crate) fn fill_rooms<T: Send, R: Threads + Sync, F: Task<T> + Sync, G: Gate 
             &mut (),
             rt,
             |row: Slots<T>, _: (), rt: &R| -> (Slots<T>, (), Option<Vec<bool>>)
-                requires { IsSync F.row × IsSync G.row × IsFull row × (F.start_of task.now (F.piece_count task.now) ≡ slots_len row) × (F.piece_count task.now ≡ shares.now.pieces.count)
+                requires { IsSync F.row × IsSync G.row × IsFull row × (F.start_of task.now (F.piece_count task.now) ≡ slots_len row) × (F.piece_count task.now ≡ shares.now.rows * shares.now.pieces.count)
                     × IsSeatOf board seat × ((view seat).share ≡ shares.now.tasks) }
                 ensures { Refills row result.0 × IfSome result.2 (λ marks. AreMarks (F.is_right task.entry.now) (F.start_of task.entry.now) (F.piece_count task.entry.now) (slots_items result.0) marks.items) }
             {

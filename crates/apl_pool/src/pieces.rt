@@ -32,7 +32,7 @@ pub(crate) struct Pieces {
     count: usize,
     starts: Vec<u32>,
     ghost some: { 0 < count },
-    ghost most: { count ≤ MOST_PLACES },
+    ghost few: { count ≤ places },
     ghost most_places: { places ≤ MOST_PLACES },
     ghost starts_are: { AreBounds count places starts.items },
 }
@@ -101,6 +101,21 @@ impl Pieces {
             number: number as u32,
             from: self.start(number),
             to: self.start(number + 1),
+        }
+    }
+    /// The piece with this number, under another one that is told in its place.
+    pub(crate) fn piece_as(&self, number: usize, told: u32) -> Piece
+        requires { number < self.now.count }
+        ensures from { result.from ≡ slice_index self.now.starts.items number }
+        ensures to { result.to ≡ slice_index self.now.starts.items (number + 1) }
+        ensures order { result.from ≤ result.to }
+        ensures within { result.to ≤ self.now.places }
+    {
+        let piece = self.piece(number);
+        Piece {
+            number: told,
+            from: piece.from,
+            to: piece.to,
         }
     }
 }

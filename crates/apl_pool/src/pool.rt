@@ -3,20 +3,20 @@ ghost use Rattle.std.specs.Prelude.{◌≡◌, ℕ, ◌+◌, ◌<◌, ◌≤◌,
 ghost use Rattle.apl_pool.specs.declared.kernel.TheConstants.{MOST_PLACES};
 ghost use Rattle.apl_pool.specs.declared.pool.TheConstants.{MOST_WORKERS};
 ghost use Rattle.apl_pool.specs.Pool.{AreValues, IsStopOf};
-ghost use Rattle.apl_pool.specs.Summaries.{IsSummaryOf};
-ghost use Rattle.apl_pool.specs.Folds.{IsFoldedPart};
+ghost use Rattle.apl_pool.specs.Summaries.{IsSummaryOf, AreFolds};
 
 use super::complete::fill_values;
 use super::cut::Cut;
-use super::folds::{fold_all, fold_together};
+use super::folds::{fold_rows_alone, fold_rows_together};
 use super::gate::Gate;
 use super::kernel::{Kernel, MOST_PLACES, Stop};
 use super::pieces::piece_end;
+use super::rows::{Folds, OneRow, Rows};
 use super::schedule::Schedule;
 use super::shares::Shares;
 use super::summary::Summary;
 use super::work::append_all;
-use std::alloc::Global;
+use std::alloc::{AllocError, Global};
 use std::thread::Threads;
 
 /// The most workers.
@@ -70,8 +70,8 @@ impl<C: Cut + Sync, G: Gate + Sync> Pool<C, G> {
     /// The value at each place, or the least place that has a fault, and that fault. Want of
     /// memory may come in place of any answer, and then says nothing else.
     ///
-    /// Of p pieces and m workers worker w, counted from 0, has those from w × p / m up to before
-    /// (w + 1) × p / m, rounded down. Only those who have some get a thread, and one piece or one
+    /// Of p pieces and m workers worker w, counted from 0, begins under `Deques` with those from w × p / m up to before
+    /// (w + 1) × p / m, rounded down. No more workers get a thread than there are pieces, and one piece or one
     /// worker needs none. Where there are more than 65,536 places, a kernel that has a fault at
     /// place 0 is refused before the places are cut and room is taken.
     pub fn fill<R: Threads + Sync, K: Kernel + Sync>(
@@ -89,16 +89,16 @@ impl<C: Cut + Sync, G: Gate + Sync> Pool<C, G> {
         if count == 0 {
             return Ok(Vec::new(alloc));
         }
-        if count > MOST_UNTRIED {
-            first_value(kernel)?;
-        }
         let end = piece_end(&self.cut, 0, count);
         if self.workers == 1 || end == count {
+            if count > MOST_UNTRIED {
+                first_value(kernel)?;
+            }
             let last = self.workers - 1;
             return append_all(alloc, kernel, &self.cut, &self.gate, last, end);
         }
-        let shares = Shares::new(alloc, &self.cut, count, end, self.workers)?;
         let value = first_value(kernel)?;
+        let shares = Shares::new(alloc, &self.cut, 1, count, end, self.workers)?;
         self.fill_shares(rt, alloc, kernel, &shares, value)
     }
 
@@ -118,29 +118,55 @@ impl<C: Cut + Sync, G: Gate + Sync> Pool<C, G> {
         ensures summary { IfOk result (λ s. (items : List S.Item) × AreValues (K.outcome kernel.now) (K.place_count kernel.now) items × IsSummaryOf S.step S.item_count S.outcome s items) }
         ensures stop { IfErr result (IsStopOf (K.outcome kernel.now) (K.place_count kernel.now)) }
     {
-        match self.fold_pieces(rt, alloc, kernel)? {
+        let mut folds = self.fold_rows(rt, alloc, &OneRow { kernel });
+        folds.end?;
+        match folds.summaries.pop() {
             Some(summary) => Ok(summary),
             None => unreachable!(),
         }
     }
 
-    /// What `fold` answers, as the parts of which it is joined: a summary where there are items.
-    fn fold_pieces<R: Threads + Sync, S: Summary + Drop + Send, K: Kernel<Out = S::Item> + Sync>(
+    /// The summaries of the items of each row, up to before the first row that has a fault at a place, and the least such place of it
+    /// with that fault. Want of memory may come in place of any answer, and then says nothing else. The rows have at least one place.
+    ///
+    /// The pieces are those of all rows, each of which is cut alike, so that threads are started once.
+    pub fn fold_rows<R: Threads + Sync, S: Summary + Drop + Send, K: Rows<Out = S::Item> + Sync>(
         &self,
         rt: &R,
         alloc: Global,
-        kernel: &K,
-    ) -> Result<Option<S>, Stop>
-        requires some { 0 < K.place_count kernel.now }
-        ensures { IsFoldedPart S.step S.item_count S.outcome (K.outcome kernel.now) 0 (K.place_count kernel.now) result }
+        rows: &K,
+    ) -> Folds<S>
+        requires some { 0 < K.place_count rows.now }
+        ensures { AreFolds S.step S.item_count S.outcome (K.outcome rows.now) (K.row_count rows.now) (K.place_count rows.now) result.summaries.items result.end }
     {
-        let count = kernel.count();
-        let end = piece_end(&self.cut, 0, count);
-        if self.workers == 1 || end == count {
-            return fold_all(kernel, &self.cut, &self.gate, self.workers - 1, end);
+        match self.fold_pieces(rt, alloc, rows) {
+            Ok(folds) => folds,
+            Err(AllocError) => Folds {
+                summaries: Vec::new(alloc),
+                end: Err(Stop::Memory),
+            },
         }
-        let shares = Shares::new(alloc, &self.cut, count, end, self.workers)?;
-        fold_together(rt, alloc, kernel, &self.gate, &shares, self.schedule)
+    }
+
+    /// What `fold_rows` answers where there is memory.
+    fn fold_pieces<R: Threads + Sync, S: Summary + Drop + Send, K: Rows<Out = S::Item> + Sync>(
+        &self,
+        rt: &R,
+        alloc: Global,
+        rows: &K,
+    ) -> Result<Folds<S>, AllocError>
+        requires some { 0 < K.place_count rows.now }
+        ensures { IfOk result (λ f. AreFolds S.step S.item_count S.outcome (K.outcome rows.now) (K.row_count rows.now) (K.place_count rows.now) f.summaries.items f.end) }
+    {
+        let (count, places) = (rows.rows(), rows.count());
+        let room = Vec::with_capacity(alloc, count)?;
+        let end = piece_end(&self.cut, 0, places);
+        if self.workers == 1 || count == 0 || (count == 1 && end == places) {
+            let last = self.workers - 1;
+            return Ok(fold_rows_alone(rows, &self.cut, &self.gate, last, end, room));
+        }
+        let shares = Shares::new(alloc, &self.cut, count, places, end, self.workers)?;
+        fold_rows_together(rt, alloc, rows, &self.gate, &shares, self.schedule, room)
     }
 
     /// The value at each place, by several workers, who write into a list that is made full of one value.
@@ -154,6 +180,7 @@ impl<C: Cut + Sync, G: Gate + Sync> Pool<C, G> {
     ) -> Result<Vec<K::Out>, Stop>
     where
         K::Out: Copy + Send,
+        requires rows { shares.now.rows ≡ 1 }
         requires places { shares.now.pieces.places ≡ K.place_count kernel.now }
         ensures values { IfOk result (λ v. AreValues (K.outcome kernel.now) (K.place_count kernel.now) v.items) }
         ensures stop { IfErr result (IsStopOf (K.outcome kernel.now) (K.place_count kernel.now)) }

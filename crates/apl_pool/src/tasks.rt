@@ -1,11 +1,13 @@
 //! What the workers of a pass write into the room of each piece: the values at its places, or a summary of them.
-ghost use Rattle.std.specs.Prelude.{◌≡◌, ◌+◌, slice_index};
+ghost use Rattle.std.specs.Prelude.{◌≡◌, ◌≤◌, ◌+◌, ◌*◌, ◌/◌, ◌%◌, slice_index};
+ghost use Rattle.apl_pool.specs.declared.kernel.TheConstants.{MOST_PLACES};
 ghost use Rattle.apl_pool.specs.Parts.{AreValuesFrom};
 ghost use Rattle.apl_pool.specs.Folds.{IsFoldedFirst};
 
 use super::folds::fold_places;
 use super::kernel::{Kernel, Stop};
 use super::pieces::Pieces;
+use super::rows::{Row, Rows};
 use super::summary::Summary;
 use super::work::write_piece;
 use apl_rooms::Task;
@@ -43,23 +45,24 @@ impl<'a, T: Copy, K: Kernel<Out = T>> Task<T> for Values<'a, K> {
     }
 }
 
-/// A summary of the items of each piece, where there are some.
+/// A summary of the items of each piece of each row, where there are some.
 #[derive(Drop)]
-pub(crate) struct Summaries<'a, K: Kernel> {
-    pub kernel: &'a K,
+pub(crate) struct Summaries<'a, K: Rows> {
+    pub rows: &'a K,
     pub pieces: &'a Pieces,
-    ghost all: { pieces.now.places ≡ K.place_count kernel.now },
+    ghost all: { pieces.now.places ≡ K.place_count rows.now },
+    ghost most: { K.row_count rows.now * pieces.now.places ≤ MOST_PLACES },
 }
 
-impl<'a, S: Summary + Drop, K: Kernel<Out = S::Item>> Task<Option<S>> for Summaries<'a, K> {
-    ghost piece_count = { λ t. t.pieces.now.count };
+impl<'a, S: Summary + Drop, K: Rows<Out = S::Item>> Task<Option<S>> for Summaries<'a, K> {
+    ghost piece_count = { λ t. K.row_count t.rows.now * t.pieces.now.count };
 
     ghost start_of = { λ t n. n };
 
-    ghost is_right = { λ t n values. IsFoldedFirst S.step S.item_count S.outcome (K.outcome t.kernel.now) (slice_index t.pieces.now.starts.items n) (slice_index t.pieces.now.starts.items (n + 1)) values };
+    ghost is_right = { λ t n values. IsFoldedFirst S.step S.item_count S.outcome (K.outcome t.rows.now (n % K.row_count t.rows.now)) (slice_index t.pieces.now.starts.items (n / K.row_count t.rows.now)) (slice_index t.pieces.now.starts.items (n / K.row_count t.rows.now + 1)) values };
 
     fn count(&self) -> usize {
-        self.pieces.count()
+        self.rows.rows() * self.pieces.count()
     }
 
     fn start(&self, number: usize) -> usize {
@@ -67,13 +70,20 @@ impl<'a, S: Summary + Drop, K: Kernel<Out = S::Item>> Task<Option<S>> for Summar
     }
 
     fn write(&self, number: usize, values: &mut [Option<S>]) -> Result<(), u32> {
-        let piece = self.pieces.piece(number);
-        match fold_places(self.kernel, piece.from, piece.to) {
+        let piece = self.pieces.piece(number / self.rows.rows());
+        let row = number % self.rows.rows();
+        let kernel = Row {
+            rows: self.rows,
+            row,
+        };
+        match fold_places(&kernel, piece.from, piece.to) {
             Ok(folded) => {
                 values[0] = folded;
                 Ok(())
             }
-            Err(Stop::Fault { place, .. }) => Err(place),
+            Err(Stop::Fault { place, .. }) => {
+                Err((row * self.pieces.places() + place as usize) as u32)
+            }
             Err(Stop::Memory) => Err(0),
         }
     }

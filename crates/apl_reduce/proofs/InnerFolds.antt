@@ -1,14 +1,13 @@
 -- Items that are folded onto the last of them.
-use Rattle.std.proofs.Common.{◌≡◌, ℕ, zero, suc, ℤ, pos, ◌+◌, ◌-◌, ◌<◌, arith, List, [], ◌∷◌, length, slice_index_or, Option, Some, None, Result, Ok, Err, refl, sym, ap, ◌∙◌, subst, ⊎_elim}
+use Rattle.std.proofs.Common.{◌≡◌, ℕ, zero, suc, ℤ, pos, ◌+◌, ◌-◌, ◌<◌, ◌≤◌, arith, List, [], ◌∷◌, length, slice_index_or, Option, Some, None, Result, Ok, Err, refl, sym, ap, ◌∙◌, ⊎_elim}
 use Rattle.std.specs.Prelude.{IsOk}
 use Rattle.std.proofs.lemmas.Bool.{cases_lt}
 use Rattle.apl_array.specs.declared.function.ScalarFunction.{ScalarFunction}
 use Rattle.apl_pool.specs.declared.kernel.Fault.{Fault}
-use Rattle.apl_pool.specs.declared.kernel.Stop.{Stop}
-use Rattle.apl_pool.specs.declared.kernel.Stop.TheVariants.{Fault as FaultAt}
-use Rattle.apl_pool.specs.Pool.{AreValues, IsLeastFault, IsStopOf}
+use Rattle.apl_pool.specs.Pool.{AreValues}
 use Rattle.apl_pool.specs.Summaries.{and_then, fold_onto}
 use Rattle.apl_scalar.specs.Scalar.{dyadic_numbers}
+use Rattle.apl_summary.specs.RowFolds.{IsRowFold}
 use Rattle.apl_reduce.specs.Items.{as_number, number_step, or_next_fault, folded_from, first_fault, judged_items}
 use Rattle.apl_reduce.proofs.JudgedItems.{judged_without_fault, judged_with_fault}
 
@@ -56,7 +55,7 @@ module _ (item : ℕ → Result ℤ Fault) where
   ok_of_value r z is = rw is refl
 
   -- all items are numbers
-  pub judged_onto : (f : ScalarFunction) (n : ℕ) (xs : List ℤ) (last : ℤ) (r : Result ℤ Fault) → 0 < n → AreValues item (n - 1) xs → item (n - 1) ≡ Ok last
+  judged_onto : (f : ScalarFunction) (n : ℕ) (xs : List ℤ) (last : ℤ) (r : Result ℤ Fault) → 0 < n → AreValues item (n - 1) xs → item (n - 1) ≡ Ok last
       → r ≡ fold_onto (dyadic_numbers f) xs last → r ≡ as_number (judged_items item f n)
   judged_onto f n xs last r some values end is =
       let len : length xs ≡ n - 1 = values.len in
@@ -77,11 +76,16 @@ module _ (item : ℕ → Result ℤ Fault) where
       (sym (first_from 0 n place fault below (λ j h. let here : j ≡ 0 + j = omega arith in rw here at (each j h)) (ap item same ∙ is)))
       refl
 
-  pub judged_at_stop : (f : ScalarFunction) (n : ℕ) (stop : Stop) (place : ℕ) (fault : Fault) → stop ≡ FaultAt place fault → IsStopOf item (n - 1) stop → Err fault ≡ as_number (judged_items item f n)
-  judged_at_stop f n stop place fault at_fault stops =
-      let is : IsLeastFault item (n - 1) place fault = subst (IsStopOf item (n - 1)) at_fault stops in
-      judged_first f n place fault (omega (arith, is.below)) is.earlier is.faulty
-
-  pub judged_at_last : (f : ScalarFunction) (n : ℕ) (xs : List ℤ) (fault : Fault) → 0 < n → AreValues item (n - 1) xs → item (n - 1) ≡ Err fault → Err fault ≡ as_number (judged_items item f n)
+  judged_at_last : (f : ScalarFunction) (n : ℕ) (xs : List ℤ) (fault : Fault) → 0 < n → AreValues item (n - 1) xs → item (n - 1) ≡ Err fault → Err fault ≡ as_number (judged_items item f n)
   judged_at_last f n xs fault some values end =
       judged_first f n (n - 1) fault (omega (arith, some)) (λ j h. ok_of_value (item j) _ (values.each j (pos 0) h)) end
+
+  -- the items but the last, to which that comes in
+  pub judged_row : (f : ScalarFunction) (n : ℕ) → 2 ≤ n → IsRowFold (dyadic_numbers f) item (n - 1) (item (n - 1)) (as_number (judged_items item f n))
+  judged_row f n two = record {
+    folded = λ xs values. onto xs values (item (n - 1)) refl;
+    faulty = λ place fault is. sym (judged_first f n place fault (omega (arith, is.below)) is.earlier is.faulty);
+  } where
+    onto : (xs : List ℤ) → AreValues item (n - 1) xs → (last : Result ℤ Fault) → item (n - 1) ≡ last → as_number (judged_items item f n) ≡ and_then last (fold_onto (dyadic_numbers f) xs)
+    onto xs values (Ok last) is = sym (judged_onto f n xs last (fold_onto (dyadic_numbers f) xs last) (omega arith) values is refl)
+    onto xs values (Err fault) is = sym (judged_at_last f n xs fault (omega arith) values is)

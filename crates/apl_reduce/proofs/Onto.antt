@@ -1,19 +1,15 @@
 -- A fold of numbers onto the last one.
-use Rattle.std.proofs.Common.{◌≡◌, ℕ, zero, suc, ◌+◌, ◌*◌, ◌<◌, ℤ, pos, List, [], ◌∷◌, ◌++◌, ⊎_elim, length, map, slice_index_or, Result, Ok, Err, refl, sym, ap, ◌∙◌, arith}
-use Rattle.std.specs.Prelude.{IfErr, IsOk}
-use Rattle.std.proofs.lemmas.List.{length_push, get_or_push, get_or_append_left}
-use Rattle.std.proofs.lemmas.Bool.{cases_lt}
+use Rattle.std.proofs.Common.{◌≡◌, ℕ, zero, suc, ◌+◌, ◌-◌, ◌*◌, ◌/◌, ◌%◌, ◌<◌, ◌≤◌, ℤ, pos, List, [], ◌∷◌, length, map, slice_index_or, Result, Ok, Err, refl, sym, ap, ◌∙◌, arith}
 use Rattle.std.proofs.Math.ListN.{get_or-map}
 use Rattle.apl_array.specs.declared.array.Elem.{Elem}
 use Rattle.apl_array.specs.declared.array.Elem.TheVariants.{Int}
 use Rattle.apl_array.specs.declared.function.ScalarFunction.{ScalarFunction}
 use Rattle.apl_pool.specs.declared.kernel.Fault.{Fault}
-use Rattle.apl_pool.specs.declared.kernel.Stop.{Stop}
-use Rattle.apl_pool.specs.declared.kernel.Stop.TheVariants.{Fault as FaultAt, Memory}
-use Rattle.apl_pool.specs.Pool.{AreValues, IsStopOf}
+use Rattle.apl_pool.specs.Pool.{AreValues}
 use Rattle.apl_pool.specs.Summaries.{and_then, fold_onto}
 use Rattle.apl_scalar.specs.Scalar.{dyadic_of, dyadic_numbers}
-use Rattle.apl_reduce.specs.Folded.{number_step, folded, element_along}
+use Rattle.apl_summary.specs.RowFolds.{IsRowFold}
+use Rattle.apl_reduce.specs.Folded.{number_step, folded, element_along, number_of_axis, fold_at}
 
 module _ (f : ScalarFunction) where
   step_onto : (x : ℤ) (r : Result ℤ Fault) → number_step f (Int x) r ≡ and_then r (dyadic_numbers f x)
@@ -64,28 +60,12 @@ folded_stretch f numbers items first stride n more last some values end =
     (λ j h. read j ∙ ap Int (same_value _ _ (values.each j (pos 0) (omega (arith, h, values.len)))))
     (ap (λ m. item (0 + m)) values.len ∙ read n ∙ ap Int (sym end)))
 
--- no item has a fault
-pub only_memory : (numbers : List ℤ) (first stride n : ℕ) (stop : Stop) → IsStopOf (λ place. value (number_at numbers first stride place)) n stop → stop ≡ Memory
-only_memory numbers first stride n (FaultAt place fault) is = absurd (no_fault (number_at numbers first stride place) fault is.faulty)
-only_memory numbers first stride n Memory is = refl
-
-pub memory_alone : {A : Type 0} (r : Result A Stop) (numbers : List ℤ) (first stride n : ℕ) → IfErr r (IsStopOf (λ place. value (number_at numbers first stride place)) n) → IfErr r (λ stop. stop ≡ Memory)
-memory_alone (Ok x) numbers first stride n h = tt
-memory_alone (Err stop) numbers first stride n h = only_memory numbers first stride n stop h
-
--- one value more
-pub value_more : (outcome : ℕ → Result ℤ Fault) (n : ℕ) (xs : List ℤ) (x : ℤ) → AreValues outcome n xs → outcome n ≡ Ok x → AreValues outcome (n + 1) (xs ++ x ∷ [])
-value_more outcome n xs x values is = record {
-  len = omega (arith, length_push xs x, values.len);
-  each = λ place d h.
-      ⊎_elim
-      (λ below. values.each place d below ∙ ap Ok (sym (get_or_append_left xs (x ∷ []) d place (omega (arith, below, values.len)))))
-      (λ above.
-      let here : place ≡ n = omega (arith, above, h) in
-      let end : length xs ≡ place = omega (arith, values.len, here) in
-      ap outcome here ∙ is ∙ ap Ok (sym (get_or_push xs x d place end)))
-      (cases_lt place n);
-}
-
-pub has_value : (outcome : ℕ → Result ℤ Fault) (n : ℕ) (xs : List ℤ) (k : ℕ) → AreValues outcome n xs → k < n → IsOk (outcome k)
-has_value outcome n xs k values below = rw (values.each k (pos 0) below) refl
+-- the fold of the items along an axis, the last of which comes in to the others
+pub axis_row : (f : ScalarFunction) (numbers : List ℤ) (items block inner place : ℕ) → 2 ≤ items
+    → IsRowFold (dyadic_numbers f) (λ k. Ok (number_of_axis numbers block inner place k)) (items - 1) (Ok (number_of_axis numbers block inner place (items - 1))) (fold_at f (map Int numbers) items block inner place)
+axis_row f numbers items block inner place two =
+    let first = place / inner * block + place % inner in
+    record {
+      folded = λ others values. sym (folded_stretch f numbers others first inner (items - 1) (items - 2) (number_of_axis numbers block inner place (items - 1)) (omega arith) values refl);
+      faulty = λ k fault is. absurd (no_fault (number_at numbers first inner k) fault is.faulty);
+    }

@@ -23,6 +23,10 @@ element_along elements first stride i = slice_index_or elements (first + i * str
 abbrev pub fold_at : ScalarFunction → List Elem → (items block inner place : ℕ) → Result ℤ Fault
 fold_at f elements items block inner place = folded f (element_along elements (place / inner * block + place % inner) inner) 0 (items - 2)
 
+-- number k along an axis at a place of the result
+abbrev pub number_of_axis : List ℤ → (block inner place k : ℕ) → ℤ
+number_of_axis numbers block inner place k = slice_index_or numbers (place / inner * block + place % inner + k * inner) (pos 0)
+
 -- the folds of item k and the `more` + 1 items behind it, at neighbouring places from `first` on
 abbrev pub AreFolds : ScalarFunction → List Elem → (first stride k more : ℕ) → List ℤ → Type 0
 AreFolds f elements first stride k more totals =

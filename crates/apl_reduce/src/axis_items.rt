@@ -1,27 +1,25 @@
 //! The items along an axis, folded at each place of the result.
 ghost use Rattle.std.specs.Prelude.{◌≡◌, ℕ, pos, ◌+◌, ◌-◌, ◌*◌, ◌/◌, ◌%◌, ◌<◌, ◌≤◌, ◌++◌, true, IfOk, IfErr, length, map, remove, replicate, slice_index, slice_index_or, drop, vec_len, vec_capacity};
-ghost use Rattle.apl_summary.specs.Functions.{has_summary};
 ghost use Rattle.apl_pool.specs.Runs.{AreWritten};
 ghost use Rattle.apl_array.specs.declared.array.Elem.TheVariants.{Int, Chr};
 ghost use Rattle.apl_array.specs.Shape.{count_of};
-ghost use Rattle.apl_pool.specs.declared.kernel.Stop.TheVariants.{Memory};
 ghost use Rattle.apl_pool.specs.declared.kernel.TheConstants.{MOST_PLACES};
 ghost use Rattle.apl_pool.specs.Pool.{AreValues, IsStopOf};
-ghost use Rattle.apl_reduce.specs.Folded.{fold_at};
+ghost use Rattle.apl_reduce.specs.Folded.{fold_at, number_of_axis};
 
 use crate::folded_rows::{fold_last_rows, fold_rows, from_place};
 use crate::folding::fold_along;
-use crate::stretch::Stretch;
-use crate::workers::Workers;
+use crate::workers::shares_items;
 use apl_answer::Element;
 use apl_array::{
     Array, ScalarFunction, Shape, inserted_index_has_place, places_match_index_lists,
     replaced_index_has_place,
 };
 use apl_divisor::Divisor;
-use apl_pool::{Cut, Fault, Gate, Kernel, Pool, Stop};
+use apl_pool::{Cut, Fault, Gate, Kernel, Pool, Rows, Stop};
 use apl_scalar::function_types::Function;
 use apl_scalar::with_type;
+use apl_summary::FoldedRows;
 use std::alloc::Global;
 use std::marker::PhantomData;
 use std::thread::Threads;
@@ -131,7 +129,7 @@ struct Folds<'a, T, F> {
 
 impl<T: Element, F: Function> Kernel for Folds<'_, T, F> {
     ghost use Rattle.std.specs.Prelude.{map};
-    ghost use Rattle.apl_reduce.specs.Folded.{fold_at};
+    ghost use Rattle.apl_reduce.specs.Folded.{fold_at, number_of_axis};
 
     type Out = i64;
 
@@ -194,65 +192,59 @@ impl<T: Element, F: Function> Folds<'_, T, F> {
     }
 }
 
-impl AxisItems<'_, i64> {
-    /// All items at a place but the last.
-    fn stretch(&self, place: usize) -> Stretch<'_>
-        requires { place < self.now.count }
-        ensures numbers { result.numbers.now ≡ self.now.elements.now }
-        ensures first { result.first ≡ place / self.now.inner * self.now.block + place % self.now.inner }
-        ensures stride { result.stride ≡ self.now.inner }
-        ensures count { result.count ≡ self.now.items - 1 }
-    {
-        Stretch {
-            numbers: self.elements,
-            first: self.first_item(place),
-            stride: self.inner.number(),
-            count: self.items - 1,
-        }
-    }
+/// All items of each place but the last as a row, to which the last one comes in.
+#[derive(Drop)]
+struct AxisRows<'a> {
+    axis: &'a AxisItems<'a, i64>,
+    ghost all: { axis.now.count * axis.now.items ≤ MOST_PLACES },
+}
 
-    /// The last item at a place.
-    fn last(&self, place: usize) -> i64
-        requires { place < self.now.count }
-        ensures { result ≡ slice_index_or self.now.elements.now (place / self.now.inner * self.now.block + place % self.now.inner + (self.now.items - 1) * self.now.inner) (pos 0) }
+impl AxisRows<'_> {
+    /// Item `k` of a place.
+    #[inline(always)]
+    fn item(&self, place: usize, k: usize) -> i64
+        requires place { place < self.now.axis.now.count }
+        requires item { k < self.now.axis.now.items }
+        ensures { result ≡ number_of_axis self.now.axis.now.elements.now self.now.axis.now.block self.now.axis.now.inner place k }
     {
-        self.elements[self.first_item(place) + (self.items - 1) * self.inner.number()]
+        self.axis.elements[self.axis.first_item(place) + k * self.axis.inner.number()]
     }
 }
 
-impl<R: Threads + Sync, C: Cut + Sync, G: Gate + Sync> Workers<'_, R, C, G> {
-    /// The fold of the items at a place by a function that has summaries.
-    fn fold_at(
-        &self,
-        f: ScalarFunction,
-        axis: &AxisItems<i64>,
-        place: usize,
-    ) -> Result<Result<i64, Fault>, Stop>
-        requires summary { has_summary f ≡ true }
-        requires place { place < axis.now.count }
-        ensures fold { IfOk result (λ outcome. outcome ≡ fold_at f (map Int axis.now.elements.now) axis.now.items axis.now.block axis.now.inner place) }
-        ensures memory { IfErr result (λ stop. stop ≡ Memory) }
-    {
-        self.fold_onto(f, &axis.stretch(place), axis.last(place))
+impl Rows for AxisRows<'_> {
+    ghost use Rattle.std.specs.Prelude.{◌-◌, Ok};
+    ghost use Rattle.apl_reduce.specs.Folded.{number_of_axis};
+
+    type Out = i64;
+
+    ghost row_count = { λ r. r.axis.now.count };
+
+    ghost place_count = { λ r. r.axis.now.items - 1 };
+
+    ghost outcome = { λ r row place. Ok (number_of_axis r.axis.now.elements.now r.axis.now.block r.axis.now.inner row place) };
+
+    fn rows(&self) -> usize {
+        self.axis.count
     }
 
-    /// The folds at each of a few places by a function that has summaries, one after the other.
-    fn fold_each(&self, f: ScalarFunction, axis: &AxisItems<i64>) -> Result<Vec<i64>, Stop>
-        requires summary { has_summary f ≡ true }
-        ensures values { IfOk result (λ v. AreValues (λ place. fold_at f (map Int axis.now.elements.now) axis.now.items axis.now.block axis.now.inner place) axis.now.count v.items) }
-        ensures stop { IfErr result (IsStopOf (λ place. fold_at f (map Int axis.now.elements.now) axis.now.items axis.now.block axis.now.inner place) axis.now.count) }
-    {
-        let mut values = Vec::with_capacity(self.alloc, axis.count)?;
-        for place in 0..axis.count {
-            match self.fold_at(f, axis, place)? {
-                Ok(value) => values.push_reserved(value),
-                Err(fault) => {
-                    let place = place as u32;
-                    return Err(Stop::Fault { place, fault });
-                }
-            }
-        }
-        Ok(values)
+    fn count(&self) -> usize {
+        self.axis.items - 1
+    }
+
+    #[inline(always)]
+    fn at(&self, row: usize, place: usize) -> Result<i64, Fault> {
+        Ok(self.item(row, place))
+    }
+}
+
+impl FoldedRows for AxisRows<'_> {
+    ghost use Rattle.std.specs.Prelude.{◌-◌, Ok};
+    ghost use Rattle.apl_reduce.specs.Folded.{number_of_axis};
+
+    ghost incoming = { λ r row. Ok (number_of_axis r.axis.now.elements.now r.axis.now.block r.axis.now.inner row (r.axis.now.items - 1)) };
+
+    fn incoming(&self, row: usize) -> Result<i64, Fault> {
+        Ok(self.item(row, self.axis.items - 1))
     }
 }
 
@@ -284,9 +276,8 @@ pub(crate) fn fill_number_folds<R: Threads + Sync, C: Cut + Sync, G: Gate + Sync
     ensures values { IfOk result (λ v. AreValues (λ place. fold_at f (map Int axis.now.elements.now) axis.now.items axis.now.block axis.now.inner place) axis.now.count v.items) }
     ensures stop { IfErr result (IsStopOf (λ place. fold_at f (map Int axis.now.elements.now) axis.now.items axis.now.block axis.now.inner place) axis.now.count) }
 {
-    let workers = Workers { rt, alloc, pool };
-    if axis.has_narrow_rows() && workers.share_items(f, axis.count, axis.items) {
-        return workers.fold_each(f, axis);
+    if axis.has_narrow_rows() && shares_items(pool, f, axis.count, axis.items) {
+        return apl_summary::fold_rows(rt, alloc, pool, f, &AxisRows { axis });
     }
     with_type!(f, fill_folds::<F, i64, R, C, G>(rt, alloc, pool, axis))
 }

@@ -9,13 +9,14 @@ ghost use Rattle.apl_reduce.specs.Layouts.{IsWithin, inner_number};
 ghost use Rattle.apl_reduce.specs.Products.{inner_row};
 
 use crate::dyadic::{Chosen, Dyadic, Typed};
+use crate::inner_folds::LineRows;
 use crate::items::{Items, reduced};
 use crate::layouts::Layout;
 use crate::magnitudes::sums_are_small;
 use crate::meeting::{common_length, layout_of, left_lengths, right_lengths};
 use crate::shapes::{characters_of, joined_shape};
 use crate::sums::Sums;
-use crate::workers::Workers;
+use crate::workers::{Workers, shares_items};
 use apl_answer::{Element, OpFault, array_from_fill};
 use apl_array::{Array, ScalarFunction};
 use apl_divisor::Divisor;
@@ -24,6 +25,7 @@ use apl_scalar::Prim;
 use apl_scalar::function_types::{
     And, Ceiling, Equal, Floor, Function, NotEqual, Or, Plus, Star, Times,
 };
+use apl_summary::fold_rows;
 use std::alloc::Global;
 use std::marker::PhantomData;
 use std::thread::Threads;
@@ -153,14 +155,22 @@ impl<R: Threads + Sync, C: Cut + Sync, G: Gate + Sync> Workers<'_, R, C, G> {
         ensures stop { IfErr result (IsStopOf (inner_number layout.now (map T.elem_of left.now) (map U.elem_of right.now) (F.function function) (P.function pairing)) layout.now.count) }
     {
         let f = function.named();
-        if self.share_items(f, layout.count, layout.items) {
-            return self.fold_inner(layout, left, right, f, pairing);
+        let columns = Divisor::new(layout.columns);
+        if shares_items(self.pool, f, layout.count, layout.items) {
+            let rows = LineRows {
+                layout,
+                columns,
+                left,
+                right,
+                pairing,
+            };
+            return fold_rows(self.rt, self.alloc, self.pool, f, &rows);
         }
         let kernel = Reductions {
             left,
             right,
             layout,
-            columns: Divisor::new(layout.columns),
+            columns,
             function,
             pairing,
         };
@@ -188,7 +198,7 @@ impl<R: Threads + Sync, C: Cut + Sync, G: Gate + Sync> Workers<'_, R, C, G> {
         ensures values { IfOk result (λ v. AreValues (inner_number layout.now (map Int left.now) (map Int right.now) PlusNamed TimesNamed) layout.now.count v.items) }
         ensures stop { IfErr result (IsStopOf (inner_number layout.now (map Int left.now) (map Int right.now) PlusNamed TimesNamed) layout.now.count) }
     {
-        let shared = self.share_items(Prim::Plus, layout.count, layout.items);
+        let shared = shares_items(self.pool, Prim::Plus, layout.count, layout.items);
         if shared || !layout.repays_a_pass() || !sums_are_small(left, right, layout.items) {
             return self.typed::<i64, Plus, Times>(layout, left, right);
         }

@@ -25,7 +25,6 @@ mod quotient;
 mod range;
 mod reducing;
 mod shapes;
-mod stretch;
 mod sums;
 mod workers;
 

@@ -7,3 +7,4 @@ pub mod ScaledProducts
 pub mod ExtremeItems
 pub mod TwoValuedAnswers
 pub mod Examples
+pub mod RowNumbers

@@ -1,10 +1,9 @@
 -- One more small item on the left of a product.
-use Rattle.std.proofs.Common.{◌≡◌, ℕ, ◌+◌, ◌≤◌, ℤ, pos, negsuc, ◌*ℤ◌, sym, ap, ◌∙◌, arith}
+use Rattle.std.proofs.Common.{◌≡◌, ℕ, ◌+◌, ◌≤◌, ℤ, pos, negsuc, ◌*ℤ◌, arith}
 use Rattle.std.proofs.lemmas.Int.{ints, clamps, fits_signed_mul}
 use Rattle.std.specs.Int.{int_min, int_max}
 use Rattle.std.specs.Prelude.{FitsSigned, unsigned_abs}
 use mir.Syntax.{w64}
-use Rattle.apl_summary.specs.declared.coefficients.Coefficients.{Coefficients}
 use Rattle.apl_summary.specs.declared.small_coefficients.SmallCoefficients.{SmallCoefficients}
 use Rattle.apl_summary.specs.Coefficients.{held, coefficients, coefficients_of_one, coefficients_of_both}
 use Rattle.apl_summary.specs.SmallCoefficients.{widened, IsFactor}

@@ -1,9 +1,9 @@
 -- Runs of places, summarized from the last item to the first.
-use Rattle.std.proofs.Common.{◌≡◌, ℕ, zero, suc, ◌+◌, ◌-◌, ◌<◌, ◌≤◌, Bool, true, false, ℤ, List, [], ◌∷◌, length, Result, Ok, Err, sym, ap, ◌∙◌, refl, arith}
+use Rattle.std.proofs.Common.{◌≡◌, ℕ, zero, suc, ◌+◌, ◌-◌, ◌<◌, ◌≤◌, Bool, true, false, ℤ, List, [], ◌∷◌, Result, Ok, Err, ap, ◌∙◌, refl, arith}
 use Rattle.std.specs.Prelude.{slice_index_or}
 use Rattle.apl_pool.specs.declared.kernel.Fault.{Fault}
 use Rattle.apl_pool.specs.Pool.{AreValues}
-use Rattle.apl_pool.specs.Summaries.{IsI64, and_then, fold_onto, IsSummaryOf, IsSummaryFrom}
+use Rattle.apl_pool.specs.Summaries.{IsI64, and_then, IsSummaryFrom}
 use Rattle.apl_scalar.specs.Scalar.{dyadic_numbers}
 use Rattle.apl_summary.specs.declared.constants.Constants.{Constants}
 use Rattle.apl_summary.specs.Constants.{constants_of_one, constants_of_both, signed_function, signed_outcome, AreConstants}

@@ -1,9 +1,7 @@
 -- One more small item on the left.
-use Rattle.std.proofs.Common.{◌≡◌, ℕ, ◌+◌, Bool, true, false, true≢false, cond, not, ◌&&◌, ℤ, pos, ◌≤ℤ◌, ◌+ℤ◌, ◌-ℤ◌, refl, ap, ◌∙◌, arith}
+use Rattle.std.proofs.Common.{◌≡◌, ℕ, ◌+◌, Bool, true, false, true≢false, cond, not, ◌&&◌, ℤ, pos, ◌≤ℤ◌, ◌+ℤ◌, ◌-ℤ◌, refl, ap, arith}
 use Rattle.std.proofs.lemmas.Int.{ints, clamps}
 use Rattle.std.specs.Int.{int_min, int_max}
-use Rattle.apl_summary.specs.declared.constants.Bounds.{Bounds}
-use Rattle.apl_summary.specs.declared.constants.Constants.{Constants}
 use Rattle.apl_summary.specs.declared.small_constants.SmallBounds.{SmallBounds}
 use Rattle.apl_summary.specs.declared.small_constants.SmallConstants.{SmallConstants}
 use Rattle.apl_summary.specs.Constants.{bounds, constants, constants_of_one, constants_of_both, AreConstants}

@@ -5,3 +5,4 @@ pub mod Answers
 pub mod Functions
 pub mod SmallConstants
 pub mod SmallCoefficients
+pub mod RowFolds

@@ -1,10 +1,10 @@
 -- The constants of a few small items, in numbers of 64 bits. No contract of a public function cites this file.
-use Rattle.std.specs.Prelude.{◌≡◌, ℕ, ◌*◌, ◌≤◌, ℤ, pos, neg_ℤ, ◌≤ℤ◌}
+use Rattle.std.specs.Prelude.{◌≡◌, ℕ, ◌*◌, ℤ, pos, neg_ℤ, ◌≤ℤ◌}
 use Rattle.std.specs.Int.{int_min, int_max}
 use Rattle.apl_summary.specs.declared.constants.Constants.{Constants}
 use Rattle.apl_summary.specs.declared.small_constants.SmallBounds.{SmallBounds}
 use Rattle.apl_summary.specs.declared.small_constants.SmallConstants.{SmallConstants}
-use Rattle.apl_summary.specs.Constants.{bounds, constants, AreConstants}
+use Rattle.apl_summary.specs.Constants.{bounds, constants}
 
 -- the same in numbers of 128 bits
 abbrev pub widened : SmallConstants → Constants

@@ -17,6 +17,8 @@ mod printed;
 #[cfg(test)]
 mod rooms;
 #[cfg(test)]
+mod rows;
+#[cfg(test)]
 mod scalars;
 #[cfg(test)]
 mod structures;

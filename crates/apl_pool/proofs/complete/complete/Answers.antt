@@ -1,9 +1,9 @@
-use Rattle.std.proofs.Common.{◌≡◌, ◌+◌, ◌≤◌, refl, sym, ap, inl, inr, length, slice_index, subst, slice_index_or, true, false, rules, arith}
+use Rattle.std.proofs.Common.{◌+◌, ◌≤◌, refl, inl, inr, length, slice_index, arith}
 use Rattle.std.proofs.lemmas.Result.{err_from_is_err_and}
 use Rattle.apl_pool.specs.Parts.{AreValuesAt}
 use Rattle.apl_pool.proofs.Bounds.{bounds_order, bounds_within}
 use Rattle.apl_pool.proofs.Values.{IsStopFrom-after_written}
-use Rattle.apl_pool.proofs.Completes.{AreValuesAt-append, AreValuesAt-kept, AreWritten-from_at, AreValuesAt-from_range, AreValuesFrom-from_at}
+use Rattle.apl_pool.proofs.Completes.{AreValuesAt-append, AreValuesAt-kept, AreWritten-from_at, AreValuesAt-from_range}
 use Rattle.apl_pool.proofs.complete.complete.Goals as goal
 
 pub loop-number-init : goal.loop-number-init

@@ -1,4 +1,4 @@
-use Rattle.std.proofs.Common.{◌≡◌, ◌+◌, vec_len, vec_capacity}
+use Rattle.std.proofs.Common.{◌≡◌, vec_len, vec_capacity}
 use Rattle.apl_pool.proofs.folds.no_parts.Given as goal
 
 abbrev pub invariant-loop : goal.invariant-loop

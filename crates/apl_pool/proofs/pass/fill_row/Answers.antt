@@ -1,4 +1,4 @@
-use Rattle.std.proofs.Common.{sym, subst, rules}
+use Rattle.std.proofs.Common.{sym, subst}
 use denote.Param.{param}
 use Rattle.apl_rooms.specs.Seats.{laid_out}
 use Rattle.apl_rooms.specs.Layout.{AreRoomsOf}

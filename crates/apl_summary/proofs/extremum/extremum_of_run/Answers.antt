@@ -1,4 +1,4 @@
-use Rattle.std.proofs.Common.{◌≡◌, ◌+◌, ◌-◌, ℕ, to_z, of_z, w64, refl, sym, ap, ◌∙◌, subst, rules, arith}
+use Rattle.std.proofs.Common.{◌≡◌, ◌+◌, ◌-◌, ℕ, to_z, of_z, w64, refl, sym, ◌∙◌, subst, rules, arith}
 use Rattle.apl_pool.specs.Summaries.{IsI64, IsSummaryFrom}
 use Rattle.apl_scalar.specs.Scalar.{dyadic_numbers}
 use Rattle.apl_summary.specs.declared.extremum.Extremum.{Extremum}

@@ -2,7 +2,6 @@ use Rattle.std.proofs.Common.{◌≡◌, ◌+◌, ◌-◌, ◌≤◌, ℕ, to_z,
 use Rattle.apl_pool.specs.Summaries.{IsSummaryFrom}
 use Rattle.apl_scalar.specs.Scalar.{dyadic_numbers}
 use Rattle.apl_summary.specs.declared.constants.Constants.{Constants}
-use Rattle.apl_summary.specs.declared.small_constants.SmallConstants.{SmallConstants}
 use Rattle.apl_summary.specs.Constants.{constants_of_one, constants_of_both, signed_function, signed_outcome, AreConstants}
 use Rattle.apl_summary.specs.SmallConstants.{widened, AreSmallConstants}
 use Rattle.apl_summary.proofs.SignedSums.{one_are, joined_are}

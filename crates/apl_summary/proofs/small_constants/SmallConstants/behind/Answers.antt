@@ -1,5 +1,4 @@
-use Rattle.std.proofs.Common.{◌≡◌, ◌+ℤ◌, ◌-ℤ◌, to_z, of_z, w64, ap, rules, arith}
-use Rattle.std.proofs.lemmas.Int.{ints}
+use Rattle.std.proofs.Common.{◌≡◌, to_z, of_z, w64, rules}
 use Rattle.apl_summary.proofs.SmallSums.{behind_is, behind_small}
 use Rattle.apl_summary.proofs.small_constants.SmallConstants.behind.Goals as goal
 

@@ -1,0 +1,21 @@
+-- What the fold of a row is, where a number comes in to it from the right, or there is a fault in its place.
+use Rattle.std.specs.Prelude.{◌≡◌, ℕ, ℤ, ◌<◌, List, Result, Err}
+use Rattle.apl_pool.specs.declared.kernel.Fault.{Fault}
+use Rattle.apl_pool.specs.declared.kernel.Stop.{Stop}
+use Rattle.apl_pool.specs.declared.kernel.Stop.TheVariants.{Fault as FaultAt, Memory}
+use Rattle.apl_pool.specs.Pool.{AreValues, IsLeastFault}
+use Rattle.apl_pool.specs.Summaries.{and_then, fold_onto}
+
+-- the right fold of the items onto what comes in. The fault of the least faulty place is before that in place of what comes in
+pub record IsRowFold (step : ℤ → ℤ → Result ℤ Fault) (item : ℕ → Result ℤ Fault) (count : ℕ) (incoming fold : Result ℤ Fault) : Type 0 where
+  pub folded : (items : List ℤ) → AreValues item count items → fold ≡ and_then incoming (fold_onto step items)
+  pub faulty : (place : ℕ) (fault : Fault) → IsLeastFault item count place fault → fold ≡ Err fault
+
+-- the folds of all rows
+abbrev pub AreRowFolds : (ℤ → ℤ → Result ℤ Fault) → (ℕ → ℕ → Result ℤ Fault) → (rows count : ℕ) → (ℕ → Result ℤ Fault) → (ℕ → Result ℤ Fault) → Type 0
+AreRowFolds step item rows count incoming fold = (row : ℕ) → row < rows → IsRowFold step (item row) count (incoming row) (fold row)
+
+-- a stop within a row as the stop of all rows
+abbrev pub stop_at_row : ℕ → Stop → Stop
+stop_at_row row (FaultAt place fault) = FaultAt row fault
+stop_at_row row Memory = Memory

@@ -1,0 +1,126 @@
+//! Folds of rows by their summaries.
+ghost use Rattle.std.specs.Prelude.{◌≡◌, ℕ, ℤ, ◌<◌, ◌≤◌, true, List, Result, IfOk, IfErr, slice_index_or};
+ghost use Rattle.apl_pool.specs.declared.kernel.Fault.{Fault};
+ghost use Rattle.apl_pool.specs.declared.kernel.TheConstants.{MOST_PLACES};
+ghost use Rattle.apl_pool.specs.Pool.{AreValues, IsStopOf};
+ghost use Rattle.apl_pool.specs.Summaries.{and_then, fold_onto, IsSummaryOf, AreFolds};
+ghost use Rattle.apl_scalar.specs.Scalar.{dyadic_numbers};
+ghost use Rattle.apl_summary.specs.Functions.{has_summary};
+ghost use Rattle.apl_summary.specs.RowFolds.{AreRowFolds, stop_at_row};
+
+use crate::with_summary;
+use apl_array::ScalarFunction;
+use apl_pool::{Cut, Fault, Folds, Gate, Pool, Rows, Stop, Summary};
+use std::alloc::Global;
+use std::thread::Threads;
+
+/// Rows of numbers, each with the number that comes in to it from the right, or the fault that there is in its place.
+pub trait FoldedRows: Rows<Out = i64> {
+    ghost use Rattle.std.specs.Prelude.{◌≡◌, ◌<◌, ℕ, ℤ, Result};
+    ghost use Rattle.apl_pool.specs.declared.kernel.Fault.{Fault};
+
+    // What comes in to each row.
+    ghost incoming: { Self → ℕ → Result ℤ Fault };
+
+    /// What comes in to a row. It takes no memory.
+    fn incoming(&self, row: usize) -> Result<i64, Fault>
+        requires { row < Self.row_count self.now }
+        ensures { result ≡ incoming self.now row };
+}
+
+/// What the summary of a row gives for what comes in to it.
+fn row_fold<S: Summary<Item = i64>, K: FoldedRows>(
+    rows: &K,
+    row: usize,
+    summary: &S,
+) -> Result<i64, Fault>
+    requires { row < K.row_count rows.now }
+    ensures { (items : List ℤ) → IsSummaryOf S.step S.item_count S.outcome summary.now items → result ≡ and_then (K.incoming rows.now row) (fold_onto S.step items) }
+{
+    match rows.incoming(row) {
+        Ok(number) => summary.apply(number),
+        Err(fault) => Err(fault),
+    }
+}
+
+/// A stop within a row as the stop of all rows.
+fn stop_at_row(row: usize, stop: Stop) -> Stop
+    requires { row ≤ MOST_PLACES }
+    ensures { result ≡ stop_at_row row stop }
+{
+    match stop {
+        Stop::Fault { fault, .. } => {
+            let place = row as u32;
+            Stop::Fault { place, fault }
+        }
+        Stop::Memory => Stop::Memory,
+    }
+}
+
+/// The folds of the rows that have summaries, and why there are no more.
+fn row_folds<S: Summary<Item = i64> + Drop, K: FoldedRows>(
+    alloc: Global,
+    rows: &K,
+    folds: Folds<S>,
+) -> Result<Vec<i64>, Stop>
+    requires most { K.row_count rows.now ≤ MOST_PLACES }
+    requires folds { AreFolds S.step S.item_count S.outcome (K.outcome rows.now) (K.row_count rows.now) (K.place_count rows.now) folds.summaries.items folds.end }
+    ensures values { (outcome : ℕ → Result ℤ Fault) → AreRowFolds S.step (K.outcome rows.now) (K.row_count rows.now) (K.place_count rows.now) (K.incoming rows.now) outcome → IfOk result (λ v. AreValues outcome (K.row_count rows.now) v.items) }
+    ensures stop { (outcome : ℕ → Result ℤ Fault) → AreRowFolds S.step (K.outcome rows.now) (K.row_count rows.now) (K.place_count rows.now) (K.incoming rows.now) outcome → IfErr result (IsStopOf outcome (K.row_count rows.now)) }
+{
+    let summaries = folds.summaries.as_slice();
+    let mut numbers = Vec::with_capacity(alloc, summaries.len())?;
+    for row in 0..summaries.len() {
+        match row_fold(rows, row, &summaries[row]) {
+            Ok(number) => numbers.push_reserved(number),
+            Err(fault) => {
+                let place = row as u32;
+                return Err(Stop::Fault { place, fault });
+            }
+        }
+    }
+    match folds.end {
+        Ok(()) => Ok(numbers),
+        Err(stop) => Err(stop_at_row(summaries.len(), stop)),
+    }
+}
+
+/// The folds of all rows by one type of summaries.
+fn fold_rows_by_summary<
+    S: Summary<Item = i64> + Drop + Send,
+    R: Threads + Sync,
+    C: Cut + Sync,
+    G: Gate + Sync,
+    K: FoldedRows + Sync,
+>(rt: &R, alloc: Global, pool: &Pool<C, G>, rows: &K) -> Result<Vec<i64>, Stop>
+    requires some { 0 < K.place_count rows.now }
+    requires most { K.row_count rows.now ≤ MOST_PLACES }
+    ensures values { (outcome : ℕ → Result ℤ Fault) → AreRowFolds S.step (K.outcome rows.now) (K.row_count rows.now) (K.place_count rows.now) (K.incoming rows.now) outcome → IfOk result (λ v. AreValues outcome (K.row_count rows.now) v.items) }
+    ensures stop { (outcome : ℕ → Result ℤ Fault) → AreRowFolds S.step (K.outcome rows.now) (K.row_count rows.now) (K.place_count rows.now) (K.incoming rows.now) outcome → IfErr result (IsStopOf outcome (K.row_count rows.now)) }
+{
+    let folds: Folds<S> = pool.fold_rows(rt, alloc, rows);
+    row_folds(alloc, rows, folds)
+}
+
+/// The right fold of the numbers of each row onto what comes in to it, by a function whose folds have summaries; or the least row
+/// that has a fault, and that fault: the one of its least faulty place, or in place of what comes in, or of the fold, the first of these
+/// that there is. Want of memory may come in place of any answer. The rows have at least one place.
+pub fn fold_rows<R: Threads + Sync, C: Cut + Sync, G: Gate + Sync, K: FoldedRows + Sync>(
+    rt: &R,
+    alloc: Global,
+    pool: &Pool<C, G>,
+    function: ScalarFunction,
+    rows: &K,
+) -> Result<Vec<i64>, Stop>
+    requires summary { has_summary function ≡ true }
+    requires some { 0 < K.place_count rows.now }
+    requires most { K.row_count rows.now ≤ MOST_PLACES }
+    ensures values { (outcome : ℕ → Result ℤ Fault) → AreRowFolds (dyadic_numbers function) (K.outcome rows.now) (K.row_count rows.now) (K.place_count rows.now) (K.incoming rows.now) outcome → IfOk result (λ v. AreValues outcome (K.row_count rows.now) v.items) }
+    ensures stop { (outcome : ℕ → Result ℤ Fault) → AreRowFolds (dyadic_numbers function) (K.outcome rows.now) (K.row_count rows.now) (K.place_count rows.now) (K.incoming rows.now) outcome → IfErr result (IsStopOf outcome (K.row_count rows.now)) }
+{
+    with_summary!(
+        function,
+        fold_rows_by_summary::<S, R, C, G, K>(rt, alloc, pool, rows),
+        unreachable!()
+    )
+}
