@@ -6,13 +6,10 @@ ghost use Rattle.apl_pool.specs.Crew.{AreMarks};
 
 use super::gate::Gate;
 use super::kernel::{Kernel, Stop};
-use super::pass::fill_rooms;
+use super::pass::{Pass, fill_rooms};
 use super::pieces::{Piece, Pieces};
-use super::schedule::Schedule;
-use super::shares::Shares;
 use super::tasks::Values;
 use super::work::write_piece;
-use std::alloc::Global;
 use std::thread::Threads;
 
 /// The values of one piece at its places in the list. Where they don't stand there already the first worker writes them, who passes
@@ -68,25 +65,21 @@ where
 
 /// The values at all places, written into the room for them by several workers.
 pub(crate) fn fill_values<R: Threads + Sync, K: Kernel + Sync, G: Gate + Sync>(
-    rt: &R,
-    alloc: Global,
+    pass: &Pass<R, G>,
     kernel: &K,
-    gate: &G,
-    shares: &Shares,
-    schedule: Schedule,
     values: &mut [K::Out],
 ) -> Result<(), Stop>
 where
     K::Out: Copy + Send,
-    requires rows { shares.now.rows ≡ 1 }
-    requires places { shares.now.pieces.places ≡ K.place_count kernel.now }
-    requires room { length values.old ≡ shares.now.pieces.places }
+    requires rows { pass.now.shares.now.rows ≡ 1 }
+    requires places { pass.now.shares.now.pieces.places ≡ K.place_count kernel.now }
+    requires room { length values.old ≡ pass.now.shares.now.pieces.places }
     ensures ok { OnOk result (AreValuesFrom (K.outcome kernel.now) 0 (K.place_count kernel.now) values.new) }
     ensures stop { IfErr result (IsStopFrom (K.outcome kernel.now) 0 (K.place_count kernel.now)) }
     ensures len { length values.new ≡ length values.old }
 {
-    let pieces = shares.pieces();
+    let pieces = pass.shares.pieces();
     let task = Values { kernel, pieces };
-    let marks = fill_rooms(rt, alloc, &task, gate, shares, schedule, values)?;
-    complete(kernel, gate, pieces, marks.as_slice(), values)
+    let marks = fill_rooms(pass, &task, values)?;
+    complete(kernel, pass.gate, pieces, marks.as_slice(), values)
 }

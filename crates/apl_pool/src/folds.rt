@@ -9,11 +9,9 @@ ghost use Rattle.apl_pool.specs.Summaries.{AreFolds};
 use super::cut::Cut;
 use super::gate::Gate;
 use super::kernel::{Kernel, Stop};
-use super::pass::fill_rooms;
+use super::pass::{Pass, fill_rooms};
 use super::pieces::{Piece, Pieces};
 use super::rows::{Folds, Row, Rows};
-use super::schedule::Schedule;
-use super::shares::Shares;
 use super::summary::{LONGEST_RUN, Summary};
 use super::tasks::Summaries;
 use super::work::{next_piece, stop_at};
@@ -273,27 +271,23 @@ fn fold_into_parts<
     K: Rows<Out = S::Item> + Sync,
     G: Gate + Sync,
 >(
-    rt: &R,
-    alloc: Global,
+    pass: &Pass<R, G>,
     rows: &K,
-    gate: &G,
-    shares: &Shares,
-    schedule: Schedule,
     parts: &mut [Option<S>],
     room: Vec<S>,
 ) -> Result<Folds<S>, AllocError>
     requires some { 0 < K.place_count rows.now }
-    requires rows { shares.now.rows ≡ K.row_count rows.now }
-    requires places { shares.now.pieces.places ≡ K.place_count rows.now }
-    requires parts { K.row_count rows.now * shares.now.pieces.count ≡ length parts.old }
+    requires rows { pass.now.shares.now.rows ≡ K.row_count rows.now }
+    requires places { pass.now.shares.now.pieces.places ≡ K.place_count rows.now }
+    requires parts { K.row_count rows.now * pass.now.shares.now.pieces.count ≡ length parts.old }
     requires empty { vec_len room ≡ 0 }
     requires room { K.row_count rows.now ≤ vec_capacity room }
     ensures { IfOk result (λ f. AreFolds S.step S.item_count S.outcome (K.outcome rows.now) (K.row_count rows.now) (K.place_count rows.now) f.summaries.items f.end) }
 {
-    let pieces = shares.pieces();
+    let pieces = pass.shares.pieces();
     let task = Summaries { rows, pieces };
-    let marks = fill_rooms(rt, alloc, &task, gate, shares, schedule, parts)?;
-    Ok(join_rows(rows, gate, pieces, marks.as_slice(), parts, room))
+    let marks = fill_rooms(pass, &task, parts)?;
+    Ok(join_rows(rows, pass.gate, pieces, marks.as_slice(), parts, room))
 }
 
 /// The summaries of all rows, by several workers.
@@ -302,31 +296,14 @@ pub(crate) fn fold_rows_together<
     S: Summary + Drop + Send,
     K: Rows<Out = S::Item> + Sync,
     G: Gate + Sync,
->(
-    rt: &R,
-    alloc: Global,
-    rows: &K,
-    gate: &G,
-    shares: &Shares,
-    schedule: Schedule,
-    room: Vec<S>,
-) -> Result<Folds<S>, AllocError>
+>(pass: &Pass<R, G>, rows: &K, room: Vec<S>) -> Result<Folds<S>, AllocError>
     requires some { 0 < K.place_count rows.now }
-    requires rows { shares.now.rows ≡ K.row_count rows.now }
-    requires places { shares.now.pieces.places ≡ K.place_count rows.now }
+    requires rows { pass.now.shares.now.rows ≡ K.row_count rows.now }
+    requires places { pass.now.shares.now.pieces.places ≡ K.place_count rows.now }
     requires empty { vec_len room ≡ 0 }
     requires room { K.row_count rows.now ≤ vec_capacity room }
     ensures { IfOk result (λ f. AreFolds S.step S.item_count S.outcome (K.outcome rows.now) (K.row_count rows.now) (K.place_count rows.now) f.summaries.items f.end) }
 {
-    let mut parts = no_parts(alloc, shares.count())?;
-    fold_into_parts(
-        rt,
-        alloc,
-        rows,
-        gate,
-        shares,
-        schedule,
-        parts.as_mut_slice(),
-        room,
-    )
+    let mut parts = no_parts(pass.alloc, pass.shares.count())?;
+    fold_into_parts(pass, rows, parts.as_mut_slice(), room)
 }

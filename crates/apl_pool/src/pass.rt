@@ -16,6 +16,16 @@ use core::slots::{Slots, with_slots};
 use std::alloc::{AllocError, Global};
 use std::thread::Threads;
 
+/// What the workers of a pass share: their threads, memory, the gate, who has which pieces, and how these come to the workers.
+#[derive(Drop)]
+pub(crate) struct Pass<'a, R, G> {
+    pub rt: &'a R,
+    pub alloc: Global,
+    pub gate: &'a G,
+    pub shares: &'a Shares,
+    pub schedule: Schedule,
+}
+
 /// All workers fill the rooms of a row, which comes back with a mark for each piece whose values are right. There are no marks for want
 /// of memory.
 fn fill_row<T: Send, R: Threads + Sync, F: Task<T> + Sync, G: Gate + Sync>(
@@ -54,21 +64,18 @@ fn fill_row<T: Send, R: Threads + Sync, F: Task<T> + Sync, G: Gate + Sync>(
 /// All workers fill the room of each piece where it lies in the list. Of a piece that is marked the values are right; of another one
 /// nothing is known.
 pub(crate) fn fill_rooms<T: Send, R: Threads + Sync, F: Task<T> + Sync, G: Gate + Sync>(
-    rt: &R,
-    alloc: Global,
+    pass: &Pass<R, G>,
     task: &F,
-    gate: &G,
-    shares: &Shares,
-    schedule: Schedule,
     values: &mut [T],
 ) -> Result<Vec<bool>, AllocError>
     requires all { F.start_of task.now (F.piece_count task.now) ≡ length values.old }
-    requires pieces { F.piece_count task.now ≡ shares.now.rows * shares.now.pieces.count }
+    requires pieces { F.piece_count task.now ≡ pass.now.shares.now.rows * pass.now.shares.now.pieces.count }
     ensures len { length values.new ≡ length values.old }
     ensures marks { IfOk result (λ marks. AreMarks (F.is_right task.now) (F.start_of task.now) (F.piece_count task.now) values.new marks.items) }
 {
+    let (alloc, gate, shares) = (pass.alloc, pass.gate, pass.shares);
     let (board, seat) = Board::new(alloc, shares.count() as u32, shares.tasks() as u8)?;
-    let ends = match schedule {
+    let ends = match pass.schedule {
         Schedule::Claims => Vec::new(alloc),
         Schedule::Deques => deal(alloc, shares)?,
     };
@@ -76,7 +83,7 @@ pub(crate) fn fill_rooms<T: Send, R: Threads + Sync, F: Task<T> + Sync, G: Gate 
         with_slots(
             values,
             &mut (),
-            rt,
+            pass.rt,
             |row: Slots<T>, _: (), rt: &R| -> (Slots<T>, (), Option<Vec<bool>>)
                 requires { IsSync F.row × IsSync G.row × IsFull row × (F.start_of task.now (F.piece_count task.now) ≡ slots_len row) × (F.piece_count task.now ≡ shares.now.rows * shares.now.pieces.count)
                     × IsSeatOf board seat × ((view seat).share ≡ shares.now.tasks) }

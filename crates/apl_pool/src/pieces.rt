@@ -103,6 +103,7 @@ impl Pieces {
             to: self.start(number + 1),
         }
     }
+
     /// The piece with this number, under another one that is told in its place.
     pub(crate) fn piece_as(&self, number: usize, told: u32) -> Piece
         requires { number < self.now.count }

@@ -10,6 +10,7 @@ use super::cut::Cut;
 use super::folds::{fold_rows_alone, fold_rows_together};
 use super::gate::Gate;
 use super::kernel::{Kernel, MOST_PLACES, Stop};
+use super::pass::Pass;
 use super::pieces::piece_end;
 use super::rows::{Folds, OneRow, Rows};
 use super::schedule::Schedule;
@@ -99,7 +100,7 @@ impl<C: Cut + Sync, G: Gate + Sync> Pool<C, G> {
         }
         let value = first_value(kernel)?;
         let shares = Shares::new(alloc, &self.cut, 1, count, end, self.workers)?;
-        self.fill_shares(rt, alloc, kernel, &shares, value)
+        fill_shares(&self.pass(rt, alloc, &shares), kernel, value)
     }
 
     /// The summary of the items at all places, in their order, or the least place that has a fault, and
@@ -166,30 +167,40 @@ impl<C: Cut + Sync, G: Gate + Sync> Pool<C, G> {
             return Ok(fold_rows_alone(rows, &self.cut, &self.gate, last, end, room));
         }
         let shares = Shares::new(alloc, &self.cut, count, places, end, self.workers)?;
-        fold_rows_together(rt, alloc, rows, &self.gate, &shares, self.schedule, room)
+        fold_rows_together(&self.pass(rt, alloc, &shares), rows, room)
     }
 
-    /// The value at each place, by several workers, who write into a list that is made full of one value.
-    fn fill_shares<R: Threads + Sync, K: Kernel + Sync>(
-        &self,
-        rt: &R,
-        alloc: Global,
-        kernel: &K,
-        shares: &Shares,
-        value: K::Out,
-    ) -> Result<Vec<K::Out>, Stop>
-    where
-        K::Out: Copy + Send,
-        requires rows { shares.now.rows ≡ 1 }
-        requires places { shares.now.pieces.places ≡ K.place_count kernel.now }
-        ensures values { IfOk result (λ v. AreValues (K.outcome kernel.now) (K.place_count kernel.now) v.items) }
-        ensures stop { IfErr result (IsStopOf (K.outcome kernel.now) (K.place_count kernel.now)) }
+    /// A pass of several workers who have these shares.
+    fn pass<'a, R>(&'a self, rt: &'a R, alloc: Global, shares: &'a Shares) -> Pass<'a, R, G>
+        ensures { result.shares.now ≡ shares.now }
     {
-        let mut values = vec![in alloc; value; kernel.count()]?;
-        let room = values.as_mut_slice();
-        fill_values(rt, alloc, kernel, &self.gate, shares, self.schedule, room)?;
-        Ok(values)
+        Pass {
+            rt,
+            alloc,
+            gate: &self.gate,
+            shares,
+            schedule: self.schedule,
+        }
     }
+}
+
+/// The value at each place, by several workers, who write into a list that is made full of one value.
+fn fill_shares<R: Threads + Sync, K: Kernel + Sync, G: Gate + Sync>(
+    pass: &Pass<R, G>,
+    kernel: &K,
+    value: K::Out,
+) -> Result<Vec<K::Out>, Stop>
+where
+    K::Out: Copy + Send,
+    requires rows { pass.now.shares.now.rows ≡ 1 }
+    requires places { pass.now.shares.now.pieces.places ≡ K.place_count kernel.now }
+    ensures values { IfOk result (λ v. AreValues (K.outcome kernel.now) (K.place_count kernel.now) v.items) }
+    ensures stop { IfErr result (IsStopOf (K.outcome kernel.now) (K.place_count kernel.now)) }
+{
+    let mut values = vec![in pass.alloc; value; kernel.count()]?;
+    let room = values.as_mut_slice();
+    fill_values(pass, kernel, room)?;
+    Ok(values)
 }
 
 /// The value at the first place. It is computed again with its piece.

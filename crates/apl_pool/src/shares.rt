@@ -106,6 +106,8 @@ impl Shares {
     /// The share with this number.
     pub(crate) fn share(&self, task: usize) -> Share
         requires { task < self.now.tasks }
+        ensures from { result.from ≡ task * (self.now.rows * self.now.pieces.count) / self.now.tasks }
+        ensures to { result.to ≡ (task + 1) * (self.now.rows * self.now.pieces.count) / self.now.tasks }
         ensures order { result.from ≤ result.to }
         ensures within { result.to ≤ self.now.rows * self.now.pieces.count }
     {

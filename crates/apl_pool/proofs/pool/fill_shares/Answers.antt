@@ -3,7 +3,7 @@ use Rattle.std.proofs.Math.Seq.{take-append_seam}
 use Rattle.std.proofs.lemmas.Result.{err_from_is_err_and}
 use Rattle.apl_pool.specs.Pool.{AreValues}
 use Rattle.apl_pool.proofs.Values.{AreValues-from_zero, IsStopOf-from_zero}
-use Rattle.apl_pool.proofs.pool.Pool.fill_shares.Goals as goal
+use Rattle.apl_pool.proofs.pool.fill_shares.Goals as goal
 
 pub returns-in_err-fill_values-clause-stop : goal.returns-in_err-fill_values-clause-stop
 returns-in_err-fill_values-clause-stop g c =
