@@ -72,7 +72,8 @@ fn fold_run<S: Summary + Drop, K: Kernel<Out = S::Item>>(
     }
 }
 
-/// The summary of the items at the places from `from` up to before `to`, where there are some, run by run.
+/// The summary of the items at the places from `from` up to before `to`, where there are some, run by run from the last one: a run is
+/// summarized from its last item, so memory is read in one direction. Where an item has a fault they are looked at from the first.
 pub(crate) fn fold_places<S: Summary + Drop, K: Kernel<Out = S::Item>>(
     kernel: &K,
     from: usize,
@@ -84,11 +85,14 @@ pub(crate) fn fold_places<S: Summary + Drop, K: Kernel<Out = S::Item>>(
     ensures { IsFoldedPart S.step S.item_count S.outcome (K.outcome kernel.now) from to result }
 {
     let mut folded = None;
-    let mut start = from;
-    while start < to {
-        let end = start + (to - start).min(LONGEST_RUN);
-        folded = join_both(folded, fold_run(kernel, start, end)?);
-        start = end;
+    let mut end = to;
+    while from < end {
+        let start = end - (end - from).min(LONGEST_RUN);
+        let Ok(run) = fold_run(kernel, start, end) else {
+            return fold_items(kernel, from, to);
+        };
+        folded = join_both(run, folded);
+        end = start;
     }
     Ok(folded)
 }
