@@ -1,5 +1,5 @@
 //! Boards with one seat and with several, by one thread and by three.
-ghost use Rattle.std.specs.Prelude.{◌≡◌, ◌+◌, ◌<◌, IfOk};
+ghost use Rattle.std.specs.Prelude.{◌≡◌, ◌+◌, ◌<◌, ◌≤◌, IfOk};
 ghost use Rattle.apl_board.specs.Seats.{view, IsSeatOf};
 
 use apl_board::{Board, BoardSeat, Closed, SplitStop};
@@ -93,8 +93,8 @@ fn board_split(rt: HostRuntime) -> Result<(), Fail> {
     Ok(())
 }
 
-/// How many pieces three threads share.
-const PIECES: u32 = 10_000;
+/// The most pieces that three threads share.
+const MOST_PIECES: u32 = 10_000;
 
 /// How often a seat looks for a place before it goes on without it.
 const LOOKS: u32 = 1_000_000;
@@ -115,18 +115,18 @@ fn await_place(board: &Board, seat: &mut BoardSeat, place: u32)
 /// A seat, and what it was given, or that there was no memory for it.
 type Drained = Result<(BoardSeat, Vec<u32>), AllocError>;
 
-/// Reports its turn after the one above it, and claims until no piece is left once all turns down to 0 are
+/// Reports a place after the one above it, and claims until no piece is left once the places 9, 8 and 7 are
 /// reported. So the threads claim at the same time, where they run at the same time.
-fn drain(alloc: Global, board: &Board, mut seat: BoardSeat, turn: u32) -> Drained
+fn drain(alloc: Global, board: &Board, mut seat: BoardSeat, place: u32) -> Drained
     requires board { IsSeatOf board.now seat }
-    requires turn { turn < 3 }
+    requires place { place ≤ 9 }
     ensures { IfOk result (λ r. IsSeatOf board.now r.0 × ((view r.0).share ≡ (view seat).share)) }
 {
-    await_place(board, &mut seat, turn + 1);
-    board.report(&mut seat, turn);
-    await_place(board, &mut seat, 0);
+    await_place(board, &mut seat, place + 1);
+    board.report(&mut seat, place);
+    await_place(board, &mut seat, 7);
     let mut given = Vec::new(alloc);
-    for _ in 0..=PIECES {
+    for _ in 0..=MOST_PIECES {
         let Some(number) = board.claim(&mut seat) else {
             break
         };
@@ -135,7 +135,7 @@ fn drain(alloc: Global, board: &Board, mut seat: BoardSeat, turn: u32) -> Draine
     Ok((seat, given))
 }
 
-/// The turns 1 and 0 in two threads.
+/// Two seats in two threads: the places 8 and 7.
 fn drain_both<R: Threads + Sync>(
     rt: &R,
     alloc: Global,
@@ -152,33 +152,31 @@ fn drain_both<R: Threads + Sync>(
         move ||
             requires { IsSeatOf board.now second }
             ensures { IfOk result (λ r. IsSeatOf board.entry.now r.0 × ((view r.0).share ≡ (view second).share)) }
-        { drain(alloc, board, second, 1) },
+        { drain(alloc, board, second, 8) },
         move ||
             requires { IsSeatOf board.now third }
             ensures { IfOk result (λ r. IsSeatOf board.entry.now r.0 × ((view r.0).share ≡ (view third).share)) }
-        { drain(alloc, board, third, 0) },
+        { drain(alloc, board, third, 7) },
     )
 }
 
-/// Three threads share the pieces: each number is given once.
-#[test]
-fn board_threads(rt: HostRuntime) -> Result<(), Fail> {
-    let alloc = rt.alloc();
-    let (board, mut seat) = Board::new(alloc, PIECES, 3)?;
-    board.report(&mut seat, 3);
+/// How three threads share so many pieces: whether each number is given once, and what the board has come to.
+fn share_out<R: Threads + Sync>(rt: &R, alloc: Global, pieces: u32) -> Result<(bool, Closed), Fail> {
+    let (board, mut seat) = Board::new(alloc, pieces, 3)?;
+    board.report(&mut seat, 10);
     let (seat, third) = cut_one(&board, seat);
     let (first, second) = cut_one(&board, seat);
     let shared = &board;
     let (one, (two, three)) = thread::join(
-        &rt,
+        rt,
         move ||
             requires { IsSeatOf shared.now first }
             ensures { IfOk result (λ r. IsSeatOf shared.entry.now r.0 × ((view r.0).share ≡ (view first).share)) }
-        { drain(alloc, shared, first, 2) },
-        || drain_both(&rt, alloc, shared, second, third),
+        { drain(alloc, shared, first, 9) },
+        || drain_both(rt, alloc, shared, second, third),
     );
     let ((first, one), (second, two), (third, three)) = (one?, two?, three?);
-    let mut times = vec![in alloc; 0u8; PIECES as usize]?;
+    let mut times = vec![in alloc; 0u8; pieces as usize]?;
     for given in [&one, &two, &three] {
         for number in given {
             if let Some(n) = times.get_mut(*number as usize) {
@@ -188,11 +186,18 @@ fn board_threads(rt: HostRuntime) -> Result<(), Fail> {
     }
     let once = times.iter().all(|n| *n == 1);
     let seat = board.join(board.join(first, second), third);
-    let closed = board.close(seat);
-    let wanted = Closed {
-        given: PIECES,
-        least: Some(0),
-    };
-    assert!(rt; (once, closed) == (true, wanted));
+    Ok((once, board.close(seat)))
+}
+
+/// Three threads share the pieces: each number is given once, and the least of their places is known.
+#[test]
+fn board_threads(rt: HostRuntime) -> Result<(), Fail> {
+    for pieces in [100, MOST_PIECES] {
+        let wanted = Closed {
+            given: pieces,
+            least: Some(7),
+        };
+        assert!(rt; share_out(&rt, rt.alloc(), pieces)? == (true, wanted));
+    }
     Ok(())
 }

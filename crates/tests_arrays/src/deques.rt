@@ -1,6 +1,7 @@
 //! Deques of pieces: what an owner and thieves get, one after the other and at the same time.
 use apl_yard::{Hand, Taken, Thief, Yard};
 use std::alloc::{AllocError, Global};
+use std::sync::atomic::{AtomicU64, Ordering};
 use std::test::Fail;
 use std::thread::{self, Threads};
 
@@ -40,15 +41,33 @@ fn yard_full(rt: HostRuntime) -> Result<(), Fail> {
     Ok(())
 }
 
+/// Three threads wait here until each of them has come, or for long enough.
+#[derive(Drop)]
+struct Start {
+    come: AtomicU64,
+}
+
+impl Start {
+    fn meet(&self) {
+        self.come.fetch_add(1, Ordering::SeqCst);
+        for _ in 0..2_000_000_000u64 {
+            if self.come.load(Ordering::SeqCst) >= 3 {
+                return;
+            }
+        }
+    }
+}
+
 /// What an end took, or the want of memory.
 type Pieces = Result<Vec<u32>, AllocError>;
 
-/// The owner's share: it pushes so many pieces, and takes until there is none.
-fn push_and_pop(alloc: Global, hand: &mut Hand, pieces: u32) -> Pieces {
+/// The owner's share: it pushes so many pieces, and takes until there is none, once the thieves have come.
+fn push_and_pop(alloc: Global, start: &Start, hand: &mut Hand, pieces: u32) -> Pieces {
     let mut taken = Vec::new(alloc);
     for piece in 0..pieces {
         let _ = hand.push(piece);
     }
+    start.meet();
     for _ in 0..MOST_TRIES {
         let Some(piece) = hand.pop() else { break };
         taken.push(piece)?;
@@ -56,9 +75,10 @@ fn push_and_pop(alloc: Global, hand: &mut Hand, pieces: u32) -> Pieces {
     Ok(taken)
 }
 
-/// A thief's share: it takes until there is nothing.
-fn steal_all(alloc: Global, thief: &mut Thief) -> Pieces {
+/// A thief's share: it takes until there is nothing, once the pieces are pushed.
+fn steal_all(alloc: Global, start: &Start, thief: &mut Thief) -> Pieces {
     let mut taken = Vec::new(alloc);
+    start.meet();
     for _ in 0..MOST_TRIES {
         match thief.steal() {
             Taken::Piece(piece) => taken.push(piece)?,
@@ -88,14 +108,17 @@ fn share_out<R: Threads + Sync>(rt: &R, alloc: Global) -> Result<[u8; 200], Fail
     let (Some(mut first), Some(mut second)) = (thieves.pop(), thieves.pop()) else {
         return Err(Fail::new("two thieves are asked for"));
     };
+    let start = &Start {
+        come: AtomicU64::new(0),
+    };
     let (owner, (first, second)) = thread::join(
         rt,
-        move || push_and_pop(alloc, &mut hand, 200),
+        move || push_and_pop(alloc, start, &mut hand, 200),
         || {
             thread::join(
                 rt,
-                move || steal_all(alloc, &mut first),
-                move || steal_all(alloc, &mut second),
+                move || steal_all(alloc, start, &mut first),
+                move || steal_all(alloc, start, &mut second),
             )
         },
     );

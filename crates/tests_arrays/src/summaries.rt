@@ -1,13 +1,17 @@
 //! Summaries of a few items in each nesting, and folds of random numbers in each cutting.
-ghost use Rattle.std.specs.Prelude.{◌≤◌, IsTrue};
+ghost use Rattle.std.specs.Prelude.{◌≡◌, ◌≤◌, true, IsTrue, length};
 ghost use Rattle.apl_array.specs.Valences.{has_dyadic};
+ghost use Rattle.apl_pool.specs.declared.kernel.TheConstants.{MOST_PLACES};
+ghost use Rattle.apl_summary.specs.Functions.{has_summary};
 
 use apl_array::{Array, Axis, Elem, Shape};
-use apl_pool::{Cut, Fault, Open, Pool, Summary};
+use apl_pool::{Cut, Fault, MOST_PLACES, Open, Pool, Rows, Schedule, Stop, Summary};
 use apl_reduce::reduce;
 use apl_scalar::function_types::{And, Less};
 use apl_scalar::{OpFault, Prim, apply2};
-use apl_summary::{Extreme, Scaled, SignedSum, TwoValued};
+use apl_summary::{
+    Extreme, FoldedRows, Scaled, SignedSum, TwoValued, fold_rows, has_summary,
+};
 use std::alloc::Global;
 use std::test::Fail;
 use std::thread::Threads;
@@ -156,36 +160,119 @@ const FUNCTIONS: [Prim; 15] = [
     Prim::NotEqual,
 ];
 
-/// Whether each cutting of the items gives what one pass from the right gives.
+/// All items but the last, to which the last one comes in.
+#[derive(Drop)]
+struct AllButLast<'a> {
+    items: &'a [i64],
+    ghost two: { 2 ≤ length items.now },
+    ghost most: { length items.now ≤ MOST_PLACES },
+}
+
+impl Rows for AllButLast<'_> {
+    ghost use Rattle.std.specs.Prelude.{◌-◌, Ok, length, slice_index};
+
+    type Out = i64;
+
+    ghost row_count = { λ r. 1 };
+
+    ghost place_count = { λ r. length r.items.now - 1 };
+
+    ghost outcome = { λ r row place. Ok (slice_index r.items.now place) };
+
+    fn rows(&self) -> usize {
+        1
+    }
+
+    fn count(&self) -> usize {
+        self.items.len() - 1
+    }
+
+    fn at(&self, _row: usize, place: usize) -> Result<i64, Fault> {
+        Ok(self.items[place])
+    }
+}
+
+impl FoldedRows for AllButLast<'_> {
+    ghost use Rattle.std.specs.Prelude.{◌-◌, Ok, length, slice_index};
+
+    ghost incoming = { λ r row. Ok (slice_index r.items.now (length r.items.now - 1)) };
+
+    fn incoming(&self, _row: usize) -> Result<i64, Fault> {
+        Ok(self.items[self.items.len() - 1])
+    }
+}
+
+/// Whether the fold of all items by their summaries is what one pass from the right answers.
+fn is_folded(answer: Result<Vec<i64>, Stop>, wanted: Result<Elem, Fault>) -> bool {
+    match (answer, wanted) {
+        (Ok(folds), Ok(Elem::Int(wanted))) => folds.as_slice() == [wanted].as_slice(),
+        (Err(Stop::Fault { place, fault }), Err(wanted)) => place == 0 && fault == wanted,
+        _ => false,
+    }
+}
+
+/// Whether one worker, who joins the summaries of each cutting of the items, has what is wanted.
+fn every_nesting_agrees<R: Threads + Sync>(
+    rt: &R,
+    alloc: Global,
+    f: Prim,
+    items: &[i64],
+    wanted: Result<Elem, Fault>,
+) -> bool
+    requires summary { has_summary f ≡ true }
+    requires few { length items.now ≤ 8 }
+{
+    if items.len() < 2 {
+        return true;
+    }
+    let mut agree = true;
+    for mask in 0..1u64 << (items.len() - 2) {
+        let pool = Pool::new(1, Masked(mask), Open);
+        agree &= is_folded(fold_rows(rt, alloc, &pool, f, &AllButLast { items }), wanted);
+    }
+    agree
+}
+
+/// Whether three workers who share each cutting of at most eight items have what is wanted.
+fn every_share_agrees<R: Threads + Sync>(
+    rt: &R,
+    alloc: Global,
+    schedule: Schedule,
+    f: Prim,
+    array: &Array,
+    wanted: Result<Elem, Fault>,
+) -> bool
+    requires { IsTrue (has_dyadic f) }
+{
+    let mut agree = true;
+    for mask in 0..1u64 << (array.shape().count().clamp(2, 8) - 2) {
+        let pool = Pool::with(3, schedule, Masked(mask), Open);
+        agree &= is_one_pass(reduce(rt, alloc, &pool, f, array, Axis::Last), wanted);
+    }
+    agree
+}
+
+/// Whether each cutting of the items gives what one pass from the right gives: by one worker, and by three where they share them.
 fn every_cutting_agrees<R: Threads + Sync>(
     rt: &R,
     alloc: Global,
-    workers: u8,
-    items: Vec<i64>,
-) -> Result<bool, Fail>
-    requires some { 1 ≤ workers }
-    requires most { workers ≤ 64 }
-{
+    f: Prim,
+    items: &[i64],
+    is_shared: bool,
+) -> Result<bool, Fail> {
     let shape = Shape::new(alloc, &[items.len()])?;
-    if items.len() != shape.count() || items.len() > 8 {
+    if !f.is_dyadic() || !has_summary(f) || items.len() > 8 || items.len() != shape.count() {
         return Ok(false);
     }
-    // All items but the last are cut.
-    let cuttings = 1u64 << items.len().saturating_sub(2);
-    let list = Vec::from_slice(alloc, items.as_slice())?;
-    let array = Array::ints(shape, items);
-    let mut agree = true;
-    for f in FUNCTIONS {
-        if !f.is_dyadic() {
-            return Ok(false);
-        }
-        let wanted = one_pass(f, list.as_slice());
-        for mask in 0..cuttings {
-            let pool = Pool::new(workers, Masked(mask), Open);
-            agree &= is_one_pass(reduce(rt, alloc, &pool, f, &array, Axis::Last), wanted);
-        }
+    let wanted = one_pass(f, items);
+    let alone = every_nesting_agrees(rt, alloc, f, items, wanted);
+    if !is_shared {
+        return Ok(alone);
     }
-    Ok(agree)
+    let array = Array::ints(shape, Vec::from_slice(alloc, items)?);
+    let claimed = every_share_agrees(rt, alloc, Schedule::Claims, f, &array, wanted);
+    let taken = every_share_agrees(rt, alloc, Schedule::Deques, f, &array, wanted);
+    Ok(alone && claimed && taken)
 }
 
 /// A thousand lists by one worker, and some by three.
@@ -194,9 +281,10 @@ fn random_folds(rt: HostRuntime) -> Result<(), Fail> {
     let alloc = rt.alloc();
     let mut random = Random { state: 1968 };
     for round in 0..1000u32 {
-        let workers = if round % 20 == 0 { 3 } else { 1 };
         let items = random.numbers(alloc)?;
-        assert!(rt; every_cutting_agrees(&rt, alloc, workers, items)?);
+        for f in FUNCTIONS {
+            assert!(rt; every_cutting_agrees(&rt, alloc, f, items.as_slice(), round % 20 == 0)?);
+        }
     }
     Ok(())
 }

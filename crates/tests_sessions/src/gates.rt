@@ -174,15 +174,28 @@ fn holds_while_folding<R: Threads + Sync>(
     Ok(sum.apply(0) == Ok((pieces * length) as i64) && holding.met() == 2)
 }
 
+/// Whether both held pieces go on while two workers fill, and while they sum, the places of so many pieces.
+fn holds<R: Threads + Sync>(
+    rt: &R,
+    alloc: Global,
+    schedule: Schedule,
+    awaited: [usize; 2],
+    pieces: usize,
+    length: usize,
+) -> Result<bool, Fail>
+    requires { (0 < pieces) × (pieces ≤ 4) × (0 < length) × (length ≤ HALF) }
+{
+    let filled = holds_while_filling(rt, alloc, schedule, awaited, pieces, length)?;
+    let folded = holds_while_folding(rt, alloc, schedule, awaited, pieces, length)?;
+    Ok(filled && folded)
+}
+
 /// Each of two pieces waits for the other one.
 #[test]
 fn gate_two(rt: HostRuntime) -> Result<(), Fail> {
-    let alloc = rt.alloc();
     for schedule in [Schedule::Claims, Schedule::Deques] {
         for length in [1, HALF] {
-            let filled = holds_while_filling(&rt, alloc, schedule, [1, 0], 2, length)?;
-            let folded = holds_while_folding(&rt, alloc, schedule, [1, 0], 2, length)?;
-            assert!(rt; filled && folded);
+            assert!(rt; holds(&rt, rt.alloc(), schedule, [1, 0], 2, length)?);
         }
     }
     Ok(())
@@ -191,12 +204,9 @@ fn gate_two(rt: HostRuntime) -> Result<(), Fail> {
 /// Of four pieces the first two wait for each other, so they come to two workers.
 #[test]
 fn gate_four(rt: HostRuntime) -> Result<(), Fail> {
-    let alloc = rt.alloc();
     for schedule in [Schedule::Claims, Schedule::Deques] {
         for length in [1, 1000] {
-            let filled = holds_while_filling(&rt, alloc, schedule, [1, 0], 4, length)?;
-            let folded = holds_while_folding(&rt, alloc, schedule, [1, 0], 4, length)?;
-            assert!(rt; filled && folded);
+            assert!(rt; holds(&rt, rt.alloc(), schedule, [1, 0], 4, length)?);
         }
     }
     Ok(())
@@ -205,11 +215,8 @@ fn gate_four(rt: HostRuntime) -> Result<(), Fail> {
 /// Of four pieces in two deques the first two wait for the last one, which is the second worker's from the start.
 #[test]
 fn gate_deal(rt: HostRuntime) -> Result<(), Fail> {
-    let alloc = rt.alloc();
     for length in [1, 1000] {
-        let filled = holds_while_filling(&rt, alloc, Schedule::Deques, [3, 3], 4, length)?;
-        let folded = holds_while_folding(&rt, alloc, Schedule::Deques, [3, 3], 4, length)?;
-        assert!(rt; filled && folded);
+        assert!(rt; holds(&rt, rt.alloc(), Schedule::Deques, [3, 3], 4, length)?);
     }
     Ok(())
 }
@@ -430,6 +437,86 @@ const REDUCTIONS: [(&str, &str); 116] = [
     ("R+.×C", "3 3\n"),
 ];
 
+/// The functions whose folds are cut along the axis, of `F`, whose elements are all 1: one result, whose items but the last are as many as
+/// `A` has elements; here is what it is for three items.
+const CUT_FOLDS: [(&str, &str); 75] = [
+    ("+/F", "3\n"),
+    ("+⌿F", "3\n"),
+    ("+/[1]F", "3\n"),
+    ("+⌿[1]F", "3\n"),
+    ("F+.×F", "3\n"),
+    ("-/F", "1\n"),
+    ("-⌿F", "1\n"),
+    ("-/[1]F", "1\n"),
+    ("-⌿[1]F", "1\n"),
+    ("F-.×F", "1\n"),
+    ("×/F", "1\n"),
+    ("×⌿F", "1\n"),
+    ("×/[1]F", "1\n"),
+    ("×⌿[1]F", "1\n"),
+    ("F×.×F", "1\n"),
+    ("⌊/F", "1\n"),
+    ("⌊⌿F", "1\n"),
+    ("⌊/[1]F", "1\n"),
+    ("⌊⌿[1]F", "1\n"),
+    ("F⌊.×F", "1\n"),
+    ("⌈/F", "1\n"),
+    ("⌈⌿F", "1\n"),
+    ("⌈/[1]F", "1\n"),
+    ("⌈⌿[1]F", "1\n"),
+    ("F⌈.×F", "1\n"),
+    ("∧/F", "1\n"),
+    ("∧⌿F", "1\n"),
+    ("∧/[1]F", "1\n"),
+    ("∧⌿[1]F", "1\n"),
+    ("F∧.×F", "1\n"),
+    ("∨/F", "1\n"),
+    ("∨⌿F", "1\n"),
+    ("∨/[1]F", "1\n"),
+    ("∨⌿[1]F", "1\n"),
+    ("F∨.×F", "1\n"),
+    ("⍲/F", "1\n"),
+    ("⍲⌿F", "1\n"),
+    ("⍲/[1]F", "1\n"),
+    ("⍲⌿[1]F", "1\n"),
+    ("F⍲.×F", "1\n"),
+    ("⍱/F", "0\n"),
+    ("⍱⌿F", "0\n"),
+    ("⍱/[1]F", "0\n"),
+    ("⍱⌿[1]F", "0\n"),
+    ("F⍱.×F", "0\n"),
+    ("</F", "0\n"),
+    ("<⌿F", "0\n"),
+    ("</[1]F", "0\n"),
+    ("<⌿[1]F", "0\n"),
+    ("F<.×F", "0\n"),
+    ("≤/F", "1\n"),
+    ("≤⌿F", "1\n"),
+    ("≤/[1]F", "1\n"),
+    ("≤⌿[1]F", "1\n"),
+    ("F≤.×F", "1\n"),
+    ("=/F", "1\n"),
+    ("=⌿F", "1\n"),
+    ("=/[1]F", "1\n"),
+    ("=⌿[1]F", "1\n"),
+    ("F=.×F", "1\n"),
+    ("≥/F", "1\n"),
+    ("≥⌿F", "1\n"),
+    ("≥/[1]F", "1\n"),
+    ("≥⌿[1]F", "1\n"),
+    ("F≥.×F", "1\n"),
+    (">/F", "1\n"),
+    (">⌿F", "1\n"),
+    (">/[1]F", "1\n"),
+    (">⌿[1]F", "1\n"),
+    ("F>.×F", "1\n"),
+    ("≠/F", "1\n"),
+    ("≠⌿F", "1\n"),
+    ("≠/[1]F", "1\n"),
+    ("≠⌿[1]F", "1\n"),
+    ("F≠.×F", "1\n"),
+];
+
 /// Answers a session by two workers and pieces of this length. Says whether it wrote the text, and both pieces met
 /// at each of so many functions.
 fn meets<R: Threads + Sync>(
@@ -464,6 +551,15 @@ fn ones(alloc: Global, count: usize) -> Result<String, AllocError> {
     }
     line.push_str("'\n")?;
     Ok(line)
+}
+
+/// Adds the line that makes `F` so many numbers 1, by a constant.
+fn push_items(session: &mut String, count: usize) -> Result<(), AllocError> {
+    session.push_str("F←")?;
+    for _ in 0..count {
+        session.push_str("1 ")?;
+    }
+    session.push('\n')
 }
 
 #[test]
@@ -516,13 +612,14 @@ fn each_structural_function_uses_the_pool(rt: HostRuntime) -> Result<(), Fail> {
 #[test]
 fn each_reduction_uses_the_pool(rt: HostRuntime) -> Result<(), Fail> {
     let alloc = rt.alloc();
-    let mut two = String::from_str(alloc, "V←3 2\nW←2 3\nR←1 1 1\nA←1 1\n")?;
+    let mut two = String::from_str(alloc, "V←3 2\nW←2 3\nR←1 1 1\nA←1 1\nF←1 1 1\n")?;
     two.push_str(ITEMS)?;
     let mut texts = String::new(alloc);
     let mut some = ones(alloc, 2048)?;
     some.push_str("V←2 2048\nW←2048 2\nR←1 1\n")?;
     some.push_str(ITEMS)?;
-    for (function, text) in &REDUCTIONS {
+    push_items(&mut some, 2049)?;
+    for (function, text) in REDUCTIONS.iter().chain(CUT_FOLDS.iter()) {
         write!(two, "{function}\n")?;
         texts.push_str(text)?;
         write!(some, "B←{function}\n")?;
@@ -531,8 +628,8 @@ fn each_reduction_uses_the_pool(rt: HostRuntime) -> Result<(), Fail> {
     many.push_str("V←2 1048576\nB←+⌿V⍴A\nB←A∘.×1\nB←+/A\nB←A+.×A\n")?;
     // Both workers meet three times where they reshape, and once at each place of a fold whose items they share.
     for schedule in [Schedule::Claims, Schedule::Deques] {
-        assert!(rt; meets(&rt, alloc, schedule, 1, two.as_str(), 198, texts.as_str()));
-        assert!(rt; meets(&rt, alloc, schedule, 1024, some.as_str(), 121, ""));
+        assert!(rt; meets(&rt, alloc, schedule, 1, two.as_str(), 273, texts.as_str()));
+        assert!(rt; meets(&rt, alloc, schedule, 1024, some.as_str(), 196, ""));
         assert!(rt; meets(&rt, alloc, schedule, HALF, many.as_str(), 7, ""));
     }
     Ok(())

@@ -3,7 +3,7 @@ mod reductions;
 mod structures;
 mod tables;
 
-use apl_pool::{Every, Open, Pool};
+use apl_pool::{Every, Open, Pool, Schedule};
 use apl_print::MemorySink;
 use apl_session::{MemorySource, run};
 use reductions::{DIGITS, FOLDED, PRODUCTS};
@@ -42,7 +42,7 @@ const WORKERS: [u8; 4] = [1, 2, 3, 64];
 /// What a cut answers to how many elements a piece has. One of none and one of more than there are cut too.
 const PIECES: [usize; 6] = [1, 2, 3, 4096, 0, usize::MAX];
 
-/// Checks what each session of a table writes, by takes and puts of each size, and on each pool.
+/// Checks what each session of a table writes, by takes and puts of each size, and on each pool under both schedules.
 fn check<R: Abort + Threads + Sync>(rt: &R, alloc: Global, sessions: &[(&str, &str)]) {
     let pool = Pool::new(3, Every(2), Open);
     for most in SIZES {
@@ -50,8 +50,10 @@ fn check<R: Abort + Threads + Sync>(rt: &R, alloc: Global, sessions: &[(&str, &s
     }
     for workers in WORKERS {
         for piece in PIECES {
-            let pool = Pool::new(workers, Every(piece), Open);
-            check_on(rt, alloc, &pool, ALL, sessions);
+            for schedule in [Schedule::Claims, Schedule::Deques] {
+                let pool = Pool::with(workers, schedule, Every(piece), Open);
+                check_on(rt, alloc, &pool, ALL, sessions);
+            }
         }
     }
 }
