@@ -276,7 +276,7 @@ pub(crate) fn fill_number_folds<R: Threads + Sync, C: Cut + Sync, G: Gate + Sync
     ensures values { IfOk result (λ v. AreValues (λ place. fold_at f (map Int axis.now.elements.now) axis.now.items axis.now.block axis.now.inner place) axis.now.count v.items) }
     ensures stop { IfErr result (IsStopOf (λ place. fold_at f (map Int axis.now.elements.now) axis.now.items axis.now.block axis.now.inner place) axis.now.count) }
 {
-    if axis.has_narrow_rows() && shares_items(pool, f, axis.count, axis.items) {
+    if shares_items(pool, f, axis.count, axis.items) {
         return apl_summary::fold_rows(rt, alloc, pool, f, &AxisRows { axis });
     }
     with_type!(f, fill_folds::<F, i64, R, C, G>(rt, alloc, pool, axis))

@@ -31,7 +31,7 @@ pub(crate) fn fold_step<F: Function>(item: Elem, total: Result<i64, Fault>) -> R
 }
 
 /// The right fold of `count` elements that stand `stride` apart from place `first` on.
-#[inline(always)]
+#[inline(never)]
 pub(crate) fn fold_along<F: Function, T: Element>(
     elements: &[T],
     first: usize,

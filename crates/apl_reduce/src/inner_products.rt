@@ -1,9 +1,11 @@
 //! Inner products.
-ghost use Rattle.std.specs.Prelude.{◌≡◌, ℕ, ◌+◌, ◌*◌, ◌/◌, ◌%◌, ◌<◌, IfErr, IfOk, IsTrue, length, map};
+ghost use Rattle.std.specs.Prelude.{◌≡◌, ℕ, ◌+◌, ◌*◌, ◌/◌, ◌%◌, ◌<◌, ◌≤◌, true, IfErr, IfOk, IsTrue, length, map};
 ghost use Rattle.apl_array.specs.declared.array.Elem.TheVariants.{Int, Chr};
 ghost use Rattle.apl_array.specs.declared.function.ScalarFunction.TheVariants.{Plus as PlusNamed, Times as TimesNamed};
 ghost use Rattle.apl_array.specs.Valences.{has_dyadic};
 ghost use Rattle.apl_pool.specs.Pool.{AreValues, IsStopOf};
+ghost use Rattle.apl_pool.specs.declared.kernel.TheConstants.{MOST_PLACES};
+ghost use Rattle.apl_summary.specs.Functions.{has_summary};
 ghost use Rattle.apl_answer.specs.Rows.{Answers};
 ghost use Rattle.apl_reduce.specs.Layouts.{IsWithin, inner_number};
 ghost use Rattle.apl_reduce.specs.Products.{inner_row};
@@ -141,7 +143,7 @@ impl<T: Element, U: Element, F: Dyadic, P: Dyadic> Kernel for Reductions<'_, T, 
 }
 
 impl<R: Threads + Sync, C: Cut + Sync, G: Gate + Sync> Workers<'_, R, C, G> {
-    /// The reduction of the items at each place. The workers share the items of each place, or the places.
+    /// The reduction of the items at each place.
     fn fill_inner<T: Element + Sync, U: Element + Sync, F: Dyadic + Sync, P: Dyadic + Sync>(
         &self,
         layout: &Layout,
@@ -154,23 +156,11 @@ impl<R: Threads + Sync, C: Cut + Sync, G: Gate + Sync> Workers<'_, R, C, G> {
         ensures values { IfOk result (λ v. AreValues (inner_number layout.now (map T.elem_of left.now) (map U.elem_of right.now) (F.function function) (P.function pairing)) layout.now.count v.items) }
         ensures stop { IfErr result (IsStopOf (inner_number layout.now (map T.elem_of left.now) (map U.elem_of right.now) (F.function function) (P.function pairing)) layout.now.count) }
     {
-        let f = function.named();
-        let columns = Divisor::new(layout.columns);
-        if shares_items(self.pool, f, layout.count, layout.items) {
-            let rows = LineRows {
-                layout,
-                columns,
-                left,
-                right,
-                pairing,
-            };
-            return fold_rows(self.rt, self.alloc, self.pool, f, &rows);
-        }
         let kernel = Reductions {
             left,
             right,
             layout,
-            columns,
+            columns: Divisor::new(layout.columns),
             function,
             pairing,
         };
@@ -198,8 +188,7 @@ impl<R: Threads + Sync, C: Cut + Sync, G: Gate + Sync> Workers<'_, R, C, G> {
         ensures values { IfOk result (λ v. AreValues (inner_number layout.now (map Int left.now) (map Int right.now) PlusNamed TimesNamed) layout.now.count v.items) }
         ensures stop { IfErr result (IsStopOf (inner_number layout.now (map Int left.now) (map Int right.now) PlusNamed TimesNamed) layout.now.count) }
     {
-        let shared = shares_items(self.pool, Prim::Plus, layout.count, layout.items);
-        if shared || !layout.repays_a_pass() || !sums_are_small(left, right, layout.items) {
+        if !layout.repays_a_pass() || !sums_are_small(left, right, layout.items) {
             return self.typed::<i64, Plus, Times>(layout, left, right);
         }
         let kernel = Sums {
@@ -283,6 +272,70 @@ impl<R: Threads + Sync, C: Cut + Sync, G: Gate + Sync> Workers<'_, R, C, G> {
         }
     }
 
+    /// The reduction of the items at each place, which the workers share.
+    fn share_lines<T: Element + Sync, U: Element + Sync, P: Dyadic + Sync>(
+        &self,
+        layout: &Layout,
+        left: &[T],
+        right: &[U],
+        f: ScalarFunction,
+        pairing: P,
+    ) -> Result<Vec<i64>, Stop>
+        requires within { IsWithin layout.now (length left.now) (length right.now) }
+        requires summary { has_summary f ≡ true }
+        requires two { 2 ≤ layout.now.items }
+        requires all { layout.now.count * layout.now.items ≤ MOST_PLACES }
+        ensures values { IfOk result (λ v. AreValues (inner_number layout.now (map T.elem_of left.now) (map U.elem_of right.now) f (P.function pairing)) layout.now.count v.items) }
+        ensures stop { IfErr result (IsStopOf (inner_number layout.now (map T.elem_of left.now) (map U.elem_of right.now) f (P.function pairing)) layout.now.count) }
+    {
+        let rows = LineRows {
+            layout,
+            columns: Divisor::new(layout.columns),
+            left,
+            right,
+            pairing,
+        };
+        fold_rows(self.rt, self.alloc, self.pool, f, &rows)
+    }
+
+    /// An inner product of any two arguments, of which the workers share the items of each place. Of the pairings only `×` is compiled on
+    /// its own.
+    fn share_inner(
+        &self,
+        f: ScalarFunction,
+        g: ScalarFunction,
+        layout: &Layout,
+        a: &Array,
+        b: &Array,
+    ) -> Result<Vec<i64>, Stop>
+        requires within { IsWithin layout.now (length a.now.ravel) (length b.now.ravel) }
+        requires summary { has_summary f ≡ true }
+        requires two { 2 ≤ layout.now.items }
+        requires all { layout.now.count * layout.now.items ≤ MOST_PLACES }
+        ensures values { IfOk result (λ v. AreValues (inner_number layout.now a.now.ravel b.now.ravel f g) layout.now.count v.items) }
+        ensures stop { IfErr result (IsStopOf (inner_number layout.now a.now.ravel b.now.ravel f g) layout.now.count) }
+    {
+        match (a.numbers(), b.numbers()) {
+            (Some(left), Some(right)) => match g {
+                Prim::Times => self.share_lines(
+                    layout,
+                    left,
+                    right,
+                    f,
+                    Typed::<Times>(PhantomData),
+                ),
+                _ => self.share_lines(layout, left, right, f, Chosen(g)),
+            },
+            (Some(left), None) => { self.share_lines(layout, left, characters_of(b), f, Chosen(g)) }
+            (None, Some(right)) => {
+                self.share_lines(layout, characters_of(a), right, f, Chosen(g))
+            }
+            (None, None) => {
+                self.share_lines(layout, characters_of(a), characters_of(b), f, Chosen(g))
+            }
+        }
+    }
+
     /// An inner product of any two arguments.
     fn fill_inner_elements(
         &self,
@@ -296,6 +349,9 @@ impl<R: Threads + Sync, C: Cut + Sync, G: Gate + Sync> Workers<'_, R, C, G> {
         ensures values { IfOk result (λ v. AreValues (inner_number layout.now a.now.ravel b.now.ravel f g) layout.now.count v.items) }
         ensures stop { IfErr result (IsStopOf (inner_number layout.now a.now.ravel b.now.ravel f g) layout.now.count) }
     {
+        if shares_items(self.pool, f, layout.count, layout.items) {
+            return self.share_inner(f, g, layout, a, b);
+        }
         match (a.numbers(), b.numbers()) {
             (Some(left), Some(right)) => self.fill_inner_ordered(f, g, layout, left, right),
             (Some(left), None) => {

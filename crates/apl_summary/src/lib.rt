@@ -19,7 +19,7 @@ pub use apl_array::ScalarFunction as Prim;
 pub use apl_scalar::function_types;
 pub use extreme::Extreme;
 pub use folded_rows::{FoldedRows, fold_rows};
-pub use folding::{fold_onto, has_summary};
+pub use folding::has_summary;
 pub use scaled::Scaled;
 pub use signed_sum::SignedSum;
 pub use two_valued::{TwoValued, TwoValuedFunction};
