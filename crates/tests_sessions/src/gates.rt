@@ -437,8 +437,7 @@ const REDUCTIONS: [(&str, &str); 116] = [
     ("R+.×C", "3 3\n"),
 ];
 
-/// The functions whose folds are cut along the axis, of `F`, whose elements are all 1: one result, whose items but the last are as many as
-/// `A` has elements; here is what it is for three items.
+/// The functions whose folds are cut along the axis, of `F`, whose elements are all 1: one result; here is what it is for three items.
 const CUT_FOLDS: [(&str, &str); 75] = [
     ("+/F", "3\n"),
     ("+⌿F", "3\n"),
@@ -553,15 +552,6 @@ fn ones(alloc: Global, count: usize) -> Result<String, AllocError> {
     Ok(line)
 }
 
-/// Adds the line that makes `F` so many numbers 1, by a constant.
-fn push_items(session: &mut String, count: usize) -> Result<(), AllocError> {
-    session.push_str("F←")?;
-    for _ in 0..count {
-        session.push_str("1 ")?;
-    }
-    session.push('\n')
-}
-
 #[test]
 fn each_scalar_function_uses_the_pool(rt: HostRuntime) -> Result<(), Fail> {
     let alloc = rt.alloc();
@@ -612,14 +602,13 @@ fn each_structural_function_uses_the_pool(rt: HostRuntime) -> Result<(), Fail> {
 #[test]
 fn each_reduction_uses_the_pool(rt: HostRuntime) -> Result<(), Fail> {
     let alloc = rt.alloc();
-    let mut two = String::from_str(alloc, "V←3 2\nW←2 3\nR←1 1 1\nA←1 1\nF←1 1 1\n")?;
+    let mut two = String::from_str(alloc, "V←3 2\nW←2 3\nR←1 1 1\nA←1 1\n")?;
     two.push_str(ITEMS)?;
     let mut texts = String::new(alloc);
     let mut some = ones(alloc, 2048)?;
     some.push_str("V←2 2048\nW←2048 2\nR←1 1\n")?;
     some.push_str(ITEMS)?;
-    push_items(&mut some, 2049)?;
-    for (function, text) in REDUCTIONS.iter().chain(CUT_FOLDS.iter()) {
+    for (function, text) in &REDUCTIONS {
         write!(two, "{function}\n")?;
         texts.push_str(text)?;
         write!(some, "B←{function}\n")?;
@@ -628,9 +617,38 @@ fn each_reduction_uses_the_pool(rt: HostRuntime) -> Result<(), Fail> {
     many.push_str("V←2 1048576\nB←+⌿V⍴A\nB←A∘.×1\nB←+/A\nB←A+.×A\n")?;
     // Both workers meet three times where they reshape, and once at each place of a fold whose items they share.
     for schedule in [Schedule::Claims, Schedule::Deques] {
-        assert!(rt; meets(&rt, alloc, schedule, 1, two.as_str(), 273, texts.as_str()));
-        assert!(rt; meets(&rt, alloc, schedule, 1024, some.as_str(), 196, ""));
+        assert!(rt; meets(&rt, alloc, schedule, 1, two.as_str(), 198, texts.as_str()));
+        assert!(rt; meets(&rt, alloc, schedule, 1024, some.as_str(), 121, ""));
         assert!(rt; meets(&rt, alloc, schedule, HALF, many.as_str(), 7, ""));
+    }
+    Ok(())
+}
+
+/// Adds the line that makes `F` so many numbers 1, by a constant.
+fn push_items(session: &mut String, count: usize) -> Result<(), AllocError> {
+    session.push_str("F←")?;
+    for _ in 0..count {
+        session.push_str("1 ")?;
+    }
+    session.push('\n')
+}
+
+#[test]
+fn each_cut_fold_uses_the_pool(rt: HostRuntime) -> Result<(), Fail> {
+    let alloc = rt.alloc();
+    let mut three = String::new(alloc);
+    push_items(&mut three, 3)?;
+    let mut texts = String::new(alloc);
+    let mut some = String::new(alloc);
+    push_items(&mut some, 2049)?;
+    for (function, text) in &CUT_FOLDS {
+        write!(three, "{function}\n")?;
+        texts.push_str(text)?;
+        write!(some, "B←{function}\n")?;
+    }
+    for schedule in [Schedule::Claims, Schedule::Deques] {
+        assert!(rt; meets(&rt, alloc, schedule, 1, three.as_str(), 75, texts.as_str()));
+        assert!(rt; meets(&rt, alloc, schedule, 1024, some.as_str(), 75, ""));
     }
     Ok(())
 }
