@@ -161,7 +161,11 @@ fn drain_both<R: Threads + Sync>(
 }
 
 /// How three threads share so many pieces: whether each number is given once, and what the board has come to.
-fn share_out<R: Threads + Sync>(rt: &R, alloc: Global, pieces: u32) -> Result<(bool, Closed), Fail> {
+fn share_out<R: Threads + Sync>(
+    rt: &R,
+    alloc: Global,
+    pieces: u32,
+) -> Result<(bool, Closed), Fail> {
     let (board, mut seat) = Board::new(alloc, pieces, 3)?;
     board.report(&mut seat, 10);
     let (seat, third) = cut_one(&board, seat);

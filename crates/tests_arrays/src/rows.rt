@@ -87,10 +87,34 @@ fn folds_of_rows(rt: HostRuntime) -> Result<(), Fail> {
         (minus, 5, none, some, Ok([1, -9, -19])),
         (plus, 10_000, none, some, Ok([10_000, 10_010, 10_020])),
         (plus, 4, (1, 2), some, stop(1, Fault::Domain)),
-        (plus, 4, (1, 2), [Ok(0), limit, limit], stop(1, Fault::Domain)),
-        (plus, 4, (2, 3), [Ok(0), limit, Ok(0)], stop(1, Fault::Limit)),
-        (plus, 4, (1, 0), [Ok(i64::MAX - 3), Ok(0), Ok(0)], stop(0, Fault::Limit)),
-        (plus, 4, none, [Ok(i64::MAX - 4), Ok(0), Ok(i64::MIN)], Ok([i64::MAX, 4, i64::MIN + 4])),
+        (
+            plus,
+            4,
+            (1, 2),
+            [Ok(0), limit, limit],
+            stop(1, Fault::Domain),
+        ),
+        (
+            plus,
+            4,
+            (2, 3),
+            [Ok(0), limit, Ok(0)],
+            stop(1, Fault::Limit),
+        ),
+        (
+            plus,
+            4,
+            (1, 0),
+            [Ok(i64::MAX - 3), Ok(0), Ok(0)],
+            stop(0, Fault::Limit),
+        ),
+        (
+            plus,
+            4,
+            none,
+            [Ok(i64::MAX - 4), Ok(0), Ok(i64::MIN)],
+            Ok([i64::MAX, 4, i64::MIN + 4]),
+        ),
     ];
     for schedule in [Schedule::Claims, Schedule::Deques] {
         for (workers, piece) in [(1u8, 4096), (2, 1), (3, 3), (4, 4096), (64, 100)] {

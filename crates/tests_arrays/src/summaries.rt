@@ -9,9 +9,7 @@ use apl_pool::{Cut, Fault, MOST_PLACES, Open, Pool, Rows, Schedule, Stop, Summar
 use apl_reduce::reduce;
 use apl_scalar::function_types::{And, Less};
 use apl_scalar::{OpFault, Prim, apply2};
-use apl_summary::{
-    Extreme, FoldedRows, Scaled, SignedSum, TwoValued, fold_rows, has_summary,
-};
+use apl_summary::{Extreme, FoldedRows, Scaled, SignedSum, TwoValued, fold_rows, has_summary};
 use std::alloc::Global;
 use std::test::Fail;
 use std::thread::Threads;
@@ -169,7 +167,7 @@ struct AllButLast<'a> {
 }
 
 impl Rows for AllButLast<'_> {
-    ghost use Rattle.std.specs.Prelude.{◌-◌, Ok, length, slice_index};
+    ghost use Rattle.std.specs.Prelude.{◌-◌, pos, Ok, length, slice_index_or};
 
     type Out = i64;
 
@@ -177,7 +175,7 @@ impl Rows for AllButLast<'_> {
 
     ghost place_count = { λ r. length r.items.now - 1 };
 
-    ghost outcome = { λ r row place. Ok (slice_index r.items.now place) };
+    ghost outcome = { λ r row place. Ok (slice_index_or r.items.now place (pos 0)) };
 
     fn rows(&self) -> usize {
         1
@@ -193,9 +191,9 @@ impl Rows for AllButLast<'_> {
 }
 
 impl FoldedRows for AllButLast<'_> {
-    ghost use Rattle.std.specs.Prelude.{◌-◌, Ok, length, slice_index};
+    ghost use Rattle.std.specs.Prelude.{◌-◌, pos, Ok, length, slice_index_or};
 
-    ghost incoming = { λ r row. Ok (slice_index r.items.now (length r.items.now - 1)) };
+    ghost incoming = { λ r row. Ok (slice_index_or r.items.now (length r.items.now - 1) (pos 0)) };
 
     fn incoming(&self, _row: usize) -> Result<i64, Fault> {
         Ok(self.items[self.items.len() - 1])
@@ -228,7 +226,10 @@ fn every_nesting_agrees<R: Threads + Sync>(
     let mut agree = true;
     for mask in 0..1u64 << (items.len() - 2) {
         let pool = Pool::new(1, Masked(mask), Open);
-        agree &= is_folded(fold_rows(rt, alloc, &pool, f, &AllButLast { items }), wanted);
+        agree &= is_folded(
+            fold_rows(rt, alloc, &pool, f, &AllButLast { items }),
+            wanted,
+        );
     }
     agree
 }
