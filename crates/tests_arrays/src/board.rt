@@ -93,8 +93,8 @@ fn board_split(rt: HostRuntime) -> Result<(), Fail> {
     Ok(())
 }
 
-/// The most pieces that three threads share.
-const MOST_PIECES: u32 = 10_000;
+/// How many pieces three threads share.
+const PIECES: u32 = 10_000;
 
 /// How often a seat looks for a place before it goes on without it.
 const LOOKS: u32 = 1_000_000;
@@ -126,7 +126,7 @@ fn drain(alloc: Global, board: &Board, mut seat: BoardSeat, place: u32) -> Drain
     board.report(&mut seat, place);
     await_place(board, &mut seat, 7);
     let mut given = Vec::new(alloc);
-    for _ in 0..=MOST_PIECES {
+    for _ in 0..=PIECES {
         let Some(number) = board.claim(&mut seat) else {
             break
         };
@@ -160,27 +160,25 @@ fn drain_both<R: Threads + Sync>(
     )
 }
 
-/// How three threads share so many pieces: whether each number is given once, and what the board has come to.
-fn share_out<R: Threads + Sync>(
-    rt: &R,
-    alloc: Global,
-    pieces: u32,
-) -> Result<(bool, Closed), Fail> {
-    let (board, mut seat) = Board::new(alloc, pieces, 3)?;
+/// Three threads share the pieces: each number is given once, and the least of their places is known.
+#[test]
+fn board_threads(rt: HostRuntime) -> Result<(), Fail> {
+    let alloc = rt.alloc();
+    let (board, mut seat) = Board::new(alloc, PIECES, 3)?;
     board.report(&mut seat, 10);
     let (seat, third) = cut_one(&board, seat);
     let (first, second) = cut_one(&board, seat);
     let shared = &board;
     let (one, (two, three)) = thread::join(
-        rt,
+        &rt,
         move ||
             requires { IsSeatOf shared.now first }
             ensures { IfOk result (λ r. IsSeatOf shared.entry.now r.0 × ((view r.0).share ≡ (view first).share)) }
         { drain(alloc, shared, first, 9) },
-        || drain_both(rt, alloc, shared, second, third),
+        || drain_both(&rt, alloc, shared, second, third),
     );
     let ((first, one), (second, two), (third, three)) = (one?, two?, three?);
-    let mut times = vec![in alloc; 0u8; pieces as usize]?;
+    let mut times = vec![in alloc; 0u8; PIECES as usize]?;
     for given in [&one, &two, &three] {
         for number in given {
             if let Some(n) = times.get_mut(*number as usize) {
@@ -190,18 +188,11 @@ fn share_out<R: Threads + Sync>(
     }
     let once = times.iter().all(|n| *n == 1);
     let seat = board.join(board.join(first, second), third);
-    Ok((once, board.close(seat)))
-}
-
-/// Three threads share the pieces: each number is given once, and the least of their places is known.
-#[test]
-fn board_threads(rt: HostRuntime) -> Result<(), Fail> {
-    for pieces in [100, MOST_PIECES] {
-        let wanted = Closed {
-            given: pieces,
-            least: Some(7),
-        };
-        assert!(rt; share_out(&rt, rt.alloc(), pieces)? == (true, wanted));
-    }
+    let closed = board.close(seat);
+    let wanted = Closed {
+        given: PIECES,
+        least: Some(7),
+    };
+    assert!(rt; (once, closed) == (true, wanted));
     Ok(())
 }
