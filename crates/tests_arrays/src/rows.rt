@@ -21,7 +21,7 @@ struct Ones<'a> {
 }
 
 impl Rows for Ones<'_> {
-    ghost use Rattle.std.specs.Prelude.{nat_eq, and, pos, Ok, Err, if◌then◌else◌};
+    ghost use Rattle.std.specs.Prelude.{nat_eq, pos, Ok, Err, if◌then◌else◌};
     ghost use Rattle.apl_pool.specs.declared.kernel.Fault.TheVariants.{Domain};
 
     type Out = i64;
