@@ -1,5 +1,5 @@
 -- Right folds, from the right one item more.
-use Rattle.std.proofs.Common.{◌≡◌, ℕ, suc, ℤ, pos, ◌+◌, ◌-◌, ◌*◌, List, Result, slice_index_or, ap, sym, ◌∙◌, arith}
+use Rattle.std.proofs.Common.{◌≡◌, ℕ, zero, suc, ℤ, pos, ◌+◌, ◌-◌, ◌*◌, List, Result, Err, slice_index_or, ap, sym, ◌∙◌, arith}
 use Rattle.apl_array.specs.declared.array.Elem.{Elem}
 use Rattle.apl_array.specs.declared.array.Elem.TheVariants.{Int}
 use Rattle.apl_array.specs.declared.function.ScalarFunction.{ScalarFunction}
@@ -23,3 +23,8 @@ one_more f item k next more done x total after count is all =
     ap (λ y. number_step f y total) is
     ∙ ap (number_step f (item k)) (all ∙ ap (λ n. folded f item n more) after)
     ∙ ap (folded f item k) (sym count)
+
+-- a fault is that of all items in front of it too
+pub fault_stays : (f : ScalarFunction) (item : ℕ → Elem) (fault : Fault) (k more all : ℕ) → all ≡ k + more → folded f item k more ≡ Err fault → folded f item 0 all ≡ Err fault
+fault_stays f item fault zero more all count is = let same : all ≡ more = omega (arith, count) in ap (folded f item 0) same ∙ is
+fault_stays f item fault (suc k) more all count is = fault_stays f item fault k (suc more) all (omega (arith, count)) (ap (number_step f (item k)) is)

@@ -45,10 +45,16 @@ pub(crate) fn fold_along<F: Function, T: Element>(
 {
     let mut place = first + (count - 2) * stride;
     let last = element_at(elements, place + stride);
-    let mut total = dyadic_elements::<F>(element_at(elements, place), last);
+    let mut total = match dyadic_elements::<F>(element_at(elements, place), last) {
+        Ok(number) => number,
+        Err(fault) => return Err(fault),
+    };
     for _more in 2..count {
         place -= stride;
-        total = fold_step::<F>(element_at(elements, place), total);
+        match dyadic_elements::<F>(element_at(elements, place), Elem::Int(total)) {
+            Ok(number) => total = number,
+            Err(fault) => return Err(fault),
+        }
     }
-    total
+    Ok(total)
 }

@@ -20,7 +20,7 @@ pub one_is : (is_least : Bool) (x right : ℤ) → extreme_outcome is_least (ext
 one_is true x right = refl
 one_is false x right = refl
 
-nested : (is_least : Bool) (x y right : ℤ) → extreme_of_two is_least (extreme_of_two is_least x y) right ≡ extreme_of_two is_least x (extreme_of_two is_least y right)
+pub nested : (is_least : Bool) (x y right : ℤ) → extreme_of_two is_least (extreme_of_two is_least x y) right ≡ extreme_of_two is_least x (extreme_of_two is_least y right)
 nested true x y right = omega (arith, ints, clamps)
 nested false x y right = omega (arith, ints, clamps)
 

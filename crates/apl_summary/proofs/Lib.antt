@@ -8,3 +8,4 @@ pub mod ExtremeItems
 pub mod TwoValuedAnswers
 pub mod Examples
 pub mod RowNumbers
+pub mod FourExtremes

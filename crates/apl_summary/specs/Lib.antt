@@ -1,6 +1,7 @@
 pub mod Constants
 pub mod Coefficients
 pub mod Extremes
+pub mod ExtremeRuns
 pub mod Answers
 pub mod Functions
 pub mod SmallConstants

@@ -1,10 +1,11 @@
 //! The least or the greatest of items.
-ghost use Rattle.std.specs.Prelude.{◌≡◌, ℕ, ◌+◌, ◌-◌, ◌<◌, ◌≤◌, Ok, IfSome};
+ghost use Rattle.std.specs.Prelude.{◌≡◌, ℕ, ℤ, ◌+◌, ◌-◌, ◌*◌, ◌^◌, ◌<◌, ◌≤◌, Ok, IfSome};
 ghost use Rattle.apl_pool.specs.declared.kernel.TheConstants.{MOST_PLACES};
 ghost use Rattle.apl_pool.specs.declared.summary.TheConstants.{LONGEST_RUN};
 ghost use Rattle.apl_pool.specs.Summaries.{IsI64, IsSummaryFrom};
 ghost use Rattle.apl_scalar.specs.Scalar.{dyadic_numbers};
 ghost use Rattle.apl_summary.specs.Extremes.{extreme_function, extreme_of_two, extreme_outcome, extremum_of_one, extremum_of_both};
+ghost use Rattle.apl_summary.specs.ExtremeRuns.{IsBehindExtremum};
 
 use crate::range::{greater_of, lesser_of};
 use apl_pool::Kernel;
@@ -67,6 +68,59 @@ fn item_at<K: Kernel<Out = i64>>(kernel: &K, place: usize) -> Option<i64>
     }
 }
 
+/// The least or the greatest of two items side by side, unless one has a fault.
+#[inline(always)]
+fn pair_at<K: Kernel<Out = i64>>(is_least: bool, kernel: &K, place: usize) -> Option<i64>
+    requires places { place + 2 ≤ K.place_count kernel.now }
+    requires fits { place + 2 < 2 ^ 64 }
+    ensures { IfSome result (λ pair. (x y : ℤ) × (K.outcome kernel.now place ≡ Ok x) × (K.outcome kernel.now (place + 1) ≡ Ok y) × IsI64 x × IsI64 y × (pair ≡ extreme_of_two is_least x y)) }
+{
+    let first = item_at(kernel, place)?;
+    let second = item_at(kernel, place + 1)?;
+    Some(extreme_of_two(is_least, first, second))
+}
+
+/// The least or the greatest of four items side by side and of that of the items behind them. Two and two are compared first, so that no
+/// comparison waits for the one before.
+#[inline(always)]
+fn with_four<K: Kernel<Out = i64>>(
+    is_least: bool,
+    kernel: &K,
+    place: usize,
+    behind: i64,
+) -> Option<i64>
+    requires places { place + 4 ≤ K.place_count kernel.now }
+    requires fits { place + 4 < 2 ^ 64 }
+    ensures { IfSome result (IsBehindExtremum is_least (K.outcome kernel.now) place (place + 4) behind) }
+{
+    let front = pair_at(is_least, kernel, place)?;
+    let back = pair_at(is_least, kernel, place + 2)?;
+    let four = extreme_of_two(is_least, front, back);
+    Some(extreme_of_two(is_least, four, behind))
+}
+
+/// The least or the greatest of so many times four items from a place on and of that of the items behind them.
+#[inline(always)]
+fn with_fours<K: Kernel<Out = i64>>(
+    is_least: bool,
+    kernel: &K,
+    from: usize,
+    fours: usize,
+    behind: i64,
+) -> Option<i64>
+    requires places { from + fours * 4 ≤ K.place_count kernel.now }
+    requires fits { from + fours * 4 < 2 ^ 64 }
+    ensures { IfSome result (IsBehindExtremum is_least (K.outcome kernel.now) from (from + fours * 4) behind) }
+{
+    let mut item = behind;
+    let mut left = fours;
+    while left > 0 {
+        left -= 1;
+        item = with_four(is_least, kernel, from + left * 4, item)?;
+    }
+    Some(item)
+}
+
 /// The least or the greatest of the items at the places from `from` up to before `to`, where none has a
 /// fault.
 #[inline(always)]
@@ -82,12 +136,15 @@ pub fn extremum_of_run<K: Kernel<Out = i64>>(
     ensures summary { IfSome result (λ e. IsSummaryFrom (dyadic_numbers (extreme_function is_least)) (λ (e : Extremum). e.count) (extreme_outcome is_least) (K.outcome kernel.now) from to e) }
     ensures range { IfSome result (λ e. IsI64 e.item) }
 {
+    let fours = (to - 1 - from) / 4;
+    let start = from + fours * 4;
     let mut place = to - 1;
     let mut item = item_at(kernel, place)?;
-    while from < place {
+    while start < place {
         place -= 1;
         item = extreme_of_two(is_least, item_at(kernel, place)?, item);
     }
+    let item = with_fours(is_least, kernel, from, fours, item)?;
     let count = (to - from) as u32;
     Some(Extremum { count, item })
 }

@@ -1,0 +1,15 @@
+-- The least or the greatest of the items of a run. No contract of a public function cites this file.
+use Rattle.std.specs.Prelude.{ℕ, ◌-◌, ◌≤◌, Bool, ℤ, Result}
+use Rattle.apl_pool.specs.declared.kernel.Fault.{Fault}
+use Rattle.apl_pool.specs.Summaries.{IsI64, IsSummaryFrom}
+use Rattle.apl_scalar.specs.Scalar.{dyadic_numbers}
+use Rattle.apl_summary.specs.declared.extremum.Extremum.{Extremum}
+use Rattle.apl_summary.specs.Extremes.{extremum, extreme_function, extreme_outcome}
+
+-- that of the items at the places from `from` up to before `to`
+abbrev pub IsExtremumFrom : Bool → (ℕ → Result ℤ Fault) → (from to : ℕ) → ℤ → Type 0
+IsExtremumFrom is_least outcome from to item = IsSummaryFrom (dyadic_numbers (extreme_function is_least)) (λ (e : Extremum). e.count) (extreme_outcome is_least) outcome from to (extremum (to - from) item) × IsI64 item
+
+-- of whichever items behind the place `mid` a number is that, with the items in front of them it is this one
+abbrev pub IsBehindExtremum : Bool → (ℕ → Result ℤ Fault) → (from mid : ℕ) → (behind : ℤ) → ℤ → Type 0
+IsBehindExtremum is_least outcome from mid behind item = (to : ℕ) → mid ≤ to → IsExtremumFrom is_least outcome mid to behind → IsExtremumFrom is_least outcome from to item
