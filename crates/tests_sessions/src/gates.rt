@@ -54,8 +54,8 @@ impl Gate for Meeting {
 
 /// The number 1 at each place.
 #[derive(Drop)]
-struct AllOnes {
-    count: usize,
+pub(super) struct AllOnes {
+    pub(super) count: usize,
     ghost few: { count ≤ MOST_PLACES },
 }
 

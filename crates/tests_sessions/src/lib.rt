@@ -12,6 +12,8 @@ mod options;
 #[cfg(test)]
 mod pools;
 #[cfg(test)]
+mod refusals;
+#[cfg(test)]
 mod reports;
 #[cfg(test)]
 mod rows;

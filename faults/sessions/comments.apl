@@ -1,0 +1,8 @@
+⍝ ONLY A COMMENT
+
+   
+'A QUOTE''S TEXT' ⍝ SAID
+''
+⍴⍴2 3 4⍴0
+⍴'ABC'
+2+3 4 5
