@@ -4,7 +4,7 @@ use super::gates::AllOnes;
 use super::pools::Numbers;
 use apl_array::{Array, Shape};
 use apl_board::Board;
-use apl_pool::{Every, Fault, Open, Pool, Schedule, Stop};
+use apl_pool::{Every, Fault, Open, Pool, Schedule, Stop, Summary};
 use apl_print::{Out, print};
 use apl_session::{Next, Session};
 use apl_summary::SignedSum;
