@@ -39,9 +39,9 @@ pub const MOST_PLACES: usize = 1 << 30;
 
 /// A value or a fault at each place below a count. A kernel is lent to all workers.
 pub trait Kernel {
-    ghost use Rattle.std.specs.Prelude.{◌+◌, ◌-◌, ◌≤◌, length, vec_len, vec_capacity};
+    ghost use Rattle.std.specs.Prelude.{◌+◌, ◌-◌, ◌≤◌, IfSome, length, vec_len, vec_capacity};
     ghost use Rattle.apl_pool.specs.declared.kernel.Fault.{Fault};
-    ghost use Rattle.apl_pool.specs.Runs.{AppendsValues, AreWritten};
+    ghost use Rattle.apl_pool.specs.Runs.{AppendsValues, AreFour, AreWritten};
 
     /// What there is at a place without a fault.
     type Out;
@@ -61,6 +61,22 @@ pub trait Kernel {
     fn at(&self, place: usize) -> Result<Self::Out, Fault>
         requires { place < place_count self.now }
         ensures { result ≡ outcome self.now place };
+
+    /// The values at a place and the three behind it, all before `to`, where the kernel gives them together
+    /// and none of them has a fault. It is there for kernels that take a few instructions at a place, so
+    /// that faults are looked for once in four. It takes no memory.
+    fn four(
+        &self,
+        _place: usize,
+        _to: usize,
+    ) -> Option<(Self::Out, Self::Out, Self::Out, Self::Out)>
+        requires order { _place ≤ _to }
+        requires places { _to ≤ place_count self.now }
+        ensures within { IfSome result (λ four. _place + 4 ≤ _to) }
+        ensures values { IfSome result (λ four. AreFour (outcome self.now) _place four.0 four.1 four.2 four.3) }
+    {
+        None
+    }
 
     /// Puts the values at the places from `from` on behind others, up to before the place that it
     /// answers: at most `to`, and `from` where it puts none. It is there for kernels that are faster

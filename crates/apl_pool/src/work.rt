@@ -40,8 +40,39 @@ fn append_runs<K: Kernel>(kernel: &K, from: usize, to: usize, values: &mut Vec<K
     }
 }
 
+/// Puts values that the kernel gives by fours behind others, up to before the place that it answers. The
+/// list is handed over and back, so that its end is kept in a register.
+fn append_fours<K: Kernel>(
+    kernel: &K,
+    from: usize,
+    to: usize,
+    values: Vec<K::Out>,
+) -> (Vec<K::Out>, usize)
+where
+    K::Out: Drop,
+    requires order { from ≤ to }
+    requires places { to ≤ K.place_count kernel.now }
+    requires most { to ≤ MOST_PLACES }
+    requires room { vec_len values + (to - from) ≤ vec_capacity values }
+    ensures order { from ≤ result.1 }
+    ensures within { result.1 ≤ to }
+    ensures values { AppendsValues (K.outcome kernel.now) from result.1 values.items result.0.items }
+    ensures capacity { vec_capacity result.0 ≡ vec_capacity values }
+{
+    let mut all = values;
+    let mut place = from;
+    while let Some((one, two, three, four)) = kernel.four(place, to) {
+        all.push_reserved(one);
+        all.push_reserved(two);
+        all.push_reserved(three);
+        all.push_reserved(four);
+        place += 4;
+    }
+    (all, place)
+}
+
 /// Puts the values at the places from `from` up to before `to` behind others, one by one. The list is
-/// handed over and back, so that its end is kept in a register.
+/// handed over and back as well.
 fn append_places<K: Kernel>(
     kernel: &K,
     from: usize,
@@ -89,6 +120,7 @@ where
     gate.pass(worker, piece.number);
     let mut all = values;
     let first = append_runs(kernel, piece.from, piece.to, &mut all);
+    let (all, first) = append_fours(kernel, first, piece.to, all);
     append_places(kernel, first, piece.to, all)
 }
 
@@ -112,6 +144,40 @@ where
         }
         place = end;
     }
+}
+
+/// Writes values that the kernel gives by fours into the room for the places from `from` on, from `first` up to before
+/// the place that it answers.
+fn write_fours<K: Kernel>(
+    kernel: &K,
+    from: usize,
+    first: usize,
+    to: usize,
+    room: &mut [K::Out],
+) -> usize
+where
+    K::Out: Copy,
+    requires order { from ≤ first }
+    requires within { first ≤ to }
+    requires places { to ≤ K.place_count kernel.now }
+    requires most { to ≤ MOST_PLACES }
+    requires room { from + length room.old ≡ to }
+    requires before { AreWritten (K.outcome kernel.now) from first room.old }
+    ensures order { first ≤ result }
+    ensures within { result ≤ to }
+    ensures values { AreWritten (K.outcome kernel.now) from result room.new }
+    ensures len { length room.new ≡ length room.old }
+{
+    let mut place = first;
+    while let Some((one, two, three, four)) = kernel.four(place, to) {
+        let at = place - from;
+        room[at] = one;
+        room[at + 1] = two;
+        room[at + 2] = three;
+        room[at + 3] = four;
+        place += 4;
+    }
+    place
 }
 
 /// Writes the values at the places from `first` up to before `to` into the room for those from `from`
@@ -160,6 +226,7 @@ where
     ensures len { length room.new ≡ length room.old }
 {
     let first = write_runs(kernel, piece.from, piece.to, room);
+    let first = write_fours(kernel, piece.from, first, piece.to, room);
     write_places(kernel, piece.from, first, piece.to, room)
 }
 

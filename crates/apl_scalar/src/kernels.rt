@@ -60,7 +60,21 @@ impl<L: Operand, R: Operand, F: Function> Kernel for PairsKernel<L, R, F> {
         self.count
     }
 
+    #[inline(always)]
     fn at(&self, place: usize) -> Result<i64, Fault> {
         dyadic_elements::<F>(self.left.at(place), self.right.at(place))
+    }
+
+    #[inline(always)]
+    fn four(&self, place: usize, to: usize) -> Option<(i64, i64, i64, i64)> {
+        if !F::is_quick() || to - place < 4 {
+            return None;
+        }
+        let front = (self.at(place), self.at(place + 1));
+        let back = (self.at(place + 2), self.at(place + 3));
+        match (front, back) {
+            ((Ok(one), Ok(two)), (Ok(three), Ok(four))) => Some((one, two, three, four)),
+            _ => None,
+        }
     }
 }
