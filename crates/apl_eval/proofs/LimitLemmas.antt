@@ -29,9 +29,10 @@ use Rattle.apl_reduce.specs.Reducing.{reduce_row}
 use Rattle.apl_reduce.specs.Products.{outer_row, inner_row}
 use Rattle.apl_reduce.specs.Decoding.{decode_row}
 use Rattle.apl_reduce.specs.Encoding.{encode_row}
+use Rattle.apl_scan.specs.Scanning.{scan_row}
 use Rattle.apl_eval.specs.declared.error.EvalError.{EvalError}
 use Rattle.apl_eval.specs.declared.error.EvalError.TheVariants.{Syntax}
-use Rattle.apl_eval.specs.Functions.{result_of, default_axis, along, monadic_scalar, dyadic_scalar, monadic_along, dyadic_along, monadic_plain, dyadic_plain, dyadic_function, reduction_by, outer_by, inner_by, monadic_result, dyadic_result, index_result, assign_at_result}
+use Rattle.apl_eval.specs.Functions.{result_of, default_axis, along, monadic_scalar, dyadic_scalar, monadic_along, dyadic_along, monadic_plain, dyadic_plain, dyadic_function, reduction_by, scan_by, slashed_by, outer_by, inner_by, monadic_result, dyadic_result, index_result, assign_at_result}
 use Rattle.apl_eval.proofs.LawfulLemmas.{ResultsWithinLimits}
 
 -- the answers of scalar functions
@@ -70,6 +71,10 @@ pub record ReducedAnswersWithinLimits : Type 0 where
   pub decode : (a b answer : ArrayValue) → IsWithinLimits a → IsWithinLimits b → rows.result_of (decode_row a b) ≡ Ok answer → IsWithinLimits answer
   pub encode : (a b answer : ArrayValue) → IsWithinLimits a → IsWithinLimits b → rows.result_of (encode_row a b) ≡ Ok answer → IsWithinLimits answer
 
+-- the answers of scans
+abbrev pub ScannedAnswersWithinLimits : Type 0
+ScannedAnswersWithinLimits = (f : ScalarFunction) (b answer : ArrayValue) (axis : Axis) → IsWithinLimits b → rows.result_of (scan_row f b axis) ≡ Ok answer → IsWithinLimits answer
+
 either_result : (b : Bool) (r s : Result ArrayValue EvalError) → IfOk r IsWithinLimits → IfOk s IsWithinLimits → IfOk (cond b r s) IsWithinLimits
 either_result true r s h k = h
 either_result false r s h k = k
@@ -83,7 +88,7 @@ along_within : (origin : Origin) (number : Result ℤ OpFault) (result : Axis �
 along_within origin (Ok number) result h = h (At number origin)
 along_within origin (Err fault) result h = tt
 
-module _ (scalar : ScalarAnswersWithinLimits) (structural : StructuralAnswersWithinLimits) (reduced : ReducedAnswersWithinLimits) where
+module _ (scalar : ScalarAnswersWithinLimits) (structural : StructuralAnswersWithinLimits) (reduced : ReducedAnswersWithinLimits) (scanned : ScannedAnswersWithinLimits) where
   monadic_scalar_within : (f : ScalarFunction) (b : ArrayValue) → IsWithinLimits b → IfOk (monadic_scalar f b) IsWithinLimits
   monadic_scalar_within f b h =
       either_result (has_monadic f) (result_of (monadic_answer f b)) (Err Syntax) (within (monadic_answer f b) (λ answer. scalar.monadic f b answer h)) tt
@@ -133,6 +138,17 @@ module _ (scalar : ScalarAnswersWithinLimits) (structural : StructuralAnswersWit
   reduction_within (Some f) axis b h = within (rows.result_of (reduce_row f b axis)) (λ answer. reduced.reduce f b answer axis h)
   reduction_within None axis b h = tt
 
+  scan_within : (f : Option ScalarFunction) (axis : Axis) (b : ArrayValue) → IsWithinLimits b → IfOk (scan_by f axis b) IsWithinLimits
+  scan_within (Some f) axis b h = within (rows.result_of (scan_row f b axis)) (λ answer. scanned f b answer axis h)
+  scan_within None axis b h = tt
+
+  slashed_within : (bar : Glyph) (f : Option ScalarFunction) (axis : Axis) (b : ArrayValue) → IsWithinLimits b → IfOk (slashed_by bar f axis b) IsWithinLimits
+  slashed_within Slash f axis b h = reduction_within f axis b h
+  slashed_within SlashBar f axis b h = reduction_within f axis b h
+  slashed_within Backslash f axis b h = scan_within f axis b h
+  slashed_within BackslashBar f axis b h = scan_within f axis b h
+  slashed_within _ f axis b h = tt
+
   outer_within : (f : Option ScalarFunction) (a b : ArrayValue) → IsWithinLimits a → IsWithinLimits b → IfOk (outer_by f a b) IsWithinLimits
   outer_within (Some f) a b h k = within (rows.result_of (outer_row f a b)) (λ answer. reduced.outer f a b answer h k)
   outer_within None a b h k = tt
@@ -147,9 +163,9 @@ module _ (scalar : ScalarAnswersWithinLimits) (structural : StructuralAnswersWit
   monadic_within origin (Plain column glyph) None b h = monadic_plain_within origin glyph b h
   monadic_within origin (Plain column glyph) (Some axis) b h =
       along_within origin (axis_number_of axis) (λ axis. monadic_along glyph axis b) (λ axis. monadic_along_within glyph axis b h)
-  monadic_within origin (Reduce column function slash_column bar) None b h = reduction_within (dyadic_function function) (default_axis bar) b h
+  monadic_within origin (Reduce column function slash_column bar) None b h = slashed_within bar (dyadic_function function) (default_axis bar) b h
   monadic_within origin (Reduce column function slash_column bar) (Some axis) b h =
-      along_within origin (axis_number_of axis) (λ axis. reduction_by (dyadic_function function) axis b) (λ axis. reduction_within (dyadic_function function) axis b h)
+      along_within origin (axis_number_of axis) (λ axis. slashed_by bar (dyadic_function function) axis b) (λ axis. slashed_within bar (dyadic_function function) axis b h)
   monadic_within origin (Inner left_column left dot right_column right) axis b h = tt
   monadic_within origin (Outer jot dot column function) axis b h = tt
 

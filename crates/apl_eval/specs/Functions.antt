@@ -25,13 +25,14 @@ use Rattle.apl_struct.specs.Searching.{index_of_row, member_row}
 use Rattle.apl_struct.specs.Indexing.{select_row, replace_row}
 use Rattle.apl_struct.specs.Ordering.{grade_up_row, grade_down_row}
 use Rattle.apl_reduce.specs.Reducing.{reduce_row}
+use Rattle.apl_scan.specs.Scanning.{scan_row}
 use Rattle.apl_reduce.specs.Products.{outer_row, inner_row}
 use Rattle.apl_reduce.specs.Decoding.{decode_row}
 use Rattle.apl_reduce.specs.Encoding.{encode_row}
 use Rattle.apl_eval.specs.declared.error.EvalError.{EvalError}
 use Rattle.apl_eval.specs.declared.error.EvalError.TheVariants as error
 
--- at the symbol, a reduction's slash, or a product's dot
+-- at the symbol, the slash of a reduction or a scan, or a product's dot
 abbrev pub caret_column : Form → ℕ
 caret_column (Plain column glyph) = column
 caret_column (Reduce column function slash_column slash_glyph) = slash_column
@@ -101,12 +102,25 @@ abbrev pub reduction_by : Option ScalarFunction → Axis → (right : ArrayValue
 reduction_by (Some f) axis b = result_by (reduce_row f b axis)
 reduction_by None axis b = Err error.Syntax
 
+-- the scan by a symbol
+abbrev pub scan_by : Option ScalarFunction → Axis → (right : ArrayValue) → Result ArrayValue EvalError
+scan_by (Some f) axis b = result_by (scan_row f b axis)
+scan_by None axis b = Err error.Syntax
+
+-- with a slash after the symbol the reduction, and with a backslash the scan
+abbrev pub slashed_by : (bar : Glyph) → Option ScalarFunction → Axis → (right : ArrayValue) → Result ArrayValue EvalError
+slashed_by Slash f axis b = reduction_by f axis b
+slashed_by SlashBar f axis b = reduction_by f axis b
+slashed_by Backslash f axis b = scan_by f axis b
+slashed_by BackslashBar f axis b = scan_by f axis b
+slashed_by bar f axis b = Err error.Syntax
+
 -- of one argument, perhaps along an axis; products are of two
 unfoldable pub monadic_result : Origin → Form → (axis : Option ArrayValue) → (right : ArrayValue) → Result ArrayValue EvalError
 monadic_result origin (Plain column glyph) None right = monadic_plain origin glyph right
 monadic_result origin (Plain column glyph) (Some axis) right = along origin (axis_number_of axis) (λ axis. monadic_along glyph axis right)
-monadic_result origin (Reduce column function slash_column bar) None right = reduction_by (dyadic_function function) (default_axis bar) right
-monadic_result origin (Reduce column function slash_column bar) (Some axis) right = along origin (axis_number_of axis) (λ axis. reduction_by (dyadic_function function) axis right)
+monadic_result origin (Reduce column function slash_column bar) None right = slashed_by bar (dyadic_function function) (default_axis bar) right
+monadic_result origin (Reduce column function slash_column bar) (Some axis) right = along origin (axis_number_of axis) (λ axis. slashed_by bar (dyadic_function function) axis right)
 monadic_result origin _ axis right = Err error.Syntax
 
 -- ---- functions of two arguments
@@ -145,7 +159,7 @@ abbrev pub inner_by : Option ScalarFunction → Option ScalarFunction → (left 
 inner_by (Some f) (Some g) a b = result_by (inner_row f g a b)
 inner_by _ _ a b = Err error.Syntax
 
--- of two arguments, perhaps along an axis; reductions are of one, and a product has no axis
+-- of two arguments, perhaps along an axis; reductions and scans are of one, and a product has no axis
 unfoldable pub dyadic_result : Origin → Form → (axis : Option ArrayValue) → (left right : ArrayValue) → Result ArrayValue EvalError
 dyadic_result origin (Plain column glyph) None left right = dyadic_plain origin glyph left right
 dyadic_result origin (Plain column glyph) (Some axis) left right = along origin (axis_number_of axis) (λ axis. dyadic_along glyph axis left right)

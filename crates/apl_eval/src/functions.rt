@@ -5,7 +5,7 @@ ghost use Rattle.apl_array.specs.Array.{ArrayValue};
 ghost use Rattle.apl_array.specs.Valences.{has_dyadic};
 ghost use Rattle.apl_answer.specs.declared.fault.OpFault.{OpFault};
 ghost use Rattle.apl_answer.specs.Pointwise.{IsAnswerOf};
-ghost use Rattle.apl_eval.specs.Functions.{caret_column, result_of, default_axis, monadic_scalar, dyadic_scalar, monadic_along, dyadic_along, monadic_plain, dyadic_plain, dyadic_function, reduction_by, outer_by, inner_by, monadic_result, dyadic_result, index_result, assign_at_result};
+ghost use Rattle.apl_eval.specs.Functions.{caret_column, result_of, default_axis, monadic_scalar, dyadic_scalar, monadic_along, dyadic_along, monadic_plain, dyadic_plain, dyadic_function, reduction_by, scan_by, slashed_by, outer_by, inner_by, monadic_result, dyadic_result, index_result, assign_at_result};
 ghost use Rattle.apl_eval.specs.Refusals.{Answers};
 
 use super::error::EvalError;
@@ -208,6 +208,33 @@ impl<'a, R: Threads + Sync, C: Cut + Sync, G: Gate + Sync> Machine<'a, R, C, G> 
         result_of(apl_reduce::reduce(self.rt, self.alloc, self.pool, f, b, axis))
     }
 
+    /// The scan of an array along an axis.
+    fn scan_by(&self, function: Glyph, axis: Axis, b: &Array) -> Result<Array, Refusal>
+        ensures { Answers (scan_by (dyadic_function function) axis b.now) result }
+    {
+        let Some(f) = dyadic_function(function) else {
+            return Err(Refusal::Error(EvalError::Syntax));
+        };
+        result_of(apl_scan::scan(self.rt, self.alloc, self.pool, f, b, axis))
+    }
+
+    /// The reduction or the scan of an array along an axis, as the slash says.
+    fn slashed_by(
+        &self,
+        slash: Glyph,
+        function: Glyph,
+        axis: Axis,
+        b: &Array,
+    ) -> Result<Array, Refusal>
+        ensures { Answers (slashed_by slash (dyadic_function function) axis b.now) result }
+    {
+        match slash {
+            Glyph::Slash | Glyph::SlashBar => self.reduction_by(function, axis, b),
+            Glyph::Backslash | Glyph::BackslashBar => self.scan_by(function, axis, b),
+            _ => Err(Refusal::Error(EvalError::Syntax)),
+        }
+    }
+
     /// The outer product of two arrays.
     fn outer_by(&self, function: Glyph, a: &Array, b: &Array) -> Result<Array, Refusal>
         ensures { Answers (outer_by (dyadic_function function) a.now b.now) result }
@@ -251,10 +278,17 @@ impl<'a, R: Threads + Sync, C: Cut + Sync, G: Gate + Sync> Machine<'a, R, C, G> 
                     ..
                 },
                 None,
-            ) => self.reduction_by(function, default_axis(slash), right),
-            (Form::Reduce { function, .. }, Some(axis)) => {
+            ) => self.slashed_by(slash, function, default_axis(slash), right),
+            (
+                Form::Reduce {
+                    function,
+                    slash,
+                    ..
+                },
+                Some(axis),
+            ) => {
                 let axis = self.axis_at(axis_number(axis)?);
-                self.reduction_by(function, axis, right)
+                self.slashed_by(slash, function, axis, right)
             }
             (Form::Inner { .. } | Form::Outer { .. }, _) => Err(Refusal::Error(EvalError::Syntax)),
         }

@@ -9,7 +9,7 @@ use Rattle.apl_grammar.specs.declared.program.Form.TheVariants.{Plain, Reduce, I
 
 -- whether scans are in the grammar
 abbrev pub has_scan : Bool
-has_scan = false
+has_scan = true
 
 -- a dyadic scalar function, which may be reduced by and stand in a product
 abbrev pub is_dyadic_scalar : Class → Bool

@@ -55,11 +55,11 @@ pub(crate) fn takes_axis(glyph: Glyph) -> bool
     )
 }
 
-/// Whether the symbol after a scalar function makes a reduction of it.
+/// Whether the symbol after a scalar function makes a reduction or a scan of it.
 pub(crate) fn reduces(glyph: Glyph) -> bool
     ensures { result ≡ reduces (class_of glyph) }
 {
-    matches!(glyph.class(), Class::Slash)
+    matches!(glyph.class(), Class::Slash | Class::Backslash)
 }
 
 /// Whether the form may be a function of one argument.

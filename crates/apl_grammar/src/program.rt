@@ -34,7 +34,7 @@ pub enum Form {
         column: usize,
         glyph: Glyph,
     },
-    /// The reduction by a function; the slash says along which axis where none is given.
+    /// The reduction or the scan by a function: the slash says which, and along which axis where none is given.
     Reduce {
         column: usize,
         function: Glyph,

@@ -1,5 +1,5 @@
 -- The least or the greatest of a run with four more items on the left.
-use Rattle.std.proofs.Common.{◌≡◌, ℕ, ◌+◌, ◌-◌, ◌<◌, ◌≤◌, Bool, ℤ, Result, Ok, ap, sym, ◌∙◌, subst, arith}
+use Rattle.std.proofs.Common.{◌≡◌, ℕ, ◌+◌, ◌-◌, ◌<◌, Bool, ℤ, Result, Ok, ap, sym, ◌∙◌, subst, arith}
 use Rattle.apl_pool.specs.declared.kernel.Fault.{Fault}
 use Rattle.apl_pool.specs.Summaries.{IsI64, IsSummaryFrom}
 use Rattle.apl_scalar.specs.Scalar.{dyadic_numbers}

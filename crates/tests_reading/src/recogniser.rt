@@ -48,6 +48,8 @@ const MONADIC: &[&[Symbol]] = &[
     &[Token('⌽'), Axis],
     &[Scalar, Token('/')],
     &[Scalar, Token('/'), Axis],
+    &[Scalar, Token('\\')],
+    &[Scalar, Token('\\'), Axis],
 ];
 
 const DYADIC: &[&[Symbol]] = &[

@@ -1,5 +1,6 @@
 //! Whole sessions, and what they write.
 mod reductions;
+mod scans;
 mod structures;
 mod tables;
 
@@ -7,6 +8,7 @@ use apl_pool::{Every, Open, Pool, Schedule};
 use apl_print::MemorySink;
 use apl_session::{MemorySource, run};
 use reductions::{DIGITS, FOLDED, PRODUCTS};
+use scans::SCANS;
 use std::alloc::{AllocError, Global};
 use std::process::Abort;
 use std::test::Fail;
@@ -90,8 +92,8 @@ fn structural_functions(rt: HostRuntime) {
 }
 
 #[test]
-fn reductions_and_products(rt: HostRuntime) {
-    for sessions in [FOLDED, PRODUCTS, DIGITS] {
+fn reductions_products_and_scans(rt: HostRuntime) {
+    for sessions in [FOLDED, PRODUCTS, DIGITS, SCANS] {
         check(&rt, rt.alloc(), sessions);
     }
 }

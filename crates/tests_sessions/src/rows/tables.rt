@@ -201,7 +201,7 @@ pub(super) const CARETS: [(&str, &str); 50] = [
         "SYNTAX ERROR\n      ' 99999999999999999999\n      ∧\n",
     ),
     ("1;2\n", "SYNTAX ERROR\n      1;2\n       ∧\n"),
-    ("+\\1 2 3\n", "SYNTAX ERROR\n      +\\1 2 3\n      ∧\n"),
+    ("A+\\B\n", "SYNTAX ERROR\n      A+\\B\n      ∧\n"),
     ("1¯2\n", "SYNTAX ERROR\n      1¯2\n      ∧\n"),
     ("1 2¯3 4\n", "SYNTAX ERROR\n      1 2¯3 4\n      ∧\n"),
     ("2+1¯2\n", "SYNTAX ERROR\n      2+1¯2\n        ∧\n"),
@@ -246,7 +246,7 @@ pub(super) const CARETS: [(&str, &str); 50] = [
         "3+\n(1+2\n1)\n2+<3\n3←4\nA+/B\n1 ¯ 2\n'AB\n",
         "SYNTAX ERROR\n      3+\n       ∧\nSYNTAX ERROR\n      (1+2\n      ∧\nSYNTAX ERROR\n      1)\n      ∧\nSYNTAX ERROR\n      2+<3\n       ∧\nSYNTAX ERROR\n      3←4\n      ∧\nSYNTAX ERROR\n      A+/B\n      ∧\nSYNTAX ERROR\n      1 ¯ 2\n        ∧\nSYNTAX ERROR\n      'AB\n      ∧\n",
     ),
-    ("+\\1\n", "SYNTAX ERROR\n      +\\1\n      ∧\n"),
+    ("+\\\n", "SYNTAX ERROR\n      +\\\n       ∧\n"),
     ("1  ;3\n", "SYNTAX ERROR\n      1  ;3\n         ∧\n"),
     ("1  ←3\n", "SYNTAX ERROR\n      1  ←3\n      ∧\n"),
 ];

@@ -30,7 +30,7 @@ results c =
     } in
     let reduced = c.reduced_answers_are_within_limits.ensures in
     let reduced_answers : ReducedAnswersWithinLimits = record { reduce = reduced.reduce; outer = reduced.outer; inner = reduced.inner; decode = reduced.decode; encode = reduced.encode } in
-    results_within_limits scalar_answers structural_answers reduced_answers
+    results_within_limits scalar_answers structural_answers reduced_answers c.scanned_answers_are_within_limits.ensures
 
 pub returns-clause-opening : goal.returns-clause-opening
 returns-clause-opening c = opening_lawful

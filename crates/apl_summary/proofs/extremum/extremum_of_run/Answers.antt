@@ -1,4 +1,4 @@
-use Rattle.std.proofs.Common.{◌≡◌, ◌+◌, ◌-◌, ◌*◌, ◌/◌, ◌≤◌, ℕ, ℤ, to_z, of_z, w64, refl, sym, ◌∙◌, subst, rules, arith}
+use Rattle.std.proofs.Common.{◌≡◌, ◌+◌, ◌-◌, ◌*◌, ◌/◌, ◌≤◌, to_z, of_z, w64, refl, sym, ◌∙◌, subst, rules, arith}
 use Rattle.apl_summary.specs.Extremes.{extreme_of_two}
 use Rattle.apl_summary.specs.ExtremeRuns.{IsExtremumFrom}
 use Rattle.apl_summary.proofs.FourExtremes.{extremum_alone, extremum_with, moved, ending}

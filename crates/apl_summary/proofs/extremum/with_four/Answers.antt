@@ -1,4 +1,4 @@
-use Rattle.std.proofs.Common.{◌≡◌, ◌+◌, ◌≤◌, ℕ, ℤ, to_z, of_z, w64, refl, sym, ◌∙◌, subst, rules}
+use Rattle.std.proofs.Common.{◌≡◌, ℤ, to_z, of_z, w64, refl, sym, ◌∙◌, subst, rules}
 use Rattle.apl_summary.specs.Extremes.{extreme_of_two}
 use Rattle.apl_summary.specs.ExtremeRuns.{IsExtremumFrom}
 use Rattle.apl_summary.proofs.FourExtremes.{extremum_with_four}

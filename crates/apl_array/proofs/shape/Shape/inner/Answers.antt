@@ -1,6 +1,5 @@
-use Rattle.std.proofs.Common.{◌≡◌, ◌+◌, drop, add-one, arith}
+use Rattle.std.proofs.Common.{◌+◌, arith}
 use Rattle.std.proofs.lemmas.List.{take_rest}
-use Rattle.apl_array.specs.Shape.{count_of}
 use Rattle.apl_array.proofs.Shapes.{count_of-drop_le}
 use Rattle.apl_array.proofs.shape.Shape.inner.Goals as goal
 

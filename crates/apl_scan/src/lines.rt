@@ -1,0 +1,140 @@
+//! The numbers along an axis, folded up to each place one by one.
+ghost use Rattle.std.specs.Prelude.{◌≡◌, ◌+◌, ◌-◌, ◌*◌, ◌/◌, ◌%◌, ◌<◌, ◌≤◌, IfOk, IfErr, length};
+ghost use Rattle.apl_pool.specs.declared.kernel.TheConstants.{MOST_PLACES};
+ghost use Rattle.apl_pool.specs.Pool.{AreValues, IsStopOf};
+ghost use Rattle.apl_scalar.specs.Scalar.{dyadic_numbers};
+ghost use Rattle.apl_scan.specs.Lines.{folded, number_along, numbers_before, scan_at};
+
+use crate::summarized::fill_by_summary;
+use apl_array::ScalarFunction;
+use apl_divisor::Divisor;
+use apl_pool::{Cut, Fault, Gate, Kernel, Pool, Stop};
+use apl_scalar::function_types::Function;
+use apl_scalar::with_type;
+use apl_summary::has_summary;
+use std::alloc::Global;
+use std::marker::PhantomData;
+use std::thread::Threads;
+
+/// The numbers of an array, in lines along an axis.
+#[derive(Drop)]
+pub(crate) struct AxisLines<'a> {
+    numbers: &'a [i64],
+    /// How many numbers a line has.
+    items: Divisor,
+    /// How far apart neighbours in a line are.
+    inner: Divisor,
+    ghost most: { length numbers.now ≤ MOST_PLACES },
+    ghost whole: { length numbers.now / (items * inner) * (items * inner) ≡ length numbers.now },
+}
+
+impl<'a> AxisLines<'a> {
+    /// Lines of so many numbers, which are `inner` apart.
+    pub(crate) fn new(numbers: &'a [i64], items: usize, inner: usize) -> AxisLines<'a>
+        requires most { length numbers.now ≤ MOST_PLACES }
+        requires items { (0 < items) × (items ≤ MOST_PLACES) }
+        requires inner { (0 < inner) × (inner ≤ MOST_PLACES) }
+        requires whole { length numbers.now / (items * inner) * (items * inner) ≡ length numbers.now }
+        ensures numbers { result.numbers.now ≡ numbers.now }
+        ensures items { result.items ≡ items }
+        ensures inner { result.inner ≡ inner }
+    {
+        AxisLines {
+            numbers,
+            items: Divisor::new(items),
+            inner: Divisor::new(inner),
+        }
+    }
+
+    /// How many numbers of its line stand before a place.
+    #[inline(always)]
+    fn before(&self, place: usize) -> usize
+        requires { place < length self.now.numbers.now }
+        ensures count { result ≡ numbers_before self.now.items self.now.inner place }
+        ensures within { result * self.now.inner ≤ place }
+    {
+        self.items.remainder(self.inner.quotient(place))
+    }
+}
+
+/// The fold of a number and `before` others on its left, which are `stride` apart.
+fn fold_up_to<F: Function>(
+    numbers: &[i64],
+    place: usize,
+    stride: usize,
+    before: usize,
+) -> Result<i64, Fault>
+    requires place { place < length numbers.now }
+    requires within { before * stride ≤ place }
+    ensures { result ≡ folded (dyadic_numbers F.FUNCTION) (number_along numbers.now (place - before * stride) stride) 0 before }
+{
+    let mut left = place;
+    let mut total = numbers[place];
+    for _done in 0..before {
+        left -= stride;
+        total = F::apply(numbers[left], total)?;
+    }
+    Ok(total)
+}
+
+/// The folds up to each place.
+#[derive(Drop)]
+struct Folds<'a, F> {
+    lines: &'a AxisLines<'a>,
+    function: PhantomData<F>,
+}
+
+impl<F: Function> Kernel for Folds<'_, F> {
+    ghost use Rattle.std.specs.Prelude.{length};
+    ghost use Rattle.apl_scalar.specs.Scalar.{dyadic_numbers};
+    ghost use Rattle.apl_scan.specs.Lines.{scan_at};
+
+    type Out = i64;
+
+    ghost place_count = { λ k. length k.lines.now.numbers.now };
+
+    ghost outcome = { λ k place. scan_at (dyadic_numbers F.FUNCTION) k.lines.now.numbers.now k.lines.now.items k.lines.now.inner place };
+
+    fn count(&self) -> usize {
+        self.lines.numbers.len()
+    }
+
+    fn at(&self, place: usize) -> Result<i64, Fault> {
+        let lines = self.lines;
+        let before = lines.before(place);
+        fold_up_to::<F>(lines.numbers, place, lines.inner.number(), before)
+    }
+}
+
+fn fill_folds<F: Function + Sync, R: Threads + Sync, C: Cut + Sync, G: Gate + Sync>(
+    rt: &R,
+    alloc: Global,
+    pool: &Pool<C, G>,
+    lines: &AxisLines,
+) -> Result<Vec<i64>, Stop>
+    ensures values { IfOk result (λ v. AreValues (scan_at (dyadic_numbers F.FUNCTION) lines.now.numbers.now lines.now.items lines.now.inner) (length lines.now.numbers.now) v.items) }
+    ensures stop { IfErr result (IsStopOf (scan_at (dyadic_numbers F.FUNCTION) lines.now.numbers.now lines.now.items lines.now.inner) (length lines.now.numbers.now)) }
+{
+    let kernel = Folds::<F> {
+        lines,
+        function: PhantomData,
+    };
+    pool.fill(rt, alloc, &kernel)
+}
+
+/// The folds of numbers along their lines up to each place.
+pub(crate) fn fill_scans<R: Threads + Sync, C: Cut + Sync, G: Gate + Sync>(
+    rt: &R,
+    alloc: Global,
+    pool: &Pool<C, G>,
+    f: ScalarFunction,
+    lines: &AxisLines,
+) -> Result<Vec<i64>, Stop>
+    ensures values { IfOk result (λ v. AreValues (scan_at (dyadic_numbers f) lines.now.numbers.now lines.now.items lines.now.inner) (length lines.now.numbers.now) v.items) }
+    ensures stop { IfErr result (IsStopOf (scan_at (dyadic_numbers f) lines.now.numbers.now lines.now.items lines.now.inner) (length lines.now.numbers.now)) }
+{
+    if lines.inner.number() == 1 && has_summary(f) {
+        return fill_by_summary(rt, alloc, pool, f, lines.numbers, lines.items.number());
+    }
+    with_type!(f, fill_folds::<F, R, C, G>(rt, alloc, pool, lines))
+}

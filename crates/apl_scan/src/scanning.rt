@@ -1,0 +1,108 @@
+//! Scan along an axis.
+ghost use Rattle.std.specs.Prelude.{◌≡◌, ℕ, ◌<◌, ◌≤◌, List, Result, IsTrue, length, map, slice_index};
+ghost use Rattle.apl_array.specs.declared.array.Elem.{Elem};
+ghost use Rattle.apl_array.specs.declared.array.Elem.TheVariants.{Int};
+ghost use Rattle.apl_array.specs.declared.array.Kind.TheVariants.{Number};
+ghost use Rattle.apl_array.specs.Shape.{count_of, index_at};
+ghost use Rattle.apl_array.specs.Valences.{has_dyadic};
+ghost use Rattle.apl_pool.specs.declared.kernel.Fault.{Fault};
+ghost use Rattle.apl_answer.specs.Pointwise.{answer_of, IsAnswerOf};
+ghost use Rattle.apl_answer.specs.Rows.{Answers};
+ghost use Rattle.apl_reduce.specs.Folding.{reduction};
+ghost use Rattle.apl_scalar.specs.Scalar.{as_element};
+ghost use Rattle.apl_scan.specs.Scanning.{items_up_to, scanned, scan_row};
+
+use crate::lines::{AxisLines, fill_scans};
+use apl_answer::{OpFault, array_from_fill, array_of_elements, fill_uniform};
+use apl_array::{
+    Array, Axis, ScalarFunction, Shape, places_match_index_lists, replaced_index_has_place,
+    split_index_has_place,
+};
+use apl_pool::{Cut, Fault, Gate, Pool};
+use std::alloc::Global;
+use std::thread::Threads;
+
+/// The array of this shape with the same number at each place, or the fault.
+fn everywhere<R: Threads + Sync, C: Cut + Sync, G: Gate + Sync>(
+    rt: &R,
+    alloc: Global,
+    pool: &Pool<C, G>,
+    shape: Shape,
+    outcome: Result<i64, Fault>,
+) -> Result<Array, OpFault>
+    ensures { (at_index : List ℕ → Result Elem Fault) → ((place : ℕ) → place < count_of shape → as_element outcome ≡ at_index (index_at shape place))
+        → IsAnswerOf (answer_of shape at_index Number) result }
+{
+    let filled = fill_uniform(rt, alloc, pool, shape.count(), outcome);
+    array_from_fill(shape, filled)
+}
+
+/// The scan of numbers along axis `k`, of two and more items.
+fn scan_numbers<R: Threads + Sync, C: Cut + Sync, G: Gate + Sync>(
+    rt: &R,
+    alloc: Global,
+    pool: &Pool<C, G>,
+    f: ScalarFunction,
+    b: &Array,
+    numbers: &[i64],
+    k: usize,
+) -> Result<Array, OpFault>
+    requires axis { k < length b.now.shape }
+    requires some { 0 < count_of b.now.shape }
+    requires numbers { b.now.ravel ≡ map Int numbers.now }
+    ensures { IsAnswerOf (answer_of b.now.shape (λ index. reduction f (items_up_to b.now k index)) Number) result }
+{
+    places_match_index_lists();
+    replaced_index_has_place();
+    split_index_has_place();
+    let shape = b.shape().copy(alloc)?;
+    let lines = AxisLines::new(numbers, b.shape().axis(k), b.shape().inner(k));
+    array_from_fill(shape, fill_scans(rt, alloc, pool, f, &lines))
+}
+
+/// The scan along axis `k`, of two and more items.
+fn scan_items<R: Threads + Sync, C: Cut + Sync, G: Gate + Sync>(
+    rt: &R,
+    alloc: Global,
+    pool: &Pool<C, G>,
+    f: ScalarFunction,
+    b: &Array,
+    k: usize,
+) -> Result<Array, OpFault>
+    requires axis { k < length b.now.shape }
+    ensures { IsAnswerOf (answer_of b.now.shape (λ index. scanned f b.now.kind (items_up_to b.now k index)) Number) result }
+{
+    if b.shape().count() == 0 {
+        return everywhere(rt, alloc, pool, b.shape().copy(alloc)?, Ok(0));
+    }
+    match b.numbers() {
+        Some(numbers) => scan_numbers(rt, alloc, pool, f, b, numbers, k),
+        None => everywhere(rt, alloc, pool, b.shape().copy(alloc)?, Err(Fault::Domain)),
+    }
+}
+
+/// The scan of an array by a dyadic function along an axis, in the array's shape: at each place the right
+/// fold of the items along the axis up to it. A scalar, and an array of at most one item along the axis,
+/// is answered as it is, of either kind; else characters are `Domain`. First comes whether the axis exists
+/// (`Index`), then the fault of the least place.
+pub fn scan<R: Threads + Sync, C: Cut + Sync, G: Gate + Sync>(
+    rt: &R,
+    alloc: Global,
+    pool: &Pool<C, G>,
+    f: ScalarFunction,
+    b: &Array,
+    axis: Axis,
+) -> Result<Array, OpFault>
+    requires { IsTrue (has_dyadic f) }
+    ensures { Answers (scan_row f b.now axis) result }
+{
+    let rank = b.shape().rank();
+    let Some(k) = axis.among(rank) else {
+        return Err(OpFault::Index);
+    };
+    if rank == 0 || b.shape().axis(k) < 2 {
+        places_match_index_lists();
+        return array_of_elements(rt, alloc, pool, b.shape().copy(alloc)?, b);
+    }
+    scan_items(rt, alloc, pool, f, b, k)
+}

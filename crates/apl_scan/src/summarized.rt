@@ -1,0 +1,243 @@
+//! The folds of numbers up to each place of lines of neighbours, by summaries.
+ghost use Rattle.std.specs.Prelude.{◌≡◌, ℕ, true, pos, ◌+◌, ◌-◌, ◌*◌, ◌/◌, ◌%◌, ◌<◌, ◌≤◌, ◌++◌, IfOk, IfErr, IfSome, MatchOption, length, replicate, vec_len, vec_capacity};
+ghost use Rattle.apl_pool.specs.declared.kernel.TheConstants.{MOST_PLACES};
+ghost use Rattle.apl_pool.specs.Pool.{AreValues, IsStopOf};
+ghost use Rattle.apl_pool.specs.Runs.{AreWritten};
+ghost use Rattle.apl_scalar.specs.Scalar.{dyadic_numbers};
+ghost use Rattle.apl_summary.specs.Functions.{has_summary};
+ghost use Rattle.apl_scan.specs.declared.chunks.TheConstants.{CHUNK};
+ghost use Rattle.apl_scan.specs.Lines.{scan_at};
+ghost use Rattle.apl_scan.specs.Running.{stretch, IsChunkBefore, IsSummaryOrNone, AreUpToChunks};
+
+use crate::chunks::{CHUNK, Chunks, summarize};
+use crate::kept::Kept;
+use crate::running::{fold_behind, with_next};
+use apl_array::ScalarFunction;
+use apl_divisor::Divisor;
+use apl_pool::{Cut, Fault, Gate, Kernel, Pool, Stop, Summary};
+use apl_summary::with_summary;
+use std::alloc::Global;
+use std::thread::Threads;
+
+/// Numbers in lines of neighbours, and the summaries of the beginnings of each line.
+#[derive(Drop)]
+struct Scans<'a, S: Summary<Item = i64>> {
+    numbers: &'a [i64],
+    /// How many numbers a line has.
+    items: Divisor,
+    /// How many beginnings of a line have a summary: that of one chunk, of two and so on.
+    per_line: usize,
+    beginnings: &'a [Kept<S>],
+    ghost most: { length numbers.now ≤ MOST_PLACES },
+    ghost beginnings_most: { length beginnings.now ≤ MOST_PLACES },
+    ghost chunks: { items ≤ (per_line + 1) * CHUNK },
+    ghost rows: { (line : ℕ) → line * items < length numbers.now → (line + 1) * per_line ≤ length beginnings.now },
+    ghost joined: { AreUpToChunks S.step (λ k. S.item_count k.summary) (λ k. S.outcome k.summary) numbers.now items per_line (length beginnings.now) beginnings.now },
+}
+
+/// Puts so many zeros behind other values.
+fn append_zeros(values: &mut Vec<i64>, len: usize)
+    requires { vec_len values.old + len ≤ vec_capacity values.old }
+    ensures items { values.new.items ≡ values.old.items ++ replicate len (pos 0) }
+    ensures capacity { vec_capacity values.new ≡ vec_capacity values.old }
+{
+    for _more in 0..len {
+        values.push_reserved(0);
+    }
+}
+
+impl<S: Summary<Item = i64> + Copy + Drop> Scans<'_, S> {
+    /// The row of the last whole chunk of a line that lies before a place, if there is one.
+    fn chunk_before(&self, place: usize) -> Option<usize>
+        requires { place < length self.now.numbers.now }
+        ensures within { IfSome result (λ row. row < length self.now.beginnings.now) }
+        ensures row { MatchOption result (place % self.now.items / CHUNK ≡ 0) (λ row. IsChunkBefore self.now.per_line self.now.items place row) }
+    {
+        let chunks = self.items.remainder(place) / CHUNK;
+        if chunks == 0 {
+            return None;
+        }
+        Some(self.items.quotient(place) * self.per_line + (chunks - 1))
+    }
+
+    /// The summary of the whole chunks of a line that lie before a place, where there are some.
+    fn chunks_before(&self, place: usize) -> Option<Kept<S>>
+        requires { place < length self.now.numbers.now }
+        ensures { IsSummaryOrNone S.step (λ k. S.item_count k.summary) (λ k. S.outcome k.summary) (stretch self.now.numbers.now (place - place % self.now.items) (place % self.now.items / CHUNK * CHUNK)) result }
+    {
+        let beginnings = self.beginnings;
+        match self.chunk_before(place) {
+            None => None,
+            Some(row) => Some(beginnings[row].copied()),
+        }
+    }
+
+    /// The summary of the numbers of a line that stand before a place, where there are some.
+    fn before(&self, place: usize) -> Option<Kept<S>>
+        requires { place < length self.now.numbers.now }
+        ensures { IsSummaryOrNone S.step (λ k. S.item_count k.summary) (λ k. S.outcome k.summary) (stretch self.now.numbers.now (place - place % self.now.items) (place % self.now.items)) result }
+    {
+        let rest = self.items.remainder(place) % CHUNK;
+        let mut running = self.chunks_before(place);
+        for done in 0..rest {
+            running = Some(with_next(&running, self.numbers[place - rest + done]));
+        }
+        running
+    }
+
+    /// How many places from one on up to before another stand in one line.
+    fn run_length(&self, from: usize, to: usize) -> usize
+        requires order { from ≤ to }
+        requires within { to ≤ length self.now.numbers.now }
+        ensures order { from + result ≤ to }
+        ensures line { 0 < result → from % self.now.items + result ≤ self.now.items }
+    {
+        if from == to {
+            return 0;
+        }
+        (self.items.number() - self.items.remainder(from)).min(to - from)
+    }
+
+    /// Puts the folds up to the places from `from` on, all of them in one line, into the room, up to before
+    /// the first that has a fault. It says how many they are.
+    fn scan_run(&self, from: usize, room: &mut [i64]) -> usize
+        requires some { 0 < length room.old }
+        requires within { from + length room.old ≤ length self.now.numbers.now }
+        requires line { from % self.now.items + length room.old ≤ self.now.items }
+        ensures most { result ≤ length room.old }
+        ensures values { AreWritten (scan_at S.step self.now.numbers.now self.now.items 1) from (from + result) room.new }
+        ensures len { length room.new ≡ length room.old }
+    {
+        let mut running = self.before(from);
+        for k in 0..room.len() {
+            let number = self.numbers[from + k];
+            match fold_behind(&running, number) {
+                Ok(value) => room[k] = value,
+                Err(_) => return k,
+            }
+            running = Some(with_next(&running, number));
+        }
+        room.len()
+    }
+}
+
+impl<S: Summary<Item = i64> + Copy + Drop> Kernel for Scans<'_, S> {
+    ghost use Rattle.std.specs.Prelude.{length};
+    ghost use Rattle.apl_scan.specs.Lines.{scan_at};
+
+    type Out = i64;
+
+    ghost place_count = { λ k. length k.numbers.now };
+
+    ghost outcome = { λ k place. scan_at S.step k.numbers.now k.items 1 place };
+
+    fn count(&self) -> usize {
+        self.numbers.len()
+    }
+
+    fn at(&self, place: usize) -> Result<i64, Fault> {
+        fold_behind(&self.before(place), self.numbers[place])
+    }
+
+    fn append_run(&self, from: usize, to: usize, values: &mut Vec<i64>) -> usize {
+        let len = self.run_length(from, to);
+        if len == 0 {
+            return from;
+        }
+        let start = values.len();
+        append_zeros(values, len);
+        let done = self.scan_run(from, &mut values.as_mut_slice()[start..]);
+        values.truncate(start + done);
+        from + done
+    }
+
+    fn write_run(&self, from: usize, to: usize, room: &mut [i64]) -> usize {
+        let len = self.run_length(from, to);
+        if len == 0 {
+            return from;
+        }
+        from + self.scan_run(from, &mut room[..len])
+    }
+}
+
+/// The summaries of the beginnings of all lines, so many of each.
+fn summarize_lines<
+    S: Summary<Item = i64> + Copy + Drop + Send,
+    R: Threads + Sync,
+    C: Cut + Sync,
+    G: Gate + Sync,
+>(
+    rt: &R,
+    alloc: Global,
+    pool: &Pool<C, G>,
+    numbers: &[i64],
+    items: usize,
+    per_line: usize,
+) -> Result<Vec<Kept<S>>, Stop>
+    requires most { length numbers.now ≤ MOST_PLACES }
+    requires items { (0 < items) × (items ≤ MOST_PLACES) }
+    requires within { per_line * CHUNK < items }
+    ensures rows { IfOk result (λ v. vec_len v ≡ length numbers.now / items * per_line) }
+    ensures joined { IfOk result (λ v. AreUpToChunks S.step (λ k. S.item_count k.summary) (λ k. S.outcome k.summary) numbers.now items per_line (length numbers.now / items * per_line) v.items) }
+    ensures memory { IfErr result (λ stop. stop ≡ Stop.Memory) }
+{
+    if per_line == 0 {
+        return Ok(Vec::new(alloc));
+    }
+    let rows = numbers.len() / items * per_line;
+    let chunks = Chunks {
+        numbers,
+        items,
+        per_line: Divisor::new(per_line),
+        rows,
+    };
+    summarize(rt, alloc, pool, &chunks)
+}
+
+/// The folds of numbers up to each place of lines of so many neighbours, by one type of summaries.
+fn fill_summarized<
+    S: Summary<Item = i64> + Copy + Drop + Send + Sync,
+    R: Threads + Sync,
+    C: Cut + Sync,
+    G: Gate + Sync,
+>(rt: &R, alloc: Global, pool: &Pool<C, G>, numbers: &[i64], items: usize) -> Result<Vec<i64>, Stop>
+    requires most { length numbers.now ≤ MOST_PLACES }
+    requires items { (0 < items) × (items ≤ MOST_PLACES) }
+    requires lines { length numbers.now / items * items ≡ length numbers.now }
+    ensures values { IfOk result (λ v. AreValues (scan_at S.step numbers.now items 1) (length numbers.now) v.items) }
+    ensures stop { IfErr result (IsStopOf (scan_at S.step numbers.now items 1) (length numbers.now)) }
+{
+    let per_line = (items - 1) / CHUNK;
+    let beginnings: Vec<Kept<S>> = summarize_lines(rt, alloc, pool, numbers, items, per_line)?;
+    let scans = Scans {
+        numbers,
+        items: Divisor::new(items),
+        per_line,
+        beginnings: beginnings.as_slice(),
+    };
+    pool.fill(rt, alloc, &scans)
+}
+
+/// The folds of numbers up to each place of lines of so many neighbours, by a function whose folds have
+/// summaries.
+pub(crate) fn fill_by_summary<R: Threads + Sync, C: Cut + Sync, G: Gate + Sync>(
+    rt: &R,
+    alloc: Global,
+    pool: &Pool<C, G>,
+    f: ScalarFunction,
+    numbers: &[i64],
+    items: usize,
+) -> Result<Vec<i64>, Stop>
+    requires summary { has_summary f ≡ true }
+    requires most { length numbers.now ≤ MOST_PLACES }
+    requires items { (0 < items) × (items ≤ MOST_PLACES) }
+    requires lines { length numbers.now / items * items ≡ length numbers.now }
+    ensures values { IfOk result (λ v. AreValues (scan_at (dyadic_numbers f) numbers.now items 1) (length numbers.now) v.items) }
+    ensures stop { IfErr result (IsStopOf (scan_at (dyadic_numbers f) numbers.now items 1) (length numbers.now)) }
+{
+    with_summary!(
+        f,
+        fill_summarized::<S, R, C, G>(rt, alloc, pool, numbers, items),
+        unreachable!()
+    )
+}

@@ -1,0 +1,62 @@
+⍝ Scans
++\1 2 3
++\5 ¯9223372036854775808 ¯1
+)CLEAR
++\2 3⍴⍳6
+)CLEAR
++⍀2 3⍴⍳6
++\[1]2 3⍴⍳6
+)CLEAR
+-\1 2 3
+)CLEAR
+⌈\3 1 4 1 5
+)CLEAR
+∧\1 1 0 1
+)CLEAR
+∨\0 1 0
+)CLEAR
+<\0 0 1 1
+)CLEAR
+×\1 2 3 4
+)CLEAR
+∧\2
+)CLEAR
+∧\1 2 0
+⌈\'AB'
+=\'AB'
+)CLEAR
+⌈\,'A'
+)CLEAR
++\5
++\[1]5
+)CLEAR
+⍲\⍳0
+)CLEAR
+A+\B
+)CLEAR
+1 0 1\'AB'
+)CLEAR
+=\,'A'
+)CLEAR
+=\'AB'
+)CLEAR
+3↑,=\0 2⍴'A'
+)CLEAR
+3↑,=\0 1⍴'A'
+)CLEAR
+3↑,=⍀0 2⍴'A'
+)CLEAR
+∧\2 1
+)CLEAR
+∧⍀1 2⍴5 6
+)CLEAR
+!\5 3 2
+)CLEAR
+⍲\5
+)CLEAR
+÷\2 2⍴6 4 ¯9223372036854775808 ¯1
+)CLEAR
+÷\2 2⍴¯9223372036854775808 ¯1 6 4
+)CLEAR
++/+\100000⍴1
+)CLEAR
