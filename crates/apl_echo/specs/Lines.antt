@@ -1,0 +1,41 @@
+-- Lines that are printed, and lines that read as a constant.
+use Rattle.std.specs.Prelude.{◌==◌, ℕ, ℤ, Bool, not, List, map, encode_utf8_all}
+use Rattle.apl_array.specs.declared.array.Kind.TheVariants.{Number}
+use Rattle.apl_array.specs.Array.{ArrayValue, number_array, character_array}
+use Rattle.apl_print.specs.Text.{line_feed, ended}
+use Rattle.apl_print.specs.Row.{joined}
+use Rattle.apl_print.specs.Shown.{numeral_of, gap_of, IsShown}
+use Rattle.apl_tokens.specs.Symbols.{is_quote}
+use Rattle.apl_tokens.specs.Fronts.{AllPass}
+use Rattle.apl_tokens.specs.Lexis.{constant_shape}
+use Rattle.apl_grammar.specs.Tree.{value, constant}
+use Rattle.apl_syntax.specs.Reading.{statement, blank, IsReading}
+
+-- the array of these numbers, and of these characters: a scalar of one, a vector of another number of them
+abbrev pub number_value : List ℤ → ArrayValue
+number_value numbers = number_array (constant_shape numbers) numbers
+
+abbrev pub text_value : List ℕ → ArrayValue
+text_value characters = character_array (constant_shape characters) characters
+
+-- the numerals of these numbers, with a blank between them
+abbrev pub number_line : List ℤ → List ℕ
+number_line numbers = joined (gap_of Number) (map numeral_of numbers)
+
+abbrev pub is_no_line_feed : ℕ → Bool
+is_no_line_feed c = not (c == line_feed)
+
+abbrev pub is_no_quote : ℕ → Bool
+is_no_quote c = not (is_quote c)
+
+-- the text of the array is this line alone, and the line feed at its end
+pub record IsPrintedLine (a : ArrayValue) (width : ℕ) (line : List ℕ) : Type 0 where
+  pub shown : IsShown a width (ended line)
+  pub one : AllPass is_no_line_feed line
+
+-- the line reads as the statement whose tree is the constant of this value alone
+abbrev pub ReadsAs : List ℕ → ArrayValue → Type 0
+ReadsAs line a = IsReading (encode_utf8_all line) (statement (value (constant 0 a)))
+
+abbrev pub ReadsAsBlank : List ℕ → Type 0
+ReadsAsBlank line = IsReading (encode_utf8_all line) blank

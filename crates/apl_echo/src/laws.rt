@@ -1,0 +1,47 @@
+//! What is printed reads back, each law the contract of a function that does nothing.
+ghost use Rattle.std.specs.Prelude.{◌≡◌, ℕ, ◌<◌, ◌≤◌, ℤ, List, [], ◌∷◌, ◌++◌, length};
+ghost use Rattle.apl_array.specs.Array.{number_array, character_array};
+ghost use Rattle.apl_array.specs.Limits.{IsWithinLimits};
+ghost use Rattle.apl_array.specs.Range.{IsInRange, HasNumbersInRange};
+ghost use Rattle.apl_tokens.specs.Symbols.{is_listed, quote};
+ghost use Rattle.apl_tokens.specs.Fronts.{AllPass};
+ghost use Rattle.apl_tokens.specs.Lexis.{quoted};
+ghost use Rattle.apl_echo.specs.Lines.{number_value, text_value, number_line, is_no_quote, IsPrintedLine, ReadsAs, ReadsAsBlank};
+
+/// Where the text of a number, or of a vector of two numbers or more, is one line, that line reads as the
+/// constant of the same value. The line of a vector of one number reads as that number, a scalar, and that
+/// of a vector without numbers is blank.
+///
+/// The text is one line where the numerals, with a blank between them, fit the width. Of continuation lines
+/// and of matrices nothing is said.
+pub fn printed_numbers_read_back()
+    ensures value { (numbers : List ℤ) (width : ℕ) (line : List ℕ) → 0 < length numbers
+        → IsWithinLimits (number_value numbers) → IsPrintedLine (number_value numbers) width line
+        → ReadsAs line (number_value numbers) }
+    ensures vector_of_one { (n : ℤ) (width : ℕ) (line : List ℕ) → IsInRange n
+        → IsPrintedLine (number_array (1 ∷ []) (n ∷ [])) width line → ReadsAs line (number_value (n ∷ [])) }
+    ensures no_number { (width : ℕ) (line : List ℕ) → IsPrintedLine (number_value []) width line
+        → ReadsAsBlank line }
+    ensures fits { (numbers : List ℤ) (width : ℕ) → 0 < length numbers
+        → HasNumbersInRange (number_value numbers) → length (number_line numbers) ≤ width
+        → IsPrintedLine (number_value numbers) width (number_line numbers) }
+{}
+
+/// Where the text of a character, or of a vector of any other number of them, is one line, that line between
+/// quotes, each quote of its own doubled, reads as the constant of the same value. That of a vector of one
+/// character reads as that character, a scalar. The characters are listed symbols, as those of lines are.
+///
+/// A line without quotes stands between the two as it is. The text is one line where the characters fit the
+/// width. Of continuation lines and of matrices nothing is said.
+pub fn printed_text_reads_back()
+    ensures value { (characters : List ℕ) (width : ℕ) (line : List ℕ) → AllPass is_listed characters
+        → IsWithinLimits (text_value characters) → IsPrintedLine (text_value characters) width line
+        → ReadsAs (quoted line) (text_value characters) }
+    ensures vector_of_one { (c width : ℕ) (line : List ℕ) → AllPass is_listed (c ∷ [])
+        → IsPrintedLine (character_array (1 ∷ []) (c ∷ [])) width line
+        → ReadsAs (quoted line) (text_value (c ∷ [])) }
+    ensures without_quotes { (line : List ℕ) → AllPass is_no_quote line
+        → quoted line ≡ quote ∷ (line ++ quote ∷ []) }
+    ensures fits { (characters : List ℕ) (width : ℕ) → AllPass is_listed characters
+        → length characters ≤ width → IsPrintedLine (text_value characters) width characters }
+{}
