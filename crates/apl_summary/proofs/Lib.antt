@@ -9,3 +9,5 @@ pub mod TwoValuedAnswers
 pub mod Examples
 pub mod RowNumbers
 pub mod FourExtremes
+pub mod ConsecutiveLists
+pub mod RunningSums

@@ -25,7 +25,7 @@ le_true a b e = grind (arith, ints)
 pub true_le : (a b : ℤ) → a ≤ℤ b → int_le a b ≡ true
 true_le a b h = grind (arith, ints)
 
-by_test : (b : Bool) (P : Type 0) → (b ≡ true → P) → (b ≡ false → P) → P
+pub by_test : (b : Bool) (P : Type 0) → (b ≡ true → P) → (b ≡ false → P) → P
 by_test true P f g = f refl
 by_test false P f g = g refl
 
@@ -34,11 +34,11 @@ cond_ok : (b : Bool) (x v : ℤ) (e : Fault) → cond b (Ok x) (Err e) ≡ Ok v 
 cond_ok true x v e h = (refl, cc)
 cond_ok false x v e h = absurd (cc)
 
-and_true : (a b : Bool) → a && b ≡ true → (a ≡ true) × (b ≡ true)
+pub and_true : (a b : Bool) → a && b ≡ true → (a ≡ true) × (b ≡ true)
 and_true true b e = (refl, e)
 and_true false b e = absurd (cc)
 
-true_and : (a b : Bool) → a ≡ true → b ≡ true → a && b ≡ true
+pub true_and : (a b : Bool) → a ≡ true → b ≡ true → a && b ≡ true
 true_and true b p q = q
 true_and false b p q = absurd (cc)
 
@@ -128,10 +128,10 @@ joined_outcome is_plus a b g h r inside =
     (λ e. outcome_err j r (λ p. true≢false (sym (fits_from b r (right_passes is_plus a.is_negated b.is_negated a.count b.count a.total b.total a.plus b.plus a.minus b.minus r p)) ∙ e))
     ∙ sym (ap (λ (o : Result ℤ Fault). and_then o (signed_outcome a)) (ap (λ (t : Bool). cond t (Ok (out_of b r)) (Err Limit)) e)))
 
-in_range_true : (v : ℤ) → IsI64 v → in_range v ≡ true
+pub in_range_true : (v : ℤ) → IsI64 v → in_range v ≡ true
 in_range_true v h = true_and _ _ (true_le _ _ h.0) (true_le _ _ h.1)
 
-in_range_is : (v : ℤ) → in_range v ≡ true → IsI64 v
+pub in_range_is : (v : ℤ) → in_range v ≡ true → IsI64 v
 in_range_is v e = let p = and_true _ _ e in (le_true _ _ p.0, le_true _ _ p.1)
 
 single_in : (is_plus : Bool) (x r : ℤ) → IsI64 r → IsI64 (cond is_plus (x +ℤ r) (x -ℤ r)) → Passes (constants_of_one is_plus x) r

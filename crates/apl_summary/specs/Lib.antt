@@ -7,3 +7,4 @@ pub mod Functions
 pub mod SmallConstants
 pub mod SmallCoefficients
 pub mod RowFolds
+pub mod ConsecutiveSums

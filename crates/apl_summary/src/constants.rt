@@ -28,7 +28,7 @@ pub struct Constants {
     pub minus: Bounds,
 }
 
-fn sum(a: i128, b: i128) -> i128
+pub fn sum(a: i128, b: i128) -> i128
     requires { IsWithin94Bits a × IsWithin94Bits b }
     ensures { result ≡ a +ℤ b }
 {
@@ -44,7 +44,7 @@ fn difference(a: i128, b: i128) -> i128
 
 impl Bounds {
     /// The bounds of one constant.
-    fn of(constant: i128) -> Bounds
+    pub fn of(constant: i128) -> Bounds
         ensures { result ≡ bounds constant constant }
     {
         Bounds {
@@ -54,14 +54,14 @@ impl Bounds {
     }
 
     /// Whether all constants are in the range.
-    fn are_in_range(&self) -> bool
+    pub fn are_in_range(&self) -> bool
         ensures { result ≡ are_in_range self.now }
     {
         are_in_range(self.least, self.greatest)
     }
 
     /// The bounds of the constants and `by`.
-    fn raised(&self, by: i128) -> Bounds
+    pub fn raised(&self, by: i128) -> Bounds
         requires { IsWithin94Bits self.now.least × IsWithin94Bits self.now.greatest × IsWithin94Bits by }
         ensures { result ≡ raised self.now by }
     {
@@ -83,7 +83,7 @@ impl Bounds {
     }
 
     /// The bounds of the constants of both.
-    fn with(&self, other: &Bounds) -> Bounds
+    pub fn with(&self, other: &Bounds) -> Bounds
         ensures { result ≡ of_both self.now other.now }
     {
         Bounds {

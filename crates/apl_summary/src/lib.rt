@@ -3,6 +3,8 @@
 
 mod answers;
 mod coefficients;
+mod consecutive;
+mod consecutive_sums;
 mod constants;
 mod extreme;
 mod extremum;
@@ -17,6 +19,7 @@ mod two_valued;
 
 pub use apl_array::ScalarFunction as Prim;
 pub use apl_scalar::function_types;
+pub use consecutive::Consecutive;
 pub use extreme::Extreme;
 pub use folded_rows::{FoldedRows, fold_rows};
 pub use folding::has_summary;
