@@ -9,7 +9,9 @@ use apl_pool::{Cut, Fault, MOST_PLACES, Open, Pool, Rows, Schedule, Stop, Summar
 use apl_reduce::reduce;
 use apl_scalar::function_types::{And, Less};
 use apl_scalar::{OpFault, Prim, apply2};
-use apl_summary::{Extreme, FoldedRows, Scaled, SignedSum, TwoValued, fold_rows, has_summary};
+use apl_summary::{
+    Consecutive, Extreme, FoldedRows, Scaled, SignedSum, TwoValued, fold_rows, has_summary,
+};
 use std::alloc::Global;
 use std::test::Fail;
 use std::thread::Threads;
@@ -60,6 +62,61 @@ fn summaries(rt: HostRuntime) {
         assert!(rt; answer == wanted);
     }
     assert!(rt; three::<SignedSum<1>>([10, 4, 3], 2) == [Ok(7), Ok(7)]);
+}
+
+/// The summary of the items of both, of at most a million each.
+fn both(left: &Consecutive, right: &Consecutive) -> Option<Consecutive> {
+    if left.items() > 1_000_000 || right.items() > 1_000_000 {
+        return None;
+    }
+    Some(Consecutive::join(left, right))
+}
+
+/// The summary of items that are joined from the first to the last, or from the last to the first.
+fn consecutive(items: &[i64], is_from_last: bool) -> Option<Consecutive> {
+    let mut all = None;
+    for k in 0..items.len() {
+        let at = if is_from_last { items.len() - 1 - k } else { k };
+        let item = Consecutive::one(items[at]);
+        all = Some(match all {
+            None => item,
+            Some(others) if is_from_last => both(&item, &others)?,
+            Some(others) => both(&others, &item)?,
+        });
+    }
+    all
+}
+
+/// Whether items are so many, and each sum of consecutive ones is in the range or not, in both nestings.
+fn tells(items: &[i64], count: u32, is_lawful: bool) -> bool {
+    let told = |all: Option<Consecutive>| match all {
+        None => false,
+        Some(all) => all.items() == count && all.lawful() == is_lawful,
+    };
+    told(consecutive(items, false)) && told(consecutive(items, true))
+}
+
+#[test]
+fn consecutive_sums(rt: HostRuntime) -> Result<(), Fail> {
+    for (items, count, is_lawful) in [
+        ([5, LEAST, -1].as_slice(), 3, false),
+        ([5, LEAST].as_slice(), 2, true),
+        ([MOST, 0, 1].as_slice(), 3, false),
+        ([MOST, -1, 1].as_slice(), 3, true),
+        ([LEAST].as_slice(), 1, true),
+    ] {
+        assert!(rt; tells(items, count, is_lawful));
+    }
+    let mut ones = Vec::new(rt.alloc());
+    for _ in 0..3000 {
+        ones.push(1)?;
+    }
+    assert!(rt; tells(ones.as_slice(), 3000, true));
+    if ones.len() > 1500 {
+        ones.as_mut_slice()[1500] = MOST;
+    }
+    assert!(rt; tells(ones.as_slice(), 3000, false));
+    Ok(())
 }
 
 /// A piece ends behind each place whose bit is set.
