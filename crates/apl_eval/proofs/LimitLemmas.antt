@@ -21,7 +21,7 @@ use Rattle.apl_struct.specs.Building.{shape_of_row, reshape_row, ravel_row, iota
 use Rattle.apl_struct.specs.Joining.{catenate_row}
 use Rattle.apl_struct.specs.Taking.{take_row, drop_row}
 use Rattle.apl_struct.specs.Moving.{reverse_row, rotate_row, transpose_row, transpose_by_row}
-use Rattle.apl_struct.specs.Compressing.{compress_row, expand_row}
+use Rattle.apl_struct.specs.Compressing.{replicate_row, expand_row}
 use Rattle.apl_struct.specs.Searching.{index_of_row, member_row}
 use Rattle.apl_struct.specs.Indexing.{Slots, select_row, replace_row}
 use Rattle.apl_struct.specs.Ordering.{grade_up_row, grade_down_row}
@@ -55,7 +55,7 @@ pub record StructuralAnswersWithinLimits : Type 0 where
   pub drop : (a b answer : ArrayValue) → IsWithinLimits a → IsWithinLimits b → rows.result_of (drop_row a b) ≡ Ok answer → IsWithinLimits answer
   pub rotate : (a b answer : ArrayValue) (axis : Axis) → IsWithinLimits a → IsWithinLimits b → rows.result_of (rotate_row a b axis) ≡ Ok answer → IsWithinLimits answer
   pub transpose_by : (a b answer : ArrayValue) (origin : Origin) → IsWithinLimits a → IsWithinLimits b → rows.result_of (transpose_by_row a b origin) ≡ Ok answer → IsWithinLimits answer
-  pub compress : (a b answer : ArrayValue) (axis : Axis) → IsWithinLimits a → IsWithinLimits b → rows.result_of (compress_row a b axis) ≡ Ok answer → IsWithinLimits answer
+  pub replicate : (a b answer : ArrayValue) (axis : Axis) → IsWithinLimits a → IsWithinLimits b → rows.result_of (replicate_row a b axis) ≡ Ok answer → IsWithinLimits answer
   pub expand : (a b answer : ArrayValue) (axis : Axis) → IsWithinLimits a → IsWithinLimits b → rows.result_of (expand_row a b axis) ≡ Ok answer → IsWithinLimits answer
   pub index_of : (a b answer : ArrayValue) (origin : Origin) → IsWithinLimits a → IsWithinLimits b → rows.result_of (index_of_row a b origin) ≡ Ok answer → IsWithinLimits answer
   pub member : (a b answer : ArrayValue) → IsWithinLimits a → IsWithinLimits b → rows.result_of (member_row a b) ≡ Ok answer → IsWithinLimits answer
@@ -116,8 +116,8 @@ module _ (scalar : ScalarAnswersWithinLimits) (structural : StructuralAnswersWit
   dyadic_along_within Comma axis a b h k = within (rows.result_of (catenate_row a b axis)) (λ answer. structural.catenate a b answer axis h k)
   dyadic_along_within CircleStile axis a b h k = within (rows.result_of (rotate_row a b axis)) (λ answer. structural.rotate a b answer axis h k)
   dyadic_along_within CircleBar axis a b h k = within (rows.result_of (rotate_row a b axis)) (λ answer. structural.rotate a b answer axis h k)
-  dyadic_along_within Slash axis a b h k = within (rows.result_of (compress_row a b axis)) (λ answer. structural.compress a b answer axis h k)
-  dyadic_along_within SlashBar axis a b h k = within (rows.result_of (compress_row a b axis)) (λ answer. structural.compress a b answer axis h k)
+  dyadic_along_within Slash axis a b h k = within (rows.result_of (replicate_row a b axis)) (λ answer. structural.replicate a b answer axis h k)
+  dyadic_along_within SlashBar axis a b h k = within (rows.result_of (replicate_row a b axis)) (λ answer. structural.replicate a b answer axis h k)
   dyadic_along_within Backslash axis a b h k = within (rows.result_of (expand_row a b axis)) (λ answer. structural.expand a b answer axis h k)
   dyadic_along_within BackslashBar axis a b h k = within (rows.result_of (expand_row a b axis)) (λ answer. structural.expand a b answer axis h k)
   dyadic_along_within _ axis a b h k = tt

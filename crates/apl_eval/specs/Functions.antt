@@ -20,7 +20,7 @@ use Rattle.apl_struct.specs.Building.{shape_of_row, reshape_row, ravel_row, iota
 use Rattle.apl_struct.specs.Joining.{catenate_row}
 use Rattle.apl_struct.specs.Taking.{take_row, drop_row}
 use Rattle.apl_struct.specs.Moving.{reverse_row, rotate_row, transpose_row, transpose_by_row}
-use Rattle.apl_struct.specs.Compressing.{compress_row, expand_row}
+use Rattle.apl_struct.specs.Compressing.{replicate_row, expand_row}
 use Rattle.apl_struct.specs.Searching.{index_of_row, member_row}
 use Rattle.apl_struct.specs.Indexing.{select_row, replace_row}
 use Rattle.apl_struct.specs.Ordering.{grade_up_row, grade_down_row}
@@ -132,8 +132,8 @@ abbrev pub dyadic_along : Glyph → Axis → (left right : ArrayValue) → Resul
 dyadic_along Comma axis a b = result_by (catenate_row a b axis)
 dyadic_along CircleStile axis a b = result_by (rotate_row a b axis)
 dyadic_along CircleBar axis a b = result_by (rotate_row a b axis)
-dyadic_along Slash axis a b = result_by (compress_row a b axis)
-dyadic_along SlashBar axis a b = result_by (compress_row a b axis)
+dyadic_along Slash axis a b = result_by (replicate_row a b axis)
+dyadic_along SlashBar axis a b = result_by (replicate_row a b axis)
 dyadic_along Backslash axis a b = result_by (expand_row a b axis)
 dyadic_along BackslashBar axis a b = result_by (expand_row a b axis)
 dyadic_along _ axis a b = Err error.Syntax

@@ -1,11 +1,13 @@
 -- Scalars that serve as vectors.
 use Rattle.std.proofs.Common.{◌≡◌, pos, ℕ, ◌+◌, ◌*◌, ◌%◌, ◌<◌, true, false, Bool, List, [], ◌∷◌, length, take, drop, slice_index, refl, ap, sym, ◌∙◌, eq-eqb, arith}
-use Rattle.std.specs.Prelude.{slice_set, Option, Some, None, option_map, IfSome, ◌≤◌, ◌^◌, max}
+use Rattle.std.specs.Prelude.{slice_set, Option, Some, None, option_map, IfSome, ◌≤◌, ◌^◌, max, All, replicate, if◌then◌else◌}
 use Rattle.std.proofs.Math.Nat.{div-one, mod-eq_of_lt, mul-le-mul}
 use Rattle.std.proofs.lemmas.Bool.{eqb-true}
 use Rattle.std.proofs.lemmas.List.{get_or-replicate, length-set, nil_from_length}
 use Rattle.std.proofs.lemmas.List.Elements.{All-set, All-get_or, All-replicate}
+use Rattle.apl_array.specs.declared.array.Elem.{Elem}
 use Rattle.apl_array.specs.declared.array.Elem.TheVariants.{Int}
+use Rattle.apl_array.specs.Range.{IsElementInRange, HasNumbersInRange}
 use Rattle.apl_array.specs.Array.{ArrayValue, IsArray}
 use Rattle.apl_array.specs.Shape.{IsShape, count_of, index_at}
 use Rattle.apl_answer.specs.Arguments.{is_scalar, rank_of, fill_of, only_element}
@@ -13,6 +15,7 @@ use Rattle.apl_struct.specs.Compressing.{as_vector}
 use Rattle.apl_struct.specs.Gathered.{filled_at}
 use Rattle.apl_struct.specs.Gathering.{element_or_fill}
 use Rattle.apl_struct.proofs.Filled.{get_or-within}
+use Rattle.apl_struct.proofs.Ranges.{element_in_in}
 
 -- the shape of a scalar that serves as a vector of n
 abbrev pub vector_shape : ℕ → List ℕ → List ℕ
@@ -80,3 +83,10 @@ shrunk shape k m axis shorter changed same lawful =
       axes = All-set (λ x. x ≤ 2 ^ 30) shape k m (omega (arith, shorter, n_most)) lawful.axes;
       count = omega (arith, changed, same, fewer, lawful.count);
     }
+
+either_all : (c : Bool) (xs ys : List Elem) → All IsElementInRange xs → All IsElementInRange ys → All IsElementInRange (if c then xs else ys)
+either_all true xs ys h k = h
+either_all false xs ys h k = k
+
+pub as_vector_in : (n : ℕ) (b : ArrayValue) → HasNumbersInRange b → HasNumbersInRange (as_vector n b)
+as_vector_in n b h = either_all (is_scalar b) (replicate n (only_element b)) b.ravel (All-replicate IsElementInRange n (only_element b) (element_in_in b 0 h)) h

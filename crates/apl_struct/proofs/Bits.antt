@@ -17,7 +17,7 @@ use Rattle.apl_struct.proofs.Repeated.{repeated_step}
 abbrev pub counts : List ℤ → List ℕ
 counts bits = map place_number bits
 
-count_at : (bits : List ℤ) (i : ℕ) → slice_index (counts bits) i ≡ place_number (slice_index_or bits i (pos 0))
+pub count_at : (bits : List ℤ) (i : ℕ) → slice_index (counts bits) i ≡ place_number (slice_index_or bits i (pos 0))
 count_at [] i = refl
 count_at (z ∷ zs) zero = refl
 count_at (z ∷ zs) (suc i) = count_at zs i

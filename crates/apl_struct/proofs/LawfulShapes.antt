@@ -29,20 +29,3 @@ axis_most shape k lawful =
     (λ within. lawful.axes k 0 within)
     (λ past. rw (get_or_past shape k 0 past) (omega arith))
     (cases_lt k (length shape))
-
-count_narrowed : (shape : List ℕ) (k m : ℕ) → m ≤ slice_index shape k → count_of (slice_set shape k m) ≤ count_of shape
-count_narrowed [] k m less = le_refl 1
-count_narrowed (n ∷ ns) zero m less = mul-le-mul_right (count_of ns) less
-count_narrowed (n ∷ ns) (suc k) m less = mul-le-mul_left n (count_narrowed ns k m less)
-
--- an axis becomes no longer
-pub lawful_narrowed : (shape : List ℕ) (k m : ℕ) → m ≤ slice_index shape k → IsShape shape → IsShape (slice_set shape k m)
-lawful_narrowed shape k m less lawful = record {
-  rank = omega (arith, lawful.rank, length-set shape k m);
-  axes = All-set (λ n. n ≤ most_elements) shape k m (omega (arith, less, axis_most shape k lawful)) lawful.axes;
-  count = omega (arith, lawful.count, count_narrowed shape k m less);
-}
-
-pub either_lawful : (b : Bool) (left right : List ℕ) → IsShape left → IsShape right → IsShape (if b then left else right)
-either_lawful true left right h k = h
-either_lawful false left right h k = k

@@ -22,10 +22,12 @@ pub mod InOrder
 pub mod LawfulShapes
 pub mod NamedAxes
 pub mod Ranges
-pub mod Counts
+pub mod CappedAxes
 pub mod RowLimits
 pub mod Repeated
 pub mod Bits
+pub mod Naturals
+pub mod Replicated
 pub mod AsVectors
 pub mod FirstPlaces
 pub mod Searches

@@ -1,8 +1,10 @@
 -- Indexes repeated by counts.
-use Rattle.std.proofs.Common.{◌≡◌, ℕ, zero, suc, ◌+◌, ◌<◌, List, [], ◌∷◌, ◌++◌, take, length, replicate, slice_index, refl, ap, sym, ◌∙◌, arith}
+use Rattle.std.proofs.Common.{◌≡◌, ℕ, zero, suc, ◌+◌, ◌-◌, ◌*◌, ◌/◌, ◌<◌, List, [], ◌∷◌, ◌++◌, take, length, replicate, slice_index, refl, ap, sym, ◌∙◌, ⊎_elim, arith}
 use Rattle.std.specs.Prelude.{◌≤◌, All, sum, flat_map}
 use Rattle.std.specs.List.{range_with_len}
-use Rattle.std.proofs.lemmas.List.{append-nil, append_assoc, length-append, length-replicate}
+use Rattle.std.proofs.Math.Nat.{div-eq_of_lt, div-one, add-div_right, mul-le-mul_left}
+use Rattle.std.proofs.lemmas.Bool.{cases_lt}
+use Rattle.std.proofs.lemmas.List.{append-nil, append_assoc, length-append, length-replicate, get_or_append_left, get_or-append_right, get_or-replicate}
 use Rattle.std.proofs.lemmas.List.Elements.{All-nil, All-append, All-replicate}
 use Rattle.std.proofs.lemmas.List.Sums.{sum_by-cons}
 use Rattle.apl_struct.specs.Compressing.{repeated_indexes}
@@ -66,15 +68,41 @@ repeats_length start (c ∷ cs) =
 pub repeated_length : (counts : List ℕ) → length (repeated_indexes counts) ≡ sum counts
 repeated_length counts = ap length (repeated_is counts) ∙ repeats_length 0 counts
 
-repeats_ones : (start n i : ℕ) → i < n → slice_index (repeats start (replicate n 1)) i ≡ start + i
-repeats_ones start zero i inside = absurd (omega (arith, inside))
-repeats_ones start (suc n) zero inside = omega arith
-repeats_ones start (suc n) (suc i) inside =
-    let further : start + 1 + i ≡ start + suc i = omega arith in
-    repeats_ones (start + 1) n i (omega (arith, inside)) ∙ further
+positive : (n c i : ℕ) → c ≤ i → i < suc n * c → 0 < c
+positive n zero i later inside = omega (arith, inside)
+positive n (suc c) i later inside = omega arith
 
--- each index once
-pub repeated_ones : (n i : ℕ) → i < n → slice_index (repeated_indexes (replicate n 1)) i ≡ i
-repeated_ones n i inside =
-    let here : 0 + i ≡ i = omega arith in
-    ap (λ indexes. slice_index indexes i) (repeated_is (replicate n 1)) ∙ repeats_ones 0 n i inside ∙ here
+repeats_same : (start n c i : ℕ) → i < n * c → slice_index (repeats start (replicate n c)) i ≡ start + i / c
+repeats_same start zero c i inside = absurd (omega (arith, inside))
+repeats_same start (suc n) c i inside =
+    let rest = repeats (start + 1) (replicate n c) in
+    let long = length-replicate c start in
+    ⊎_elim
+    (λ first.
+    let none : start ≡ start + i / c = omega (arith, div-eq_of_lt first) in
+    get_or_append_left (replicate c start) rest 0 i (omega (arith, first, long)) ∙ get_or-replicate c i start 0 first ∙ none)
+    (λ later.
+    let some : 0 < c = positive n c i later inside in
+    let back : i - c + c ≡ i = omega (arith, later) in
+    let next : i / c ≡ (i - c) / c + 1 = ap (λ m. m / c) (sym back) ∙ add-div_right (i - c) some in
+    get_or-append_right (replicate c start) rest c i 0 long later
+    ∙ repeats_same (start + 1) n c (i - c) (omega (arith, later, inside))
+    ∙ omega (arith, next))
+    (cases_lt i c)
+
+-- each index so many times
+pub repeated_same : (n c i : ℕ) → i < n * c → slice_index (repeated_indexes (replicate n c)) i ≡ i / c
+repeated_same n c i inside =
+    let here : 0 + i / c ≡ i / c = omega arith in
+    ap (λ indexes. slice_index indexes i) (repeated_is (replicate n c)) ∙ repeats_same 0 n c i inside ∙ here
+
+once : (n c : ℕ) → n * c ≤ n → 0 < n * c → c ≡ 1
+once n zero most some = absurd (omega (arith, some))
+once n (suc zero) most some = refl
+once n (suc (suc c)) most some =
+    let two : 2 ≤ suc (suc c) = omega arith in
+    absurd (omega (arith, most, some, mul-le-mul_left n two))
+
+-- each index once, or none
+pub repeated_front : (n c i : ℕ) → n * c ≤ n → i < n * c → slice_index (repeated_indexes (replicate n c)) i ≡ i
+repeated_front n c i most inside = repeated_same n c i inside ∙ ap (λ m. i / m) (once n c most (omega (arith, inside))) ∙ div-one i

@@ -13,20 +13,20 @@ use Rattle.apl_array.specs.Shape.{IsShape, IsIndexOf, is_shape, count_of}
 use Rattle.apl_array.specs.Array.{ArrayValue, element_at}
 use Rattle.apl_array.specs.Range.{IsElementInRange}
 use Rattle.apl_array.specs.Limits.{IsWithinLimits}
-use Rattle.apl_answer.specs.Arguments.{rank_of, size_of, is_bit, is_natural, is_numbers, number_of, numbers_of}
+use Rattle.apl_answer.specs.Arguments.{rank_of, size_of, is_natural, number_of, numbers_of}
 use Rattle.apl_answer.specs.Rows.{Row, HavePassed, result_of}
 use Rattle.apl_struct.specs.Building.{shape_of_row, ravel_row, reshape_row, iota_row}
 use Rattle.apl_struct.specs.Joining.{joined_rank, slices_shape, catenate_row}
 use Rattle.apl_struct.specs.Taking.{take_row, drop_row}
 use Rattle.apl_struct.specs.Moving.{reverse_row, rotate_row, transpose_row, are_all_named, transpose_by_row}
-use Rattle.apl_struct.specs.Compressing.{as_vector, counts_of, compress_row, replicate_row, expand_row}
+use Rattle.apl_struct.specs.Compressing.{as_vector, replicate_row, expand_row}
 use Rattle.apl_struct.specs.Searching.{is_same_element, index_of_row, member_row}
 use Rattle.apl_struct.specs.Indexing.{Slots, selected_shape, last_choice, select_row, replace_row}
 use Rattle.apl_struct.specs.Ordering.{upwards, downwards, grade_of, stands_before, grade_row, grade_up_row, grade_down_row}
-use Rattle.apl_struct.proofs.LawfulShapes.{lawful_vector, lawful_reverse, lawful_narrowed, axis_most}
+use Rattle.apl_struct.proofs.LawfulShapes.{lawful_vector, lawful_reverse, axis_most}
 use Rattle.apl_struct.proofs.NamedAxes.{ShapeLaw, lawful_transposed}
 use Rattle.apl_struct.proofs.Ranges.{natural_in, bit_in, origin_most, element_in_in, element_at_in, element_or_fill_in, catenated_in, replaced_in, values_most}
-use Rattle.apl_struct.proofs.Counts.{counts_most, as_vector_lawful, as_vector_in}
+use Rattle.apl_struct.proofs.AsVectors.{as_vector_in}
 
 -- a lawful shape and elements in the range, where the checks have passed, make a result within all limits
 abbrev pub RowLaw : Type 0
@@ -115,17 +115,6 @@ module _ (law : RowLaw) (decided : (lengths : List ℕ) → (is_shape lengths �
       (λ passed index inside. element_at_in b _ h.numbers)
 
   -- ---- compressing
-
-  pub compress_within : (a b r : ArrayValue) (axis : Axis) → IsWithinLimits a → IsWithinLimits b → result_of (compress_row a b axis) ≡ Ok r → IsWithinLimits r
-  compress_within a b r axis g h =
-      let c = as_vector (size_of a) b in
-      let k = axis_of axis (rank_of c) in
-      let n = slice_index c.shape k in
-      law (compress_row a b axis) r
-      (λ passed.
-      let bits = and_parts (is_numbers a) (list_all is_bit (numbers_of a)) passed.1.1.1.0 in
-      lawful_narrowed c.shape k (sum (counts_of a n)) (counts_most a n g.len passed.1.1.0 bits.1) (as_vector_lawful (size_of a) b g.shape.count h.shape))
-      (λ passed index inside. element_at_in c _ (as_vector_in (size_of a) b h.numbers))
 
   pub replicate_within : (a b r : ArrayValue) (axis : Axis) → IsWithinLimits a → IsWithinLimits b → result_of (replicate_row a b axis) ≡ Ok r → IsWithinLimits r
   replicate_within a b r axis g h =

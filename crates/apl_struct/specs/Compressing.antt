@@ -28,16 +28,7 @@ counting_checks a b axis is_count =
 abbrev pub repeated_indexes : List ℕ → List ℕ
 repeated_indexes counts = flat_map (λ i. replicate (slice_index counts i) i) (range_with_len 0 (length counts))
 
--- A/B: the indexes of the axis where A is 1, in order
-abbrev pub compress_row : ArrayValue → ArrayValue → Axis → Row
-compress_row a b axis =
-    let c = as_vector (size_of a) b in
-    let k = axis_of axis (rank_of c) in
-    let counts = counts_of a (slice_index c.shape k) in
-    gathered_row (counting_checks a c axis is_bit)
-    (slice_set c.shape k (sum counts)) c (along_axis k (slice_index (repeated_indexes counts)))
-
--- A/B where A may have any numbers from 0 up: index i of the axis stands A[i] times
+-- A/B: index i of the axis stands A[i] times
 abbrev pub replicate_row : ArrayValue → ArrayValue → Axis → Row
 replicate_row a b axis =
     let c = as_vector (size_of a) b in

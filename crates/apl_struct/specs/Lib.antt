@@ -6,6 +6,7 @@ pub mod Taking
 pub mod Moving
 pub mod Compressing
 pub mod Expanding
+pub mod Replicating
 pub mod Searching
 pub mod Indexing
 pub mod Ordering

@@ -1,26 +1,28 @@
 //! Indexes of an axis that numbers keep, repeat or spread.
-ghost use Rattle.std.specs.Prelude.{◌≡◌, ◌&&◌, ◌||◌, ◌==◌, true, false, ℕ, ◌<◌, ◌≤◌, List, All, Ok, IfOk, MatchOption, map, max, sum, take, length, replicate, slice_index, slice_set};
+ghost use Rattle.std.specs.Prelude.{◌≡◌, ◌&&◌, ◌||◌, ◌==◌, ◌⊎◌, true, false, ℕ, ◌<◌, ◌≤◌, if◌then◌else◌, List, All, Ok, Err, IfOk, MatchOption, MatchResult, map, max, sum, take, length, replicate, slice_index, slice_set};
 ghost use Rattle.std.specs.List.{list_all};
 ghost use Rattle.apl_array.specs.declared.array.Elem.{Elem};
-ghost use Rattle.apl_array.specs.Array.{element_at};
 ghost use Rattle.apl_array.specs.Axes.{place_number};
-ghost use Rattle.apl_array.specs.Shape.{IsIndexOf};
+ghost use Rattle.apl_array.specs.Shape.{IsIndexOf, is_shape};
 ghost use Rattle.apl_pool.specs.declared.kernel.TheConstants.{MOST_PLACES};
-ghost use Rattle.apl_answer.specs.Arguments.{is_bit, is_numbers, numbers_of, rank_of};
+ghost use Rattle.apl_answer.specs.Arguments.{is_bit, is_natural, is_numbers, numbers_of, rank_of};
 ghost use Rattle.apl_answer.specs.Pointwise.{answer_of, IsAnswerOf};
 ghost use Rattle.apl_answer.specs.Rows.{Answers};
-ghost use Rattle.apl_struct.specs.Compressing.{as_vector, repeated_indexes, expanded_index, compress_row, expand_row};
+ghost use Rattle.apl_struct.specs.Compressing.{as_vector, repeated_indexes, expanded_index, replicate_row, expand_row};
 ghost use Rattle.apl_struct.specs.Expanding.{expanded_entry};
-ghost use Rattle.apl_struct.specs.Gathering.{element_or_fill, along_axis, along_axis_or_none};
+ghost use Rattle.apl_struct.specs.Gathering.{element_or_fill, along_axis_or_none};
+ghost use Rattle.apl_struct.specs.Replicating.{replicated};
 
 use crate::along::Indexes;
 use crate::arguments::numbers_among;
-use crate::gather::Source;
+use crate::gather::{Absent, Source};
+use crate::repeating::{Repeated, capped_product, capped_sum, listed_indexes};
 use crate::workers::Workers;
 use apl_answer::OpFault;
 use apl_array::{
     Array, Axis, Shape, changed_axis_has_place, places_match_index_lists, replaced_index_has_place,
 };
+use apl_divisor::Divisor;
 use apl_pool::{Cut, Gate, Pool};
 use std::alloc::{AllocError, Global};
 use std::thread::Threads;
@@ -240,16 +242,6 @@ fn kept_indexes(alloc: Global, bits: &[i64], ones: usize) -> Result<Vec<u32>, Al
     Ok(table)
 }
 
-/// How many indexes of an axis of this length stay where one bit serves all: the first so many.
-fn extent_kept(length: usize, bit: i64) -> usize
-    requires { is_bit bit ≡ true }
-    ensures sum { result ≡ sum (replicate length (place_number bit)) }
-    ensures within { result ≤ length }
-    ensures each { (i : ℕ) → i < result → slice_index (repeated_indexes (replicate length (place_number bit))) i ≡ i }
-{
-    if bit == 1 { length } else { 0 }
-}
-
 /// Writes at each one how many ones stand before it. Both entries are at hand, and nothing hangs on a
 /// bit that no processor can foresee.
 fn write_expanded(bits: &[i64], table: &mut [u32])
@@ -288,7 +280,8 @@ fn shrunk_shape(
     requires axis { k < max 1 (rank_of b.now) }
     requires most { n ≤ MOST_PLACES }
     requires shorter { length ≤ slice_index (as_vector n b.now).shape k }
-    ensures { IfOk result (λ shape. shape ≡ slice_set (as_vector n b.now).shape k length) }
+    ensures shape { IfOk result (λ shape. shape ≡ slice_set (as_vector n b.now).shape k length) }
+    ensures lawful { IfOk result (λ shape. is_shape shape ≡ true) }
 {
     changed_axis_has_place();
     replaced_index_has_place();
@@ -299,6 +292,21 @@ fn shrunk_shape(
         unreachable!()
     };
     Ok(shape)
+}
+
+/// The shape in which axis `k` has this length, where a scalar serves as a vector. It is refused where it
+/// passes a limit (`Limit`).
+fn shape_with_axis(alloc: Global, b: &Array, k: usize, length: usize) -> Result<Shape, OpFault>
+    requires { k < max 1 (rank_of b.now) }
+    ensures { (n : ℕ) → MatchResult result
+        (λ shape. (is_shape (slice_set (as_vector n b.now).shape k length) ≡ true) × (shape ≡ slice_set (as_vector n b.now).shape k length))
+        (λ fault. (fault ≡ OpFault.Memory) ⊎ ((fault ≡ OpFault.Limit) × (is_shape (slice_set (as_vector n b.now).shape k length) ≡ false))) }
+{
+    let lengths = lengths_with(alloc, b, k, length)?;
+    match Shape::new(alloc, lengths.as_slice()) {
+        Ok(shape) => Ok(shape),
+        Err(_) => Err(OpFault::Limit),
+    }
 }
 
 impl<R: Threads + Sync, C: Cut + Sync, G: Gate + Sync> Workers<'_, R, C, G> {
@@ -329,6 +337,27 @@ impl<R: Threads + Sync, C: Cut + Sync, G: Gate + Sync> Workers<'_, R, C, G> {
         self.gather(shape, b, OnlyElement { count, indexes })
     }
 
+    /// The indexes of axis `k` that stand in a table.
+    fn gather_listed(
+        &self,
+        shape: Shape,
+        b: &Array,
+        k: usize,
+        counts: &[i64],
+        table: &[u32],
+    ) -> Result<Array, OpFault>
+        requires axis { k < max 1 (rank_of b.now) }
+        requires length { length counts.now ≡ slice_index (as_vector (length counts.now) b.now).shape k }
+        requires most { length counts.now ≤ MOST_PLACES }
+        requires table { table.now ≡ repeated_indexes (map place_number counts.now) }
+        requires shape { shape ≡ slice_set (as_vector (length counts.now) b.now).shape k (sum (map place_number counts.now)) }
+        requires lawful { is_shape shape ≡ true }
+        ensures { IsAnswerOf (replicated (as_vector (length counts.now) b.now) k (map place_number counts.now)) result }
+    {
+        let length = counts.len();
+        self.gather_vector(shape, b, k, Listed { table, length })
+    }
+
     /// The indexes of axis `k` at which there is a one, of which there are so many.
     fn compress_each(
         &self,
@@ -343,28 +372,64 @@ impl<R: Threads + Sync, C: Cut + Sync, G: Gate + Sync> Workers<'_, R, C, G> {
         requires most { length bits.now ≤ MOST_PLACES }
         requires ones { ones ≡ sum (map place_number bits.now) }
         requires few { ones ≤ length bits.now }
-        ensures { let c = as_vector (length bits.now) b.now in let counts = map place_number bits.now in
-            IsAnswerOf (answer_of (slice_set c.shape k (sum counts)) (λ index. Ok (element_at c (along_axis k (slice_index (repeated_indexes counts)) index))) b.now.kind) result }
+        ensures { IsAnswerOf (replicated (as_vector (length bits.now) b.now) k (map place_number bits.now)) result }
     {
-        let length = bits.len();
         let table = kept_indexes(self.alloc, bits, ones)?;
-        let shape = shrunk_shape(self.alloc, b, k, ones, length)?;
-        let table = table.as_slice();
-        self.gather_vector(shape, b, k, Listed { table, length })
+        let shape = shrunk_shape(self.alloc, b, k, ones, bits.len())?;
+        self.gather_listed(shape, b, k, bits, table.as_slice())
     }
 
-    /// All the indexes of axis `k`, which has this length, or none.
-    fn compress_all(&self, b: &Array, k: usize, length: usize, bit: i64) -> Result<Array, OpFault>
+    /// Each index of axis `k` as often as its count says.
+    fn replicate_each(&self, b: &Array, k: usize, counts: &[i64]) -> Result<Array, OpFault>
+        requires axis { k < max 1 (rank_of b.now) }
+        requires length { length counts.now ≡ slice_index (as_vector (length counts.now) b.now).shape k }
+        requires most { length counts.now ≤ MOST_PLACES }
+        ensures { IsAnswerOf (if list_all is_natural counts.now then replicated (as_vector (length counts.now) b.now) k (map place_number counts.now) else Err OpFault.Domain) result }
+    {
+        let Some(extent) = capped_sum(counts) else {
+            return Err(OpFault::Domain);
+        };
+        let shape = shape_with_axis(self.alloc, b, k, extent)?;
+        if shape.count() == 0 {
+            return self.gather(shape, b, Absent { count: 0 });
+        }
+        let table = listed_indexes(self.alloc, counts, extent)?;
+        self.gather_listed(shape, b, k, counts, table.as_slice())
+    }
+
+    /// Each index of axis `k`, which has this length, so many times.
+    fn replicate_all(
+        &self,
+        b: &Array,
+        k: usize,
+        length: usize,
+        count: i64,
+    ) -> Result<Array, OpFault>
         requires axis { k < max 1 (rank_of b.now) }
         requires length { length ≡ slice_index (as_vector 1 b.now).shape k }
         requires most { length ≤ MOST_PLACES }
-        requires bit { is_bit bit ≡ true }
-        ensures { let c = as_vector 1 b.now in let counts = replicate length (place_number bit) in
-            IsAnswerOf (answer_of (slice_set c.shape k (sum counts)) (λ index. Ok (element_at c (along_axis k (slice_index (repeated_indexes counts)) index))) b.now.kind) result }
+        ensures { IsAnswerOf (if is_natural count then replicated (as_vector 1 b.now) k (replicate length (place_number count)) else Err OpFault.Domain) result }
     {
-        let extent = extent_kept(length, bit);
-        let shape = shrunk_shape(self.alloc, b, k, extent, length)?;
-        self.gather_vector(shape, b, k, Front { extent, length })
+        if count < 0 {
+            return Err(OpFault::Domain);
+        }
+        let count = count as usize;
+        let extent = capped_product(length, count);
+        let shape = shape_with_axis(self.alloc, b, k, extent)?;
+        if extent <= length {
+            return self.gather_vector(shape, b, k, Front { extent, length });
+        }
+        let times = Divisor::new(count);
+        self.gather_vector(
+            shape,
+            b,
+            k,
+            Repeated {
+                extent,
+                length,
+                times,
+            },
+        )
     }
 
     /// Axis `k` with the next index at each one and a fill at each zero.
@@ -383,10 +448,10 @@ impl<R: Threads + Sync, C: Cut + Sync, G: Gate + Sync> Workers<'_, R, C, G> {
     }
 }
 
-/// The indexes of an axis at which `a` has a one, in order. A number of `a` alone serves all indexes,
-/// and a scalar serves as a vector of `a`'s count. First comes whether the axis exists (`Index`), then
-/// that `a` is a vector or a scalar (`Rank`), its count (`Length`), and that it is of zeros and ones
-/// (`Domain`).
+/// The indexes of an axis, each as often as its number in `a` says, in order. A number of `a` alone
+/// serves all indexes, and a scalar serves as a vector of `a`'s count. First comes whether the axis
+/// exists (`Index`), then that `a` is a vector or a scalar (`Rank`), its count (`Length`), that it is of
+/// numbers from 0 up (`Domain`), and the result's shape (`Limit`).
 pub fn compress<R: Threads + Sync, C: Cut + Sync, G: Gate + Sync>(
     rt: &R,
     alloc: Global,
@@ -395,7 +460,7 @@ pub fn compress<R: Threads + Sync, C: Cut + Sync, G: Gate + Sync>(
     b: &Array,
     axis: Axis,
 ) -> Result<Array, OpFault>
-    ensures { Answers (compress_row a.now b.now axis) result }
+    ensures { Answers (replicate_row a.now b.now axis) result }
 {
     let workers = Workers { rt, alloc, pool };
     let Some(k) = axis.among(vector_rank(b)) else {
@@ -409,13 +474,15 @@ pub fn compress<R: Threads + Sync, C: Cut + Sync, G: Gate + Sync>(
     if !serves(count, length) {
         return Err(OpFault::Length);
     }
-    let Some((bits, ones)) = bits_among(a) else {
+    let Some(counts) = numbers_among(a) else {
         return Err(OpFault::Domain);
     };
     if count == 1 {
-        workers.compress_all(b, k, length, bits[0])
-    } else {
-        workers.compress_each(b, k, bits, ones)
+        return workers.replicate_all(b, k, length, counts[0]);
+    }
+    match ones_among(counts) {
+        Some(ones) => workers.compress_each(b, k, counts, ones),
+        None => workers.replicate_each(b, k, counts),
     }
 }
 

@@ -9,7 +9,7 @@ ghost use Rattle.apl_struct.specs.Building.{shape_of_row, ravel_row, reshape_row
 ghost use Rattle.apl_struct.specs.Joining.{catenate_row};
 ghost use Rattle.apl_struct.specs.Taking.{take_row, drop_row};
 ghost use Rattle.apl_struct.specs.Moving.{reverse_row, rotate_row, transpose_row, transpose_by_row};
-ghost use Rattle.apl_struct.specs.Compressing.{compress_row, replicate_row, expand_row};
+ghost use Rattle.apl_struct.specs.Compressing.{replicate_row, expand_row};
 ghost use Rattle.apl_struct.specs.Searching.{index_of_row, member_row};
 ghost use Rattle.apl_struct.specs.Indexing.{Slots, select_row, replace_row};
 ghost use Rattle.apl_struct.specs.Ordering.{upwards, downwards, IsGrade, grade_of, grade_up_row, grade_down_row};
@@ -49,8 +49,6 @@ pub fn structural_answers_are_within_limits()
         → result_of (transpose_row b) ≡ Ok answer → IsWithinLimits answer }
     ensures transpose_by { (a b answer : ArrayValue) (origin : Origin) → IsWithinLimits a → IsWithinLimits b
         → result_of (transpose_by_row a b origin) ≡ Ok answer → IsWithinLimits answer }
-    ensures compress { (a b answer : ArrayValue) (axis : Axis) → IsWithinLimits a → IsWithinLimits b
-        → result_of (compress_row a b axis) ≡ Ok answer → IsWithinLimits answer }
     ensures replicate { (a b answer : ArrayValue) (axis : Axis) → IsWithinLimits a → IsWithinLimits b
         → result_of (replicate_row a b axis) ≡ Ok answer → IsWithinLimits answer }
     ensures expand { (a b answer : ArrayValue) (axis : Axis) → IsWithinLimits a → IsWithinLimits b

@@ -20,6 +20,7 @@ mod named;
 mod ordering;
 mod permuting;
 mod reached;
+mod repeating;
 mod replacing;
 mod rotating;
 mod searching;

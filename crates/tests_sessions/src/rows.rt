@@ -14,7 +14,8 @@ use std::process::Abort;
 use std::test::Fail;
 use std::thread::Threads;
 use structures::{
-    AXES, BUILT, CHOSEN, EXTENDED, FOUND, INDEXED, JOINED, LIMITS, MOVED, PRINTED, TAKEN, WORKED,
+    AXES, BUILT, CHOSEN, EXTENDED, FOUND, INDEXED, JOINED, LIMITS, MOVED, PRINTED, REPLICATED,
+    TAKEN, WORKED,
 };
 use tables::{CARETS, COMMANDS, LINES, NUMERALS, OPERANDS, SCALARS, TEXTS, UNLISTED, VALUES};
 
@@ -84,8 +85,8 @@ fn statements(rt: HostRuntime) {
 #[test]
 fn structural_functions(rt: HostRuntime) {
     for sessions in [
-        WORKED, EXTENDED, AXES, BUILT, JOINED, TAKEN, MOVED, CHOSEN, FOUND, INDEXED, PRINTED,
-        LIMITS,
+        WORKED, EXTENDED, AXES, BUILT, JOINED, TAKEN, MOVED, CHOSEN, REPLICATED, FOUND, INDEXED,
+        PRINTED, LIMITS,
     ] {
         check(&rt, rt.alloc(), sessions);
     }

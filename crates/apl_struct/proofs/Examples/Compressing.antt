@@ -4,58 +4,46 @@ use Rattle.apl_array.specs.declared.axis.Axis.TheVariants.{First, Last, At}
 use Rattle.apl_array.specs.declared.axis.Origin.TheVariants.{One}
 use Rattle.apl_answer.specs.declared.fault.OpFault.TheVariants.{Length, Index, Domain, Limit}
 use Rattle.apl_answer.specs.Rows.{result_of}
-use Rattle.apl_struct.specs.Compressing.{compress_row, replicate_row, expand_row}
+use Rattle.apl_struct.specs.Compressing.{replicate_row, expand_row}
 use Rattle.apl_struct.proofs.Examples.{scalar, minus, vector, integers, numbers, text, two_by_two}
 
--- ---- compress
+-- ---- replicate by zeros and ones
 
 -- 1 0 1/'ABC'
-compress_letters : result_of (compress_row (vector (1 ∷ 0 ∷ 1 ∷ [])) (text (65 ∷ 66 ∷ 67 ∷ [])) Last) ≡ Ok (text (65 ∷ 67 ∷ []))
+compress_letters : result_of (replicate_row (vector (1 ∷ 0 ∷ 1 ∷ [])) (text (65 ∷ 66 ∷ 67 ∷ [])) Last) ≡ Ok (text (65 ∷ 67 ∷ []))
 compress_letters = refl
 
 -- 1 0 1⌿3 2⍴1 2 3 4 5 6
-compress_rows : result_of (compress_row (vector (1 ∷ 0 ∷ 1 ∷ [])) (numbers (3 ∷ 2 ∷ []) (1 ∷ 2 ∷ 3 ∷ 4 ∷ 5 ∷ 6 ∷ [])) First)
+replicate_rows : result_of (replicate_row (vector (1 ∷ 0 ∷ 1 ∷ [])) (numbers (3 ∷ 2 ∷ []) (1 ∷ 2 ∷ 3 ∷ 4 ∷ 5 ∷ 6 ∷ [])) First)
     ≡ Ok (numbers (2 ∷ 2 ∷ []) (1 ∷ 2 ∷ 5 ∷ 6 ∷ []))
-compress_rows = refl
-
--- 2/⍳0
-two_compresses_no_empty_vector : result_of (compress_row (scalar 2) (vector []) Last) ≡ Err Domain
-two_compresses_no_empty_vector = refl
+replicate_rows = refl
 
 -- 1 2/1 2 3
-two_bits_for_three : result_of (compress_row (vector (1 ∷ 2 ∷ [])) (vector (1 ∷ 2 ∷ 3 ∷ [])) Last) ≡ Err Length
-two_bits_for_three = refl
-
--- 1 2/1 2
-two_is_no_bit : result_of (compress_row (vector (1 ∷ 2 ∷ [])) (vector (1 ∷ 2 ∷ [])) Last) ≡ Err Domain
-two_is_no_bit = refl
-
--- 1 2/5
-two_is_no_bit_for_scalar : result_of (compress_row (vector (1 ∷ 2 ∷ [])) (scalar 5) Last) ≡ Err Domain
-two_is_no_bit_for_scalar = refl
+two_counts_for_three : result_of (replicate_row (vector (1 ∷ 2 ∷ [])) (vector (1 ∷ 2 ∷ 3 ∷ [])) Last) ≡ Err Length
+two_counts_for_three = refl
 
 -- 1 0/[1]5
-compress_scalar_along_axis : result_of (compress_row (vector (1 ∷ 0 ∷ [])) (scalar 5) (At (pos 1) One)) ≡ Ok (vector (5 ∷ []))
+compress_scalar_along_axis : result_of (replicate_row (vector (1 ∷ 0 ∷ [])) (scalar 5) (At (pos 1) One)) ≡ Ok (vector (5 ∷ []))
 compress_scalar_along_axis = refl
 
 -- 1 0/[2]5
-scalar_has_one_axis : result_of (compress_row (vector (1 ∷ 0 ∷ [])) (scalar 5) (At (pos 2) One)) ≡ Err Index
+scalar_has_one_axis : result_of (replicate_row (vector (1 ∷ 0 ∷ [])) (scalar 5) (At (pos 2) One)) ≡ Err Index
 scalar_has_one_axis = refl
 
 -- 1 0/[2]2 2⍴⍳4
-compress_columns_by_number : result_of (compress_row (vector (1 ∷ 0 ∷ [])) two_by_two (At (pos 2) One))
+compress_columns_by_number : result_of (replicate_row (vector (1 ∷ 0 ∷ [])) two_by_two (At (pos 2) One))
     ≡ Ok (numbers (2 ∷ 1 ∷ []) (1 ∷ 3 ∷ []))
 compress_columns_by_number = refl
 
 -- 0/1 2 3
-zero_compresses_all : result_of (compress_row (scalar 0) (vector (1 ∷ 2 ∷ 3 ∷ [])) Last) ≡ Ok (vector [])
+zero_compresses_all : result_of (replicate_row (scalar 0) (vector (1 ∷ 2 ∷ 3 ∷ [])) Last) ≡ Ok (vector [])
 zero_compresses_all = refl
 
 -- 1⌿2 2⍴⍳4
-one_compresses_none : result_of (compress_row (scalar 1) two_by_two First) ≡ Ok two_by_two
+one_compresses_none : result_of (replicate_row (scalar 1) two_by_two First) ≡ Ok two_by_two
 one_compresses_none = refl
 
--- ---- replicate
+-- ---- replicate by counts
 
 -- 2 0 3/'ABC'
 replicate_letters : result_of (replicate_row (vector (2 ∷ 0 ∷ 3 ∷ [])) (text (65 ∷ 66 ∷ 67 ∷ [])) Last)
@@ -118,6 +106,22 @@ replicate_scalar_by_bits = refl
 -- ''/⍳0
 empty_text_counts_nothing : result_of (replicate_row (text []) (vector []) Last) ≡ Ok (vector [])
 empty_text_counts_nothing = refl
+
+-- 2/⍳0
+replicated_nothing : result_of (replicate_row (scalar 2) (vector []) Last) ≡ Ok (vector [])
+replicated_nothing = refl
+
+-- 1 2/1 2
+counts_of_two : result_of (replicate_row (vector (1 ∷ 2 ∷ [])) (vector (1 ∷ 2 ∷ [])) Last) ≡ Ok (vector (1 ∷ 2 ∷ 2 ∷ []))
+counts_of_two = refl
+
+-- 1073741825/0
+count_past_limit : result_of (replicate_row (scalar 1073741825) (scalar 0) Last) ≡ Err Limit
+count_past_limit = refl
+
+-- 1073741825 ¯1/5 6
+negative_count_before_limit : result_of (replicate_row (integers (pos 1073741825 ∷ neg_ℤ (pos 1) ∷ [])) (vector (5 ∷ 6 ∷ [])) Last) ≡ Err Domain
+negative_count_before_limit = refl
 
 -- 2/''
 replicated_nothing_keeps_kind : result_of (replicate_row (scalar 2) (text []) Last) ≡ Ok (text [])

@@ -313,16 +313,36 @@ pub(super) const CHOSEN: &[(Call, Answer)] = &[
         DOMAIN,
     ),
     (
-        Two(Numbers(&[], &[2]), Dyadic::Compress(Axis::Last), NO_NUMBERS),
+        Two(
+            Numbers(&[], &[-1]),
+            Dyadic::Compress(Axis::Last),
+            NO_NUMBERS,
+        ),
         DOMAIN,
     ),
     (
         Two(
-            Numbers(&[2], &[1, 2]),
+            Numbers(&[2], &[1 << 30, -1]),
             Dyadic::Compress(Axis::Last),
             Numbers(&[], &[5]),
         ),
         DOMAIN,
+    ),
+    (
+        Two(
+            Numbers(&[2], &[1 << 30, 1]),
+            Dyadic::Compress(Axis::Last),
+            Numbers(&[], &[5]),
+        ),
+        LIMIT,
+    ),
+    (
+        Two(
+            Numbers(&[], &[i64::MAX]),
+            Dyadic::Compress(Axis::Last),
+            THREE,
+        ),
+        LIMIT,
     ),
     (Two(ONE_LETTER, Dyadic::Expand(AXIS_TWO), THREE), INDEX),
     (Two(ONE_LETTER, Dyadic::Expand(Axis::Last), THREE), RANK),

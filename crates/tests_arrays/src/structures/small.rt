@@ -482,6 +482,38 @@ pub(super) const CHOSEN: &[(Call, Answer)] = &[
     ),
     (
         Two(
+            Numbers(&[3], &[2, 0, 3]),
+            Dyadic::Compress(Axis::Last),
+            Text(&[3], "ABC"),
+        ),
+        Is(Text(&[5], "AACCC")),
+    ),
+    (
+        Two(Numbers(&[2], &[0, 2]), Dyadic::Compress(Axis::First), WIDE),
+        Is(Numbers(&[2, 3], &[4, 5, 6, 4, 5, 6])),
+    ),
+    (
+        Two(Numbers(&[3], &[0, 2, 1]), Dyadic::Compress(AXIS_TWO), CUBE),
+        Is(Numbers(&[2, 3, 2], &[3, 4, 3, 4, 5, 6, 9, 10, 9, 10, 11, 12])),
+    ),
+    (
+        Two(Numbers(&[], &[2]), Dyadic::Compress(Axis::Last), WIDE),
+        Is(Numbers(&[2, 6], &[1, 1, 2, 2, 3, 3, 4, 4, 5, 5, 6, 6])),
+    ),
+    (
+        Two(Numbers(&[], &[2]), Dyadic::Compress(Axis::Last), NO_NUMBERS),
+        Is(NO_NUMBERS),
+    ),
+    (
+        Two(
+            Numbers(&[2], &[1, 2]),
+            Dyadic::Compress(Axis::Last),
+            Numbers(&[], &[5]),
+        ),
+        Is(Numbers(&[3], &[5, 5, 5])),
+    ),
+    (
+        Two(
             Numbers(&[3], &[1, 0, 1]),
             Dyadic::Expand(Axis::Last),
             Text(&[2], "AB"),

@@ -69,7 +69,6 @@ pub(super) const WORKED: &[(&str, &str)] = &[
     ("⍋2 2⍴0\n", "RANK ERROR\n      ⍋2 2⍴0\n      ∧\n"),
     ("B←(C←4)+⍳3\nC\nB\n", "4\n5 6 7\n"),
     ("A←5\nA←A+⍳1000\n⍴A\n", "1000\n"),
-    ("2/⍳3\n", "DOMAIN ERROR\n      2/⍳3\n       ∧\n"),
 ];
 
 /// Scalar functions of arrays of several axes, and empty results.
@@ -254,10 +253,7 @@ pub(super) const MOVED: &[(&str, &str)] = &[
 
 /// Compressed and expanded arrays.
 pub(super) const CHOSEN: &[(&str, &str)] = &[
-    ("2/⍳0\n", "DOMAIN ERROR\n      2/⍳0\n       ∧\n"),
     ("1 2/⍳3\n", "LENGTH ERROR\n      1 2/⍳3\n         ∧\n"),
-    ("1 2/⍳2\n", "DOMAIN ERROR\n      1 2/⍳2\n         ∧\n"),
-    ("1 2/5\n", "DOMAIN ERROR\n      1 2/5\n         ∧\n"),
     ("1\\1 2\n", "LENGTH ERROR\n      1\\1 2\n       ∧\n"),
     ("0\\5\n", "0\n"),
     ("1 0 1\\5\n", "5 0 5\n"),
@@ -271,11 +267,31 @@ pub(super) const CHOSEN: &[(&str, &str)] = &[
         "0 0⍀0 1073741824⍴0\n",
         "LIMIT ERROR\n      0 0⍀0 1073741824⍴0\n         ∧\n",
     ),
-    ("(⍳0)/5\n", "\n"),
-    ("0 1/5\n", "5\n"),
+    ("3↑0/'AB'\n", "   \n"),
+];
+
+/// Replicated arrays.
+pub(super) const REPLICATED: &[(&str, &str)] = &[
+    ("2 0 3/'ABC'\n", "AACCC\n"),
+    ("2/⍳3\n", "1 1 2 2 3 3\n"),
+    ("3/5\n", "5 5 5\n"),
+    ("1 2/5\n", "5 5 5\n"),
+    ("1 2/⍳2\n", "1 2 2\n"),
+    ("2⌿2 2⍴⍳4\n", "1 2\n1 2\n3 4\n3 4\n"),
+    ("1 0 1/'ABC'\n", "AC\n"),
+    ("1 ¯1/5 6\n", "DOMAIN ERROR\n      1 ¯1/5 6\n          ∧\n"),
     (
-        "(1 1⍴1)/5\n",
-        "RANK ERROR\n      (1 1⍴1)/5\n             ∧\n",
+        "1073741825/0\n",
+        "LIMIT ERROR\n      1073741825/0\n                ∧\n",
+    ),
+    ("1073741825/⍳0\n", "\n"),
+    (
+        "1073741824 1073741824⌿2 0⍴0\n",
+        "LIMIT ERROR\n      1073741824 1073741824⌿2 0⍴0\n                           ∧\n",
+    ),
+    (
+        "9223372036854775807 9223372036854775807/1 2\n",
+        "LIMIT ERROR\n      9223372036854775807 9223372036854775807/1 2\n                                             ∧\n",
     ),
     (
         "1 ¯1/5 6 7\n",
@@ -283,7 +299,31 @@ pub(super) const CHOSEN: &[(&str, &str)] = &[
     ),
     ("'AB'/5 6\n", "DOMAIN ERROR\n      'AB'/5 6\n          ∧\n"),
     ("'A'/⍳0\n", "DOMAIN ERROR\n      'A'/⍳0\n         ∧\n"),
-    ("3↑0/'AB'\n", "   \n"),
+    (
+        "(1 1⍴1)/5\n",
+        "RANK ERROR\n      (1 1⍴1)/5\n             ∧\n",
+    ),
+    ("(⍳0)/5\n", "\n"),
+    ("2/⍳0\n", "\n"),
+    ("3↑2/''\n", "   \n"),
+    ("0 1/5\n", "5\n"),
+    ("(,2)/⍳2\n", "1 1 2 2\n"),
+    ("(⍳0)/⍳0\n", "\n"),
+    ("''/⍳0\n", "\n"),
+    ("⍴2/0 3⍴0\n", "0 6\n"),
+    (
+        "1073741824/0 2⍴0\n",
+        "LIMIT ERROR\n      1073741824/0 2⍴0\n                ∧\n",
+    ),
+    ("536870912/0 2⍴0\n", ""),
+    ("¯1/⍳0\n", "DOMAIN ERROR\n      ¯1/⍳0\n        ∧\n"),
+    (
+        "1073741825 ¯1/5 6\n",
+        "DOMAIN ERROR\n      1073741825 ¯1/5 6\n                   ∧\n",
+    ),
+    ("+/1000/⍳100\n", "5050000\n"),
+    ("⍴(⍳1000)/⍳1000\n", "500500\n"),
+    ("+/(⍳1000)/⍳1000\n", "333833500\n"),
 ];
 
 /// Searches and grades.

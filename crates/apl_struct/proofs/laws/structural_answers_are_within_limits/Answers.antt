@@ -1,4 +1,4 @@
-use Rattle.apl_struct.proofs.RowLimits.{shape_of_within, ravel_within, reshape_within, iota_within, catenate_within, take_within, drop_within, reverse_within, rotate_within, transpose_within, transpose_by_within, compress_within, replicate_within, expand_within, index_of_within, member_within, select_within, replace_within, grade_up_within, grade_down_within}
+use Rattle.apl_struct.proofs.RowLimits.{shape_of_within, ravel_within, reshape_within, iota_within, catenate_within, take_within, drop_within, reverse_within, rotate_within, transpose_within, transpose_by_within, replicate_within, expand_within, index_of_within, member_within, select_within, replace_within, grade_up_within, grade_down_within}
 use Rattle.apl_struct.proofs.laws.structural_answers_are_within_limits.Goals as goal
 
 pub returns-clause-shape_of : goal.returns-clause-shape_of
@@ -33,9 +33,6 @@ returns-clause-transpose c = transpose_within c.answer_is_within_limits.ensures.
 
 pub returns-clause-transpose_by : goal.returns-clause-transpose_by
 returns-clause-transpose_by c = transpose_by_within c.answer_is_within_limits.ensures.row c.shape_is_decided.ensures c.transposed_index_has_place.ensures.shape
-
-pub returns-clause-compress : goal.returns-clause-compress
-returns-clause-compress c = compress_within c.answer_is_within_limits.ensures.row c.shape_is_decided.ensures
 
 pub returns-clause-replicate : goal.returns-clause-replicate
 returns-clause-replicate c = replicate_within c.answer_is_within_limits.ensures.row c.shape_is_decided.ensures

@@ -2,7 +2,7 @@ use Rattle.std.proofs.Common.{inl, inr}
 use Rattle.apl_answer.specs.Rows as rows
 use Rattle.apl_struct.specs.Joining.{catenate_row}
 use Rattle.apl_struct.specs.Moving.{rotate_row}
-use Rattle.apl_struct.specs.Compressing.{compress_row, expand_row}
+use Rattle.apl_struct.specs.Compressing.{replicate_row, expand_row}
 use Rattle.apl_eval.proofs.functions.Machine.dyadic_along.Goals as goal
 
 pub returns-in-Comma : goal.returns-in-Comma
@@ -18,7 +18,7 @@ returns-in-CircleStile g c =
 
 pub returns-in-Slash : goal.returns-in-Slash
 returns-in-Slash g c =
-    let answers = c.result_of-in-Slash.ensures (rows.result_of (compress_row c.args.a.now c.args.b.now c.args.axis)) c.compress.ensures in
+    let answers = c.result_of-in-Slash.ensures (rows.result_of (replicate_row c.args.a.now c.args.b.now c.args.axis)) c.compress.ensures in
     elim c.in-Slash.is [
       | inl is ↦ rw is answers
       | inr is ↦ rw is answers

@@ -1,0 +1,15 @@
+-- A/B where each count is 0 or above. No contract of a public function cites this file.
+use Rattle.std.specs.Prelude.{ℕ, List, Result, Ok, Err, if◌then◌else◌, slice_index, slice_set, sum}
+use Rattle.apl_array.specs.Shape.{is_shape}
+use Rattle.apl_array.specs.Array.{ArrayValue, element_at}
+use Rattle.apl_answer.specs.declared.fault.OpFault.{OpFault}
+use Rattle.apl_answer.specs.declared.fault.OpFault.TheVariants.{Limit}
+use Rattle.apl_answer.specs.Pointwise.{answer_of}
+use Rattle.apl_struct.specs.Gathering.{along_axis}
+use Rattle.apl_struct.specs.Compressing.{repeated_indexes}
+
+-- each index of axis k as often as its count says, where no limit is passed
+abbrev pub replicated : ArrayValue → ℕ → List ℕ → Result ArrayValue OpFault
+replicated c k counts =
+    let shape = slice_set c.shape k (sum counts) in
+    if is_shape shape then answer_of shape (λ index. Ok (element_at c (along_axis k (slice_index (repeated_indexes counts)) index))) c.kind else Err Limit

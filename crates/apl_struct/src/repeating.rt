@@ -1,0 +1,84 @@
+//! Indexes of an axis that stand as often as counts say.
+ghost use Rattle.std.specs.Prelude.{◌≡◌, ◌+◌, ◌*◌, ◌<◌, ◌≤◌, true, false, IfOk, MatchOption, map, min, sum, length};
+ghost use Rattle.std.specs.List.{list_all};
+ghost use Rattle.apl_array.specs.Axes.{place_number};
+ghost use Rattle.apl_array.specs.declared.shape.TheConstants.{MOST_ELEMENTS};
+ghost use Rattle.apl_pool.specs.declared.kernel.TheConstants.{MOST_PLACES};
+ghost use Rattle.apl_answer.specs.Arguments.{is_natural};
+ghost use Rattle.apl_struct.specs.Compressing.{repeated_indexes};
+
+use crate::along::Indexes;
+use apl_array::MOST_ELEMENTS;
+use apl_divisor::Divisor;
+use std::alloc::{AllocError, Global};
+
+/// Each index so many times in a row.
+#[derive(Drop)]
+pub(crate) struct Repeated {
+    pub extent: usize,
+    pub length: usize,
+    pub times: Divisor,
+    ghost most: { extent ≤ MOST_PLACES },
+    ghost length_most: { length ≤ MOST_PLACES },
+    ghost some: { 0 < times },
+    ghost all: { extent ≡ length * times },
+}
+
+impl Indexes for Repeated {
+    ghost use Rattle.std.specs.Prelude.{Some, ◌/◌};
+
+    ghost extent = { λ x. x.extent };
+
+    ghost reach = { λ x. x.length };
+
+    ghost index = { λ x line i. Some (i / x.times) };
+
+    #[inline(always)]
+    fn at(&self, _line: usize, i: usize) -> Option<usize> {
+        Some(self.times.quotient(i))
+    }
+
+    fn are_lawful(&self) {}
+}
+
+/// The sum of counts, or one more than the most elements where it passes that; none where a count is
+/// below 0, also behind others whose sum is past it.
+pub(crate) fn capped_sum(counts: &[i64]) -> Option<usize>
+    ensures { MatchOption result (list_all is_natural counts.now ≡ false) (λ all. (list_all is_natural counts.now ≡ true) × (all ≡ min (sum (map place_number counts.now)) (MOST_ELEMENTS + 1))) }
+{
+    let mut all = 0;
+    for count in counts {
+        if *count < 0 {
+            return None;
+        }
+        all = (all + *count as usize).min(MOST_ELEMENTS + 1);
+    }
+    Some(all)
+}
+
+/// The sum of as many equal counts as an axis is long, or one more than the most elements where it
+/// passes that.
+pub(crate) fn capped_product(length: usize, count: usize) -> usize
+    ensures { result ≡ min (length * count) (MOST_ELEMENTS + 1) }
+{
+    length.saturating_mul(count).min(MOST_ELEMENTS + 1)
+}
+
+/// Each index as often as its count says, which is so often in all.
+pub(crate) fn listed_indexes(
+    alloc: Global,
+    counts: &[i64],
+    all: usize,
+) -> Result<Vec<u32>, AllocError>
+    requires counts { list_all is_natural counts.now ≡ true }
+    requires most { length counts.now ≤ MOST_PLACES }
+    requires all { all ≡ sum (map place_number counts.now) }
+    requires few { all ≤ MOST_PLACES }
+    ensures { IfOk result (λ table. table.items ≡ repeated_indexes (map place_number counts.now)) }
+{
+    let mut table = Vec::with_capacity(alloc, all)?;
+    for (i, count) in counts.iter().enumerate() {
+        table.resize(table.len() + *count as usize, i as u32)?;
+    }
+    Ok(table)
+}
