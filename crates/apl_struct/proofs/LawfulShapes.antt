@@ -1,8 +1,8 @@
 -- Shapes that are lawful because another is.
-use Rattle.std.proofs.Common.{◌≡◌, ℕ, zero, suc, ◌-◌, ◌<◌, ◌≤◌, Bool, true, false, if◌then◌else◌, List, [], ◌∷◌, length, reverse, slice_index, slice_set, sym, subst, ⊎_elim, le_refl, mul-le-mul_left, mul-le-mul_right, arith}
+use Rattle.std.proofs.Common.{◌≡◌, ℕ, ◌-◌, ◌<◌, ◌≤◌, List, [], ◌∷◌, length, reverse, slice_index, sym, subst, ⊎_elim, arith}
 use Rattle.std.proofs.lemmas.Bool.{cases_lt}
-use Rattle.std.proofs.lemmas.List.{length-reverse, get_or-reverse, get_or_past, length-set}
-use Rattle.std.proofs.lemmas.List.Elements.{All-nil, All-cons, All-set}
+use Rattle.std.proofs.lemmas.List.{length-reverse, get_or-reverse, get_or_past}
+use Rattle.std.proofs.lemmas.List.Elements.{All-nil, All-cons}
 use Rattle.apl_array.specs.Shape.{IsShape, most_elements, count_of}
 
 pub lawful_vector : (n : ℕ) → n ≤ most_elements → IsShape (n ∷ [])

@@ -1,5 +1,5 @@
-use Rattle.std.proofs.Common.{◌≡◌, ℕ, ℤ, List, Err, Result, true, false, if◌then◌else◌, length, map, replicate, slice_index, slice_index_or, pos, to_z, of_z, w64, ap, sym, subst, ◌∙◌, arith, rules}
-use Rattle.std.specs.Prelude.{◌&&◌, ◌||◌, ◌==◌}
+use Rattle.std.proofs.Common.{◌≡◌, ℕ, ℤ, List, Err, true, false, if◌then◌else◌, length, map, replicate, slice_index, slice_index_or, pos, to_z, of_z, w64, ap, sym, subst, ◌∙◌, arith, rules}
+use Rattle.std.specs.Prelude.{◌||◌, ◌==◌}
 use Rattle.std.specs.List.{list_all}
 use Rattle.std.proofs.lemmas.List.{length-map}
 use Rattle.apl_array.specs.Axes.{place_number, has_axis, axis_of}

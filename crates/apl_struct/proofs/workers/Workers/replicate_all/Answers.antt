@@ -1,4 +1,4 @@
-use Rattle.std.proofs.Common.{◌≡◌, ◌+◌, ◌*◌, ◌/◌, ◌<◌, ℕ, ℤ, List, Ok, Err, true, false, zero, suc, length, replicate, slice_index, nat_abs, to_z, of_z, w64, ap, sym, subst, ◌∙◌, ⊎_elim, inl, inr, arith, rules}
+use Rattle.std.proofs.Common.{◌≡◌, ◌+◌, ◌*◌, ◌/◌, ◌<◌, ℕ, List, Ok, Err, true, false, zero, suc, length, replicate, slice_index, nat_abs, to_z, of_z, w64, ap, sym, subst, ◌∙◌, ⊎_elim, inl, inr, arith, rules}
 use Rattle.apl_answer.specs.declared.fault.OpFault.TheVariants.{Memory, Limit}
 use Rattle.std.specs.Prelude.{◌⊎◌, ◌≤◌, min, slice_set, sum}
 use Rattle.std.proofs.lemmas.List.{length-set, get_or-set_same}

@@ -1,10 +1,10 @@
-use Rattle.std.proofs.Common.{◌≡◌, ◌+◌, ◌<◌, ℕ, List, Ok, Err, true, false, length, map, slice_index, ap, sym, subst, ◌∙◌, ⊎_elim, inl, inr, arith, rules}
+use Rattle.std.proofs.Common.{◌≡◌, ◌<◌, ℕ, List, Ok, Err, true, false, length, map, slice_index, ap, sym, subst, ◌∙◌, ⊎_elim, inl, inr, arith, rules}
 use Rattle.apl_answer.specs.declared.fault.OpFault.TheVariants.{Memory, Limit}
-use Rattle.std.specs.Prelude.{◌⊎◌, ◌≤◌, min, slice_set, sum}
+use Rattle.std.specs.Prelude.{◌⊎◌, slice_set, sum}
 use Rattle.std.specs.List.{list_all}
 use Rattle.apl_array.specs.Array.{element_at}
 use Rattle.apl_array.specs.Axes.{place_number}
-use Rattle.apl_array.specs.Shape.{is_shape, count_of, most_elements}
+use Rattle.apl_array.specs.Shape.{is_shape, count_of}
 use Rattle.apl_answer.specs.Arguments.{is_natural}
 use Rattle.apl_answer.specs.Pointwise.{answer_of, IsAnswerOf}
 use Rattle.apl_struct.specs.Compressing.{as_vector, repeated_indexes}
