@@ -14,9 +14,9 @@ compress_letters : result_of (replicate_row (vector (1 ∷ 0 ∷ 1 ∷ [])) (tex
 compress_letters = refl
 
 -- 1 0 1⌿3 2⍴1 2 3 4 5 6
-replicate_rows : result_of (replicate_row (vector (1 ∷ 0 ∷ 1 ∷ [])) (numbers (3 ∷ 2 ∷ []) (1 ∷ 2 ∷ 3 ∷ 4 ∷ 5 ∷ 6 ∷ [])) First)
+compress_rows : result_of (replicate_row (vector (1 ∷ 0 ∷ 1 ∷ [])) (numbers (3 ∷ 2 ∷ []) (1 ∷ 2 ∷ 3 ∷ 4 ∷ 5 ∷ 6 ∷ [])) First)
     ≡ Ok (numbers (2 ∷ 2 ∷ []) (1 ∷ 2 ∷ 5 ∷ 6 ∷ []))
-replicate_rows = refl
+compress_rows = refl
 
 -- 1 2/1 2 3
 two_counts_for_three : result_of (replicate_row (vector (1 ∷ 2 ∷ [])) (vector (1 ∷ 2 ∷ 3 ∷ [])) Last) ≡ Err Length
