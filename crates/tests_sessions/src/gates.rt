@@ -316,9 +316,9 @@ const STRUCTURES: [(&str, &str); 52] = [
 /// What the reductions get: so many items for each element of `A`, as rows and as columns.
 const ITEMS: &str = "C←V⍴A\nD←W⍴A\n";
 
-/// Reductions, products and the scan of `A`, whose elements are all 1, by each function. Each has as many elements as `A`; here is what it
+/// Reductions and products of `A`, whose elements are all 1, by each function. Each has as many elements as `A`; here is what it
 /// is for two of them and three items, as many as `R` has.
-const REDUCTIONS: [(&str, &str); 117] = [
+const REDUCTIONS: [(&str, &str); 116] = [
     ("+/D", "3 3\n"),
     ("+⌿C", "3 3\n"),
     ("+/[1]C", "3 3\n"),
@@ -329,7 +329,6 @@ const REDUCTIONS: [(&str, &str); 117] = [
     ("-⌿C", "1 1\n"),
     ("-/[1]C", "1 1\n"),
     ("-⌿[2]D", "1 1\n"),
-    ("-\\A", "1 0\n"),
     ("A∘.-1", "0 0\n"),
     ("D-.×R", "1 1\n"),
     ("×/D", "1 1\n"),
@@ -614,12 +613,14 @@ fn each_reduction_uses_the_pool(rt: HostRuntime) -> Result<(), Fail> {
         texts.push_str(text)?;
         write!(some, "B←{function}\n")?;
     }
+    two.push_str("-\\A\n")?;
+    texts.push_str("1 0\n")?;
     let mut many = ones(alloc, 2 * HALF)?;
     many.push_str("V←2 1048576\nB←+⌿V⍴A\nB←A∘.×1\nB←+/A\nB←A+.×A\n")?;
     // Both workers meet three times where they reshape, and once at each place of a fold whose items they share.
     for schedule in [Schedule::Claims, Schedule::Deques] {
         assert!(rt; meets(&rt, alloc, schedule, 1, two.as_str(), 199, texts.as_str()));
-        assert!(rt; meets(&rt, alloc, schedule, 1024, some.as_str(), 122, ""));
+        assert!(rt; meets(&rt, alloc, schedule, 1024, some.as_str(), 121, ""));
         assert!(rt; meets(&rt, alloc, schedule, HALF, many.as_str(), 7, ""));
     }
     Ok(())
