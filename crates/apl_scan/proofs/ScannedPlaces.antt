@@ -1,6 +1,6 @@
 -- Places of lines of neighbours, and what stands before them.
-use Rattle.std.proofs.Common.{◌≡◌, ℕ, zero, suc, ℤ, pos, ◌+◌, ◌-◌, ◌*◌, ◌/◌, ◌%◌, ◌<◌, ◌≤◌, List, [], ◌∷◌, ◌++◌, length, take, drop, Option, Some, None, Result, Ok, slice_index_or, slice_set, ap, sym, ◌∙◌, arith, drop-cons, take-suc, get_or-drop, length-drop, length-set, get_or-set_same, get_or-set_other, ⊎_elim, mul-le-mul_right}
-use Rattle.std.specs.Prelude.{IfSome}
+use Rattle.std.proofs.Common.{◌≡◌, ℕ, zero, suc, ℤ, pos, ◌+◌, ◌-◌, ◌*◌, ◌/◌, ◌%◌, ◌<◌, ◌≤◌, List, [], ◌∷◌, ◌++◌, length, take, drop, Option, Some, None, Result, Ok, slice_index_or, slice_set, ap, sym, ◌∙◌, arith, drop-cons, drop-drop, take-add, take-suc, take-take, get_or-drop, get_or-take, length-drop, length-set, get_or-set_same, get_or-set_other, ⊎_elim, mul-le-mul_right}
+use Rattle.std.specs.Prelude.{IfSome, MatchOption}
 use Rattle.std.proofs.lemmas.Bool.{cases_lt}
 use Rattle.std.proofs.Math.Nat.{mod-lt, div-one, div-add-mod', div-eq_of_lt-le}
 use Rattle.apl_pool.specs.declared.kernel.Fault.{Fault}
@@ -8,8 +8,9 @@ use Rattle.apl_pool.specs.declared.kernel.TheConstants.{MOST_PLACES}
 use Rattle.apl_pool.specs.Runs.{AreWritten}
 use Rattle.apl_pool.specs.Summaries.{and_then, fold_onto, IsSummaryOf}
 use Rattle.apl_scan.specs.declared.chunks.TheConstants.{CHUNK}
+use Rattle.apl_summary.specs.Running.{AreFoldsBehind, IsSummaryOrNone}
 use Rattle.apl_scan.specs.Lines.{folded, number_along, numbers_before, scan_at}
-use Rattle.apl_scan.specs.Running.{stretch, chunk_start, IsChunkBefore, IsSummaryOrNone}
+use Rattle.apl_scan.specs.Running.{stretch, chunk_start, IsChunkBefore}
 
 -- the place stands in the line of another
 pub record IsInLine (items from place : ℕ) : Type 0 where
@@ -70,6 +71,12 @@ module _ {K S : Type 0} (step : ℤ → ℤ → Result ℤ Fault) (item_count : 
     does = λ r inside. ap (λ s. outcome s r) same ∙ is.does r inside;
   }
 
+  -- and what is kept, where there is something, is the summary of the same numbers
+  pub kept_summary : (kept : Option K) (s : Option S) (numbers : List ℤ) → MatchOption kept (s ≡ None) (λ k. s ≡ Some (summary k)) → IsSummaryOrNone step (λ x. item_count (summary x)) (λ x. outcome (summary x)) numbers kept
+      → IsSummaryOrNone step item_count outcome numbers s
+  kept_summary None s numbers is none = rw is none
+  kept_summary (Some k) s numbers is known = rw is (record { number_of_items = known.number_of_items; does = known.does })
+
   -- one number more can be counted
   pub room_for_next : (numbers : List ℤ) (before : Option K) → length numbers + 1 ≤ MOST_PLACES → IsSummaryOrNone step (λ x. item_count (summary x)) (λ x. outcome (summary x)) numbers before
       → IfSome before (λ k. item_count (summary k) + 1 ≤ MOST_PLACES)
@@ -113,6 +120,33 @@ written_next outcome from k room value here is are = record {
       let same : j ≡ k = omega (arith, inside, last) in
       ap (λ n. outcome (from + n)) same ∙ is ∙ ap (λ (z : ℤ). Ok z) (sym (get_or-set_same room k value d here) ∙ ap (λ n. slice_index_or (slice_set room k value) n d) (sym same)))
       (cases_lt j k);
+}
+
+-- folds behind what stands before a place are those of the places from it on
+pub written_behind : (step : ℤ → ℤ → Result ℤ Fault) (numbers room : List ℤ) (items from count len : ℕ) → from % items + len ≤ items → from + len ≤ length numbers → count ≤ len → length room ≡ len
+    → AreFoldsBehind step (stretch numbers (from - from % items) (from % items)) (take len (drop from numbers)) count room → AreWritten (scan_at step numbers items 1) from (from + count) room
+written_behind step numbers room items from count len line within most same are = record {
+  room = omega (arith, most, same);
+  each = λ j d inside.
+      let before = from % items in
+      let first = from - before in
+      let behind = take len (drop from numbers) in
+      let x = slice_index_or numbers (from + j) (pos 0) in
+      let here : j < count = omega (arith, inside) in
+      let earlier : j < len = omega (arith, here, most) in
+      let inside_line : before + j < items = omega (arith, earlier, line) in
+      let in_it = in_line items from j (from + j) (omega (arith, inside_line)) (omega arith) inside_line in
+      let place : from ≡ first + before = omega (arith, div-add-mod' from items) in
+      let read : slice_index_or behind j (pos 0) ≡ x = get_or-take len (drop from numbers) j (pos 0) earlier ∙ get_or-drop from numbers j (pos 0) in
+      let list : stretch numbers first before ++ take j behind ≡ stretch numbers first (before + j) =
+      ap (λ l. stretch numbers first before ++ l) (take-take j len (drop from numbers) (omega (arith, earlier)) ∙ ap (λ p. take j (drop p numbers)) place ∙ ap (take j) (sym (drop-drop before first numbers)))
+      ∙ sym (take-add before j (drop first numbers)) in
+      scan_is step numbers items (from + j) (omega (arith, earlier, within))
+      ∙ ap (λ f. fold_onto step (stretch numbers f ((from + j) % items)) x) in_it.1.first
+      ∙ ap (λ n. fold_onto step (stretch numbers first n) x) in_it.0
+      ∙ ap (λ l. fold_onto step l x) (sym list)
+      ∙ ap (fold_onto step (stretch numbers first before ++ take j behind)) (sym read)
+      ∙ are j d here;
 }
 
 -- ---- the chunks of all lines

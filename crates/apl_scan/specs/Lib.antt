@@ -1,3 +1,4 @@
 pub mod Scanning
 pub mod Lines
+pub mod Lined
 pub mod Running

@@ -1,5 +1,5 @@
 -- What the numbers of a line before a place do, in lines of neighbours. No contract of a public function cites this file.
-use Rattle.std.specs.Prelude.{◌≡◌, ℕ, ℤ, ◌+◌, ◌*◌, ◌/◌, ◌%◌, ◌<◌, ◌≤◌, List, [], take, drop, length, Option, Some, None, Result, slice_index_or}
+use Rattle.std.specs.Prelude.{◌≡◌, ℕ, ℤ, ◌+◌, ◌*◌, ◌/◌, ◌%◌, ◌<◌, ◌≤◌, List, take, drop, length, Result, slice_index_or}
 use Rattle.apl_pool.specs.declared.kernel.Fault.{Fault}
 use Rattle.apl_pool.specs.Summaries.{IsSummaryOf}
 use Rattle.apl_scan.specs.declared.chunks.TheConstants.{CHUNK}
@@ -18,11 +18,6 @@ pub record IsChunkBefore (per_line items place row : ℕ) : Type 0 where
   pub chunk : row % per_line + 1 ≡ place % items / CHUNK
 
 module _ {S : Type 0} (step : ℤ → ℤ → Result ℤ Fault) (item_count : S → ℕ) (outcome : S → ℤ → Result ℤ Fault) where
-  -- a summary of these numbers, and none of no number
-  abbrev pub IsSummaryOrNone : List ℤ → Option S → Type 0
-  IsSummaryOrNone numbers (Some s) = IsSummaryOf step item_count outcome s numbers
-  IsSummaryOrNone numbers None = numbers ≡ []
-
   -- of the chunk of a row
   abbrev pub IsOfChunk : List ℤ → (items per_line row : ℕ) → S → Type 0
   IsOfChunk numbers items per_line row s = IsSummaryOf step item_count outcome s (stretch numbers (chunk_start items per_line row) CHUNK)

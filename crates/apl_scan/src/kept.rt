@@ -1,5 +1,5 @@
 //! Summaries of which it is known that their results are in the range.
-ghost use Rattle.std.specs.Prelude.{◌≡◌, ℤ, Ok};
+ghost use Rattle.std.specs.Prelude.{◌≡◌, ℤ, Ok, Some, None, MatchOption};
 ghost use Rattle.apl_pool.specs.Summaries.{IsI64};
 
 use apl_pool::{Fault, Kernel, Summary};
@@ -18,6 +18,16 @@ impl<S: Summary + Copy> Kept<S> {
     {
         Kept {
             summary: self.summary,
+        }
+    }
+
+    /// What is kept, where there is something.
+    pub(crate) fn summary_of(kept: &Option<Kept<S>>) -> Option<S>
+        ensures { MatchOption kept.now (result ≡ None) (λ k. result ≡ Some k.summary) }
+    {
+        match kept {
+            None => None,
+            Some(kept) => Some(kept.summary),
         }
     }
 }

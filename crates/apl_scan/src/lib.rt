@@ -1,11 +1,12 @@
 //! Scan along an axis: at each item the reduction of the items up to it.
 //!
-//! It is that of the APL\360 User's Manual (1968), over whole numbers of 64 bits.
+//! It is that of ISO 8485:1989, over whole numbers of 64 bits.
 #![tactic(auto)]
 
 mod chunks;
 mod kept;
 mod laws;
+mod lined;
 mod lines;
 mod running;
 mod scanning;

@@ -5,6 +5,7 @@ ghost use Rattle.apl_pool.specs.Pool.{AreValues, IsStopOf};
 ghost use Rattle.apl_scalar.specs.Scalar.{dyadic_numbers};
 ghost use Rattle.apl_scan.specs.Lines.{folded, number_along, numbers_before, scan_at};
 
+use crate::lined::fill_by_lines;
 use crate::summarized::fill_by_summary;
 use apl_array::ScalarFunction;
 use apl_divisor::Divisor;
@@ -15,6 +16,9 @@ use apl_summary::has_summary;
 use std::alloc::Global;
 use std::marker::PhantomData;
 use std::thread::Threads;
+
+/// How many numbers a line has at least for which it is repaid to bring lines in order.
+const LONG_LINE: usize = 32;
 
 /// The numbers of an array, in lines along an axis.
 #[derive(Drop)]
@@ -133,8 +137,18 @@ pub(crate) fn fill_scans<R: Threads + Sync, C: Cut + Sync, G: Gate + Sync>(
     ensures values { IfOk result (λ v. AreValues (scan_at (dyadic_numbers f) lines.now.numbers.now lines.now.items lines.now.inner) (length lines.now.numbers.now) v.items) }
     ensures stop { IfErr result (IsStopOf (scan_at (dyadic_numbers f) lines.now.numbers.now lines.now.items lines.now.inner) (length lines.now.numbers.now)) }
 {
-    if lines.inner.number() == 1 && has_summary(f) {
-        return fill_by_summary(rt, alloc, pool, f, lines.numbers, lines.items.number());
+    let items = lines.items.number();
+    let inner = lines.inner.number();
+    if inner == 1 && has_summary(f) {
+        return fill_by_summary(rt, alloc, pool, f, lines.numbers, items);
+    }
+    if items >= LONG_LINE && has_summary(f) {
+        match fill_by_lines(rt, alloc, pool, f, lines.numbers, items, inner) {
+            Ok(values) => return Ok(values),
+            Err(Stop::Memory) => return Err(Stop::Memory),
+            // Which of the faults stands at the least place is found below.
+            Err(Stop::Fault { .. }) => {}
+        }
     }
     with_type!(f, fill_folds::<F, R, C, G>(rt, alloc, pool, lines))
 }

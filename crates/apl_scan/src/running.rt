@@ -2,7 +2,7 @@
 ghost use Rattle.std.specs.Prelude.{◌≡◌, ◌+◌, ◌≤◌, ℤ, List, [], ◌∷◌, ◌++◌, IfSome};
 ghost use Rattle.apl_pool.specs.declared.kernel.TheConstants.{MOST_PLACES};
 ghost use Rattle.apl_pool.specs.Summaries.{fold_onto, IsSummaryOf};
-ghost use Rattle.apl_scan.specs.Running.{IsSummaryOrNone};
+ghost use Rattle.apl_summary.specs.Running.{IsSummaryOrNone};
 
 use crate::kept::Kept;
 use apl_pool::{Fault, Summary};

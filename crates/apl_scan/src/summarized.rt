@@ -5,9 +5,10 @@ ghost use Rattle.apl_pool.specs.Pool.{AreValues, IsStopOf};
 ghost use Rattle.apl_pool.specs.Runs.{AreWritten};
 ghost use Rattle.apl_scalar.specs.Scalar.{dyadic_numbers};
 ghost use Rattle.apl_summary.specs.Functions.{has_summary};
+ghost use Rattle.apl_summary.specs.Running.{IsSummaryOrNone};
 ghost use Rattle.apl_scan.specs.declared.chunks.TheConstants.{CHUNK};
 ghost use Rattle.apl_scan.specs.Lines.{scan_at};
-ghost use Rattle.apl_scan.specs.Running.{stretch, IsChunkBefore, IsSummaryOrNone, AreUpToChunks};
+ghost use Rattle.apl_scan.specs.Running.{stretch, IsChunkBefore, AreUpToChunks};
 
 use crate::chunks::{CHUNK, Chunks, summarize};
 use crate::kept::Kept;
@@ -15,7 +16,7 @@ use crate::running::{fold_behind, with_next};
 use apl_array::ScalarFunction;
 use apl_divisor::Divisor;
 use apl_pool::{Cut, Fault, Gate, Kernel, Pool, Stop, Summary};
-use apl_summary::with_summary;
+use apl_summary::{Running, with_summary};
 use std::alloc::Global;
 use std::thread::Threads;
 
@@ -46,7 +47,7 @@ fn append_zeros(values: &mut Vec<i64>, len: usize)
     }
 }
 
-impl<S: Summary<Item = i64> + Copy + Drop> Scans<'_, S> {
+impl<S: Running + Copy + Drop> Scans<'_, S> {
     /// The row of the last whole chunk of a line that lies before a place, if there is one.
     fn chunk_before(&self, place: usize) -> Option<usize>
         requires { place < length self.now.numbers.now }
@@ -98,6 +99,21 @@ impl<S: Summary<Item = i64> + Copy + Drop> Scans<'_, S> {
         (self.items.number() - self.items.remainder(from)).min(to - from)
     }
 
+    /// Puts the folds up to the places from `from` on, all of them in one line, into the room, where the
+    /// summaries do so themselves. It says how many they are.
+    #[inline(always)]
+    fn put_folds(&self, running: &Option<Kept<S>>, from: usize, room: &mut [i64]) -> usize
+        requires within { from + length room.old ≤ length self.now.numbers.now }
+        requires line { from % self.now.items + length room.old ≤ self.now.items }
+        requires running { IsSummaryOrNone S.step (λ k. S.item_count k.summary) (λ k. S.outcome k.summary) (stretch self.now.numbers.now (from - from % self.now.items) (from % self.now.items)) running.now }
+        ensures most { result ≤ length room.old }
+        ensures values { AreWritten (scan_at S.step self.now.numbers.now self.now.items 1) from (from + result) room.new }
+        ensures len { length room.new ≡ length room.old }
+    {
+        let numbers = &self.numbers[from..from + room.len()];
+        S::put_folds(&Kept::summary_of(running), numbers, room)
+    }
+
     /// Puts the folds up to the places from `from` on, all of them in one line, into the room, up to before
     /// the first that has a fault. It says how many they are.
     fn scan_run(&self, from: usize, room: &mut [i64]) -> usize
@@ -109,6 +125,10 @@ impl<S: Summary<Item = i64> + Copy + Drop> Scans<'_, S> {
         ensures len { length room.new ≡ length room.old }
     {
         let mut running = self.before(from);
+        let done = self.put_folds(&running, from, room);
+        if done > 0 {
+            return done;
+        }
         for k in 0..room.len() {
             let number = self.numbers[from + k];
             match fold_behind(&running, number) {
@@ -121,7 +141,7 @@ impl<S: Summary<Item = i64> + Copy + Drop> Scans<'_, S> {
     }
 }
 
-impl<S: Summary<Item = i64> + Copy + Drop> Kernel for Scans<'_, S> {
+impl<S: Running + Copy + Drop> Kernel for Scans<'_, S> {
     ghost use Rattle.std.specs.Prelude.{length};
     ghost use Rattle.apl_scan.specs.Lines.{scan_at};
 
@@ -196,7 +216,7 @@ fn summarize_lines<
 
 /// The folds of numbers up to each place of lines of so many neighbours, by one type of summaries.
 fn fill_summarized<
-    S: Summary<Item = i64> + Copy + Drop + Send + Sync,
+    S: Running + Copy + Drop + Send + Sync,
     R: Threads + Sync,
     C: Cut + Sync,
     G: Gate + Sync,

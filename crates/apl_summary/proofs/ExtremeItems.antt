@@ -6,7 +6,7 @@ use Rattle.apl_scalar.specs.Scalar.{dyadic_numbers}
 use Rattle.apl_summary.specs.declared.extremum.Extremum.{Extremum}
 use Rattle.apl_summary.specs.Extremes.{extreme_function, extreme_of_two, extreme_outcome, extremum_of_one, extremum_of_both}
 
-two_in_range : (is_least : Bool) (x y : ℤ) → IsI64 x → IsI64 y → IsI64 (extreme_of_two is_least x y)
+pub two_in_range : (is_least : Bool) (x y : ℤ) → IsI64 x → IsI64 y → IsI64 (extreme_of_two is_least x y)
 two_in_range true x y g h = (omega (arith, ints, clamps, g.0, h.0), omega (arith, ints, clamps, g.1, h.1))
 two_in_range false x y g h = (omega (arith, ints, clamps, g.0, h.0), omega (arith, ints, clamps, g.1, h.1))
 

@@ -11,3 +11,5 @@ pub mod RowNumbers
 pub mod FourExtremes
 pub mod ConsecutiveLists
 pub mod RunningSums
+pub mod FrontNumbers
+pub mod Fronts

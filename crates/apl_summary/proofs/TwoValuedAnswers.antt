@@ -1,5 +1,5 @@
 -- Functions with two values: what the answers of one item do, and what those of both do.
-use Rattle.std.proofs.Common.{◌≡◌, Bool, true, false, true≢false, ℤ, Result, Ok, Err, refl, sym, subst, arith, if◌then◌else◌}
+use Rattle.std.proofs.Common.{◌≡◌, Bool, true, false, true≢false, ℤ, Result, Ok, Err, refl, sym, subst, ◌∙◌, arith, if◌then◌else◌}
 use Rattle.std.proofs.lemmas.Int.{ints}
 use Rattle.apl_array.specs.declared.function.ScalarFunction.{ScalarFunction}
 use Rattle.apl_array.specs.declared.function.ScalarFunction.TheVariants.{Plus, Minus, Times, Divide, Stile, Star, Bang, Floor, Ceiling, And, Or, Nand, Nor, Less, LessOrEqual, Equal, GreaterOrEqual, Greater, NotEqual, Tilde}
@@ -70,3 +70,10 @@ by_result f a b (Err fault) = refl
 -- the left items' outcome on what the right ones give
 pub joined_outcome : (f : ScalarFunction) (a b : Answers) (right : ℤ) → two_valued_outcome f (answers_of_both f a b) right ≡ and_then (two_valued_outcome f b right) (two_valued_outcome f a)
 joined_outcome f a b right = by_result f a b (dyadic_numbers f b.last right)
+
+-- what one item answers is 0 or 1
+pub two_valued_is_bit : (f : ScalarFunction) (x right z : ℤ) → is_two_valued f ≡ true → dyadic_numbers f x right ≡ Ok z → (b : Bool) × (z ≡ bit b)
+two_valued_is_bit f x right z two is = found (left_answer (answers_of_one x) (dyadic_numbers f x right)) (one_is f x right two ∙ is) where
+  found : (o : Result Bool Fault) → as_number o ≡ Ok z → (b : Bool) × (z ≡ bit b)
+  found (Ok b) e = (b, cc)
+  found (Err fault) e = absurd (cc)

@@ -8,3 +8,5 @@ pub mod SmallConstants
 pub mod SmallCoefficients
 pub mod RowFolds
 pub mod ConsecutiveSums
+pub mod Running
+pub mod Fronts

@@ -17,7 +17,9 @@ pub struct Answers {
     pub for_one: Result<bool, Fault>,
 }
 
-fn number(answer: bool) -> i64
+/// 0 or 1.
+#[inline(always)]
+pub fn number(answer: bool) -> i64
     ensures { result ≡ bit answer }
 {
     if answer { 1 } else { 0 }
@@ -37,7 +39,7 @@ impl Answers {
     }
 
     /// What all items answer for a number.
-    fn whole<P: Function>(&self, right: i64) -> Result<bool, Fault>
+    pub fn whole<P: Function>(&self, right: i64) -> Result<bool, Fault>
         ensures { result ≡ whole_answer P.FUNCTION self.now right }
     {
         match P::apply(self.last, right) {

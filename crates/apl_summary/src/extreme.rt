@@ -3,6 +3,8 @@ ghost use Rattle.std.specs.Prelude.{◌≡◌, ℕ};
 ghost use Rattle.apl_pool.specs.Summaries.{IsI64};
 
 use crate::extremum::{Extremum, extremum_of_run};
+use crate::running::{Running, put_folds_behind};
+use crate::running_extreme::RunningExtreme;
 use apl_pool::{Fault, Kernel, Summary};
 
 /// The summary of numbers under `⌊` where `GREATEST` is 0, else under `⌈`: the least or the greatest of
@@ -49,5 +51,17 @@ impl<const GREATEST: u8> Summary for Extreme<GREATEST> {
     fn of_run<K: Kernel<Out = i64>>(kernel: &K, from: usize, to: usize) -> Option<Self> {
         let extremum = extremum_of_run(GREATEST == 0, kernel, from, to)?;
         Some(Extreme { extremum })
+    }
+}
+
+impl<const GREATEST: u8> Running for Extreme<GREATEST> {
+    fn put_folds(before: &Option<Self>, numbers: &[i64], room: &mut [i64]) -> usize {
+        let front = match before {
+            None => RunningExtreme::<GREATEST>::none(),
+            Some(before) => RunningExtreme {
+                item: before.extremum.item,
+            },
+        };
+        put_folds_behind(front, numbers, room)
     }
 }

@@ -18,7 +18,7 @@ pub struct Extremum {
 }
 
 #[inline(always)]
-fn extreme_of_two(is_least: bool, a: i64, b: i64) -> i64
+pub fn extreme_of_two(is_least: bool, a: i64, b: i64) -> i64
     ensures { result ≡ extreme_of_two is_least a b }
 {
     if is_least {

@@ -3,6 +3,7 @@ ghost use Rattle.std.specs.Prelude.{◌≡◌, ℕ};
 ghost use Rattle.apl_summary.specs.Coefficients.{AreCoefficients};
 
 use crate::coefficients::Coefficients;
+use crate::running::Running;
 use crate::small_coefficients::small_coefficients;
 use apl_pool::{Fault, Kernel, Summary};
 
@@ -56,3 +57,5 @@ impl Summary for Scaled {
         })
     }
 }
+
+impl Running for Scaled {}

@@ -3,6 +3,8 @@ ghost use Rattle.std.specs.Prelude.{◌≡◌, ℕ, nat_eq};
 ghost use Rattle.apl_summary.specs.Constants.{AreConstants};
 
 use crate::constants::Constants;
+use crate::running::{Running, put_folds_behind};
+use crate::running_sum::RunningSum;
 use crate::small_constants::small_constants;
 use apl_pool::{Fault, Kernel, Summary};
 
@@ -54,5 +56,20 @@ impl<const MINUS: u8> Summary for SignedSum<MINUS> {
         Some(SignedSum {
             constants: small.widened(),
         })
+    }
+}
+
+impl<const MINUS: u8> Running for SignedSum<MINUS> {
+    fn put_folds(before: &Option<Self>, numbers: &[i64], room: &mut [i64]) -> usize {
+        if MINUS != 0 {
+            return 0;
+        }
+        let Some(before) = before else {
+            return put_folds_behind(RunningSum::none(), numbers, room);
+        };
+        match RunningSum::of(&before.constants) {
+            Some(front) => put_folds_behind(front, numbers, room),
+            None => 0,
+        }
     }
 }

@@ -3,6 +3,8 @@ ghost use Rattle.std.specs.Prelude.{◌≡◌, ℕ, true, refl};
 ghost use Rattle.apl_summary.specs.Answers.{is_two_valued};
 
 use crate::answers::Answers;
+use crate::running::{Running, put_folds_behind};
+use crate::running_bits::RunningBits;
 use apl_pool::{Fault, Summary};
 use apl_scalar::function_types::{
     And, Equal, Function, Greater, GreaterOrEqual, Less, LessOrEqual, Nand, Nor, NotEqual, Or,
@@ -96,5 +98,17 @@ impl<P: TwoValuedFunction> Summary for TwoValued<P> {
 
     fn apply(&self, right: i64) -> Result<i64, Fault> {
         self.answers.apply::<P>(right)
+    }
+}
+
+impl<P: TwoValuedFunction + Drop> Running for TwoValued<P> {
+    fn put_folds(before: &Option<Self>, numbers: &[i64], room: &mut [i64]) -> usize {
+        let Some(before) = before else {
+            return put_folds_behind(RunningBits::<P>::none(), numbers, room);
+        };
+        match RunningBits::<P>::of(&before.answers) {
+            Some(front) => put_folds_behind(front, numbers, room),
+            None => 0,
+        }
     }
 }

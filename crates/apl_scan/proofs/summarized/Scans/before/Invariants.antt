@@ -1,6 +1,7 @@
 use Rattle.std.proofs.Common.{◌+◌, ◌-◌, ◌*◌, ◌/◌, ◌%◌}
 use Rattle.apl_scan.specs.declared.chunks.TheConstants.{CHUNK}
-use Rattle.apl_scan.specs.Running.{stretch, IsSummaryOrNone}
+use Rattle.apl_summary.specs.Running.{IsSummaryOrNone}
+use Rattle.apl_scan.specs.Running.{stretch}
 use Rattle.apl_scan.proofs.summarized.Scans.before.Given as goal
 
 abbrev pub invariant-loop-done : goal.invariant-loop-done

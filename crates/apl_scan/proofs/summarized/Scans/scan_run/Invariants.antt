@@ -1,7 +1,8 @@
 use Rattle.std.proofs.Common.{◌≡◌, ◌+◌, ◌-◌, ◌%◌, length}
 use Rattle.apl_pool.specs.Runs.{AreWritten}
 use Rattle.apl_scan.specs.Lines.{scan_at}
-use Rattle.apl_scan.specs.Running.{stretch, IsSummaryOrNone}
+use Rattle.apl_summary.specs.Running.{IsSummaryOrNone}
+use Rattle.apl_scan.specs.Running.{stretch}
 use Rattle.apl_scan.proofs.summarized.Scans.scan_run.Given as goal
 
 abbrev pub invariant-loop-k : goal.invariant-loop-k

@@ -1,0 +1,98 @@
+//! What bits answer for the next one, under a function with two values.
+ghost use Rattle.std.specs.Prelude.{◌≡◌, ℤ, pos, List, [], ◌∷◌, ◌++◌, Ok, IfSome, if◌then◌else◌};
+ghost use Rattle.apl_pool.specs.Summaries.{fold_onto};
+ghost use Rattle.apl_scalar.specs.Scalar.{bit, is_one, dyadic_numbers};
+ghost use Rattle.apl_summary.specs.Answers.{two_valued_outcome};
+ghost use Rattle.apl_summary.specs.Fronts.{AreRunningBits};
+
+use crate::answers::{Answers, number};
+use crate::running::Front;
+use crate::two_valued::TwoValuedFunction;
+use std::marker::PhantomData;
+
+/// What numbers answer for 0 and for 1.
+#[derive(Clone, Copy)]
+pub struct RunningBits<P> {
+    pub for_zero: bool,
+    pub for_one: bool,
+    pub function: PhantomData<P>,
+}
+
+/// Whether a number is 1.
+#[inline(always)]
+fn is_one(number: i64) -> bool
+    ensures { result ≡ is_one number }
+{
+    number == 1
+}
+
+impl<P: TwoValuedFunction> RunningBits<P> {
+    /// Those of no number.
+    pub fn none() -> Self
+        ensures { AreRunningBits P.FUNCTION result.for_zero result.for_one [] }
+    {
+        RunningBits {
+            for_zero: false,
+            for_one: true,
+            function: PhantomData,
+        }
+    }
+
+    /// Those of numbers with these answers, where neither is a fault.
+    pub fn of(answers: &Answers) -> Option<Self>
+        ensures zero { IfSome result (λ s. two_valued_outcome P.FUNCTION answers.now (pos 0) ≡ Ok (bit s.for_zero)) }
+        ensures one { IfSome result (λ s. two_valued_outcome P.FUNCTION answers.now (pos 1) ≡ Ok (bit s.for_one)) }
+    {
+        match (answers.whole::<P>(0), answers.whole::<P>(1)) {
+            (Ok(for_zero), Ok(for_one)) => Some(RunningBits {
+                for_zero,
+                for_one,
+                function: PhantomData,
+            }),
+            _ => None,
+        }
+    }
+
+    /// What the numbers answer for 1, or else for 0.
+    #[inline(always)]
+    fn answer(&self, is_one: bool) -> bool
+        ensures { result ≡ (if is_one then self.now.for_one else self.now.for_zero) }
+    {
+        if is_one { self.for_one } else { self.for_zero }
+    }
+
+    /// What the numbers and one more behind them answer for a number.
+    #[inline(always)]
+    fn answer_behind(&self, item: i64, right: i64) -> Option<bool>
+        ensures { IfSome result (λ b. (numbers : List ℤ) → AreRunningBits P.FUNCTION self.now.for_zero self.now.for_one numbers
+            → fold_onto (dyadic_numbers P.FUNCTION) (numbers ++ item ∷ []) right ≡ Ok (bit b)) }
+    {
+        match P::apply(item, right) {
+            Ok(value) => Some(self.answer(is_one(value))),
+            Err(_) => None,
+        }
+    }
+}
+
+impl<P: TwoValuedFunction + Drop> Front for RunningBits<P> {
+    ghost use Rattle.apl_scalar.specs.Scalar.{dyadic_numbers};
+    ghost use Rattle.apl_summary.specs.Fronts.{AreRunningBits};
+
+    ghost step = { dyadic_numbers P.FUNCTION };
+
+    ghost is_of = { λ s. AreRunningBits P.FUNCTION s.for_zero s.for_one };
+
+    #[inline(always)]
+    fn with(&self, item: i64) -> Option<(i64, Self)> {
+        if item != 0 && item != 1 {
+            return None;
+        }
+        let value = self.answer(is_one(item));
+        let next = RunningBits {
+            for_zero: self.answer_behind(item, 0)?,
+            for_one: self.answer_behind(item, 1)?,
+            function: PhantomData,
+        };
+        Some((number(value), next))
+    }
+}
