@@ -1,5 +1,6 @@
 //! Why a function of arrays has no value.
 
+use apl_array::ShapeError;
 use apl_pool::{Fault, Stop};
 use std::alloc::AllocError;
 
@@ -45,6 +46,20 @@ impl From<Stop> for OpFault {
         match stop {
             Stop::Fault { place: _, fault } => OpFault::from(fault),
             Stop::Memory => OpFault::Memory,
+        }
+    }
+}
+
+impl From<ShapeError> for OpFault {
+    ghost use Rattle.std.specs.Prelude.{◌≡◌};
+    ghost use Rattle.apl_answer.specs.Faults.{op_fault_of_shape};
+
+    ghost from_gives = { λ error r. r ≡ op_fault_of_shape error };
+
+    fn from(error: ShapeError) -> Self {
+        match error {
+            ShapeError::Rank | ShapeError::Count => OpFault::Limit,
+            ShapeError::Memory => OpFault::Memory,
         }
     }
 }

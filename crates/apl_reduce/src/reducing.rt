@@ -100,9 +100,7 @@ pub fn reduce<R: Threads + Sync, C: Cut + Sync, G: Gate + Sync>(
     }
     let mut lengths = b.shape().lengths().to_vec(alloc)?;
     lengths.remove(k);
-    let Ok(shape) = Shape::new(alloc, lengths.as_slice()) else {
-        return Err(OpFault::Limit);
-    };
+    let shape = Shape::new(alloc, lengths.as_slice())?;
     inserted_index_has_place();
     replaced_index_has_place();
     match b.shape().axis(k) {

@@ -18,10 +18,7 @@ pub(crate) fn joined_shape(alloc: Global, left: &[usize], right: &[usize]) -> Re
 {
     let mut lengths = left.to_vec(alloc)?;
     lengths.extend_from_slice(right)?;
-    match Shape::new(alloc, lengths.as_slice()) {
-        Ok(shape) => Ok(shape),
-        Err(_) => Err(OpFault::Limit),
-    }
+    Ok(Shape::new(alloc, lengths.as_slice())?)
 }
 
 /// The product of the lengths from axis `k` on, or 1 where the shape has no place.

@@ -2,7 +2,7 @@
 use Rattle.std.proofs.Common.{◌≡◌, ℕ, zero, suc, ◌+◌, ◌-◌, ◌*◌, ◌/◌, ◌%◌, ◌^◌, ◌<◌, ◌≤◌, Bool, true, false, List, [], ◌∷◌, length, get_or, reverse, slice_index, refl, sym, ap, ◌∙◌, arith, if◌then◌else◌}
 use Rattle.std.specs.Prelude.{◌==◌, sum, All, Option, Some}
 use Rattle.std.specs.List.{range_with_len}
-use Rattle.std.proofs.lemmas.Bool.{eqb-true, eq-eqb}
+use Rattle.std.proofs.lemmas.Bool.{eqb-true, eq-eqb, ne_eqb}
 use Rattle.std.proofs.lemmas.List.Sums.{sum_by-cons}
 use Rattle.std.proofs.lemmas.List.{get_or-reverse, length-reverse, ext_get_or}
 use Rattle.std.proofs.lemmas.List.FromFn.{length-range_with_len, get_or-range_with_len}
@@ -25,6 +25,12 @@ pub stride_more : (axis a n : ℕ) (axes ns : List ℕ) → a ≡ axis
     → sum (becoming axis (a ∷ axes) (strides (n ∷ ns))) ≡ sum (becoming axis axes (strides ns)) + count_of ns
 stride_more axis a n axes ns is =
     let own : (if a == axis then count_of ns else 0) ≡ count_of ns = ap (λ b. if b then count_of ns else 0) (eq-eqb a axis is) in
+    omega (arith, sum-becoming axis a (count_of ns) axes (strides ns), own)
+
+pub stride_other : (axis a n : ℕ) (axes ns : List ℕ) → (a ≡ axis → ⊥)
+    → sum (becoming axis (a ∷ axes) (strides (n ∷ ns))) ≡ sum (becoming axis axes (strides ns))
+stride_other axis a n axes ns other =
+    let own : (if a == axis then count_of ns else 0) ≡ 0 = ap (λ b. if b then count_of ns else 0) (ne_eqb a axis other) in
     omega (arith, sum-becoming axis a (count_of ns) axes (strides ns), own)
 
 -- the steps along an axis of the result stay near

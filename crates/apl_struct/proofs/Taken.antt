@@ -6,7 +6,7 @@ use Rattle.std.proofs.lemmas.List.{length-replicate}
 use Rattle.apl_array.specs.Axes.{place_number}
 use Rattle.std.proofs.Math.Nat.{mod-lt, mul-le-mul_right, le-mul_of_pos_right}
 use Rattle.apl_array.specs.Array.{ArrayValue, IsArray}
-use Rattle.apl_array.specs.Shape.{IsShape, IsIndexOf, count_of, place_of, index_at}
+use Rattle.apl_array.specs.Shape.{most_axes, IsShape, IsIndexOf, count_of, place_of, index_at}
 use Rattle.apl_struct.specs.declared.windows.Window.{Window}
 use Rattle.apl_struct.specs.Gathered.{filled_at}
 use Rattle.apl_struct.specs.Gathering.{element_or_fill}
@@ -263,5 +263,5 @@ all_ones zero k d inside = absurd (omega arith)
 all_ones (suc n) zero d inside = omega arith
 all_ones (suc n) (suc k) d inside = all_ones n k d (omega arith)
 
-pub IsShape-ones : (n : ℕ) → n ≤ 8 → IsShape (replicate n 1)
+pub IsShape-ones : (n : ℕ) → n ≤ most_axes → IsShape (replicate n 1)
 IsShape-ones n few = record { rank = omega (arith, few, length-replicate {A = ℕ} n 1); axes = all_ones n; count = omega (arith, count_ones n) }

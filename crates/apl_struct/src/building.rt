@@ -181,10 +181,7 @@ fn shape_with(alloc: Global, lengths: &[i64]) -> Result<Shape, OpFault>
         .iter()
         .map(|length| place_number(*length))
         .collect(alloc)?;
-    match Shape::new(alloc, lengths.as_slice()) {
-        Ok(shape) => Ok(shape),
-        Err(_) => Err(OpFault::Limit),
-    }
+    Ok(Shape::new(alloc, lengths.as_slice())?)
 }
 
 /// Whether an array of one shape can be made of the elements of one of another, again and again.

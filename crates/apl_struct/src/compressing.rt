@@ -17,6 +17,7 @@ use crate::along::Indexes;
 use crate::arguments::numbers_among;
 use crate::gather::{Absent, Source};
 use crate::repeating::{Repeated, capped_product, capped_sum, listed_indexes};
+use crate::shapes::lawful_shape;
 use crate::workers::Workers;
 use apl_answer::OpFault;
 use apl_array::{
@@ -288,10 +289,7 @@ fn shrunk_shape(
     // An array that was asked something is known to be lawful.
     let _kind = b.kind();
     let lengths = lengths_with(alloc, b, k, length)?;
-    let Ok(shape) = Shape::new(alloc, lengths.as_slice()) else {
-        unreachable!()
-    };
-    Ok(shape)
+    lawful_shape(alloc, lengths.as_slice())
 }
 
 /// The shape in which axis `k` has this length, where a scalar serves as a vector. It is refused where it
@@ -303,10 +301,7 @@ fn shape_with_axis(alloc: Global, b: &Array, k: usize, length: usize) -> Result<
         (λ fault. (fault ≡ OpFault.Memory) ⊎ ((fault ≡ OpFault.Limit) × (is_shape (slice_set (as_vector n b.now).shape k length) ≡ false))) }
 {
     let lengths = lengths_with(alloc, b, k, length)?;
-    match Shape::new(alloc, lengths.as_slice()) {
-        Ok(shape) => Ok(shape),
-        Err(_) => Err(OpFault::Limit),
-    }
+    Ok(Shape::new(alloc, lengths.as_slice())?)
 }
 
 impl<R: Threads + Sync, C: Cut + Sync, G: Gate + Sync> Workers<'_, R, C, G> {
@@ -514,8 +509,6 @@ pub fn expand<R: Threads + Sync, C: Cut + Sync, G: Gate + Sync>(
         return Err(OpFault::Length);
     }
     let lengths = lengths_with(alloc, b, k, bits.len())?;
-    let Ok(shape) = Shape::new(alloc, lengths.as_slice()) else {
-        return Err(OpFault::Limit);
-    };
+    let shape = Shape::new(alloc, lengths.as_slice())?;
     workers.expand_each(shape, b, k, bits)
 }

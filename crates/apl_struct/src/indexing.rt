@@ -130,10 +130,7 @@ pub(crate) fn selected_shape(
     }
     let mut selected = Vec::new(alloc);
     push_selected(lengths, slots, &mut selected)?;
-    match Shape::new(alloc, selected.as_slice()) {
-        Ok(shape) => Ok(shape),
-        Err(_) => Err(OpFault::Limit),
-    }
+    Ok(Shape::new(alloc, selected.as_slice())?)
 }
 
 /// An array that was asked something is known to be lawful.

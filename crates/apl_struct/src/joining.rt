@@ -422,8 +422,6 @@ pub fn catenate<R: Threads + Sync, C: Cut + Sync, G: Gate + Sync>(
     if !have_same_kind(a, b) {
         return Err(OpFault::Domain);
     }
-    let Ok(shape) = Shape::new(alloc, lengths.as_slice()) else {
-        return Err(OpFault::Limit);
-    };
+    let shape = Shape::new(alloc, lengths.as_slice())?;
     workers.join_along(shape, a, b, k, left)
 }

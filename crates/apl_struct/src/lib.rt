@@ -25,6 +25,7 @@ mod replacing;
 mod rotating;
 mod searching;
 mod selecting;
+mod shapes;
 mod sorting;
 mod stretches;
 mod taking;

@@ -15,6 +15,7 @@ ghost use Rattle.apl_struct.specs.Windows.{extent_of, walked, windows_of};
 use crate::arguments::numbers_among;
 use crate::gather::Absent;
 use crate::named::{are_all_named, are_from_origin, axes_named, named_axes};
+use crate::shapes::lawful_shape;
 use crate::windows::{MOST_STEP, Walk, Window};
 use crate::workers::Workers;
 use apl_answer::OpFault;
@@ -99,9 +100,7 @@ pub fn transpose<R: Threads + Sync, C: Cut + Sync, G: Gate + Sync>(
     let argument = b.shape();
     let axes = reversed_axes(alloc, argument.rank())?;
     let lengths = reversed_lengths(alloc, argument.lengths())?;
-    let Ok(shape) = Shape::new(alloc, lengths.as_slice()) else {
-        unreachable!()
-    };
+    let shape = lawful_shape(alloc, lengths.as_slice())?;
     Workers { rt, alloc, pool }.transposed(shape, b, axes.as_slice())
 }
 
@@ -165,10 +164,7 @@ fn transposed_shape(alloc: Global, axes: &[usize], argument: &Shape) -> Result<S
 {
     transposed_index_has_place();
     let lengths = transposed_lengths(alloc, axes, argument.lengths())?;
-    let Ok(shape) = Shape::new(alloc, lengths.as_slice()) else {
-        unreachable!()
-    };
-    Ok(shape)
+    lawful_shape(alloc, lengths.as_slice())
 }
 
 fn transposed_lengths(

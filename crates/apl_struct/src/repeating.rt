@@ -1,5 +1,5 @@
 //! Indexes of an axis that stand as often as counts say.
-ghost use Rattle.std.specs.Prelude.{◌≡◌, ◌+◌, ◌*◌, ◌<◌, ◌≤◌, true, false, IfOk, MatchOption, map, min, sum, length};
+ghost use Rattle.std.specs.Prelude.{◌≡◌, ◌+◌, ◌*◌, ◌<◌, ◌≤◌, ◌++◌, true, false, IfOk, MatchOption, map, min, sum, length, replicate, vec_len, vec_capacity};
 ghost use Rattle.std.specs.List.{list_all};
 ghost use Rattle.apl_array.specs.Axes.{place_number};
 ghost use Rattle.apl_array.specs.declared.shape.TheConstants.{MOST_ELEMENTS};
@@ -64,6 +64,18 @@ pub(crate) fn capped_product(length: usize, count: usize) -> usize
     length.saturating_mul(count).min(MOST_ELEMENTS + 1)
 }
 
+/// Puts an index so many times behind others.
+#[inline(always)]
+fn append_times(table: &mut Vec<u32>, index: u32, count: usize)
+    requires { vec_len table.old + count ≤ vec_capacity table.old }
+    ensures items { table.new.items ≡ table.old.items ++ replicate count index }
+    ensures capacity { vec_capacity table.new ≡ vec_capacity table.old }
+{
+    for _again in 0..count {
+        table.push_reserved(index);
+    }
+}
+
 /// Each index as often as its count says, which is so often in all.
 pub(crate) fn listed_indexes(
     alloc: Global,
@@ -78,7 +90,7 @@ pub(crate) fn listed_indexes(
 {
     let mut table = Vec::with_capacity(alloc, all)?;
     for (i, count) in counts.iter().enumerate() {
-        table.resize(table.len() + *count as usize, i as u32)?;
+        append_times(&mut table, i as u32, *count as usize);
     }
     Ok(table)
 }

@@ -14,6 +14,7 @@ ghost use Rattle.apl_struct.specs.Shaped.{with_shape, left_number, left_numbers}
 
 use crate::arguments::numbers_among;
 use crate::gather::Absent;
+use crate::shapes::lawful_shape;
 use crate::windows::{Walk, Window};
 use crate::workers::Workers;
 use apl_answer::OpFault;
@@ -142,10 +143,7 @@ fn shape_with_axes(alloc: Global, b: &Array, rank: usize) -> Result<Shape, Alloc
     if b.shape().rank() != 0 {
         return b.shape().copy(alloc);
     }
-    let Ok(shape) = Shape::new(alloc, &[1; MOST_AXES][..rank]) else {
-        unreachable!()
-    };
-    Ok(shape)
+    lawful_shape(alloc, &[1; MOST_AXES][..rank])
 }
 
 impl<R: Threads + Sync, C: Cut + Sync, G: Gate + Sync> Workers<'_, R, C, G> {
@@ -185,9 +183,7 @@ impl<R: Threads + Sync, C: Cut + Sync, G: Gate + Sync> Workers<'_, R, C, G> {
             → IsAnswerOf (if is_shape (map nat_abs numbers.now) then answer_of (map nat_abs numbers.now) (λ index. Ok (element index)) b.now.kind else Err OpFault.Limit) result }
     {
         let lengths = magnitudes(self.alloc, numbers)?;
-        let Ok(shape) = Shape::new(self.alloc, lengths.as_slice()) else {
-            return Err(OpFault::Limit);
-        };
+        let shape = Shape::new(self.alloc, lengths.as_slice())?;
         self.take_from(numbers, shape, b, argument)
     }
 }

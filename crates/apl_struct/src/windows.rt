@@ -3,8 +3,8 @@ ghost use Rattle.std.specs.Prelude.{◌+◌, ◌*◌, ◌<◌, ◌≤◌, vec_le
 ghost use Rattle.apl_pool.specs.declared.kernel.TheConstants.{MOST_PLACES};
 ghost use Rattle.apl_struct.specs.declared.windows.TheConstants.{MOST_STEP, MOST_WINDOWS};
 
-/// No index adds more to a place: so much are as many axes as there may be of as many elements.
-pub(crate) const MOST_STEP: usize = 1 << 33;
+/// No index adds more to a place: so many axes as there may be, of as many elements, are no more.
+pub(crate) const MOST_STEP: usize = 1 << 34;
 
 /// What the indexes of an axis of the result add to the place in the argument: index i, from `from`
 /// up to before `to`, adds i + start - from strides. At the others there is no place.

@@ -89,10 +89,10 @@ letters_in_no_radix = refl
 table_of_radices : result_of (encode_row two_by_two (scalar 5)) ≡ Err Rank
 table_of_radices = refl
 
--- 1 2⊤1 1 1 1 1 1 1 1⍴5
-nine_axes : result_of (encode_row (vector (1 ∷ 2 ∷ [])) (numbers (1 ∷ 1 ∷ 1 ∷ 1 ∷ 1 ∷ 1 ∷ 1 ∷ 1 ∷ []) (5 ∷ []))) ≡ Err Limit
-nine_axes = refl
+-- 1 2⊤1 1 1 1 1 1 1 1 1 1 1 1 1 1 1⍴5
+sixteen_axes : result_of (encode_row (vector (1 ∷ 2 ∷ [])) (numbers (1 ∷ 1 ∷ 1 ∷ 1 ∷ 1 ∷ 1 ∷ 1 ∷ 1 ∷ 1 ∷ 1 ∷ 1 ∷ 1 ∷ 1 ∷ 1 ∷ 1 ∷ []) (5 ∷ []))) ≡ Err Limit
+sixteen_axes = refl
 
--- 'AB'⊤1 1 1 1 1 1 1 1⍴5
-shape_before_kinds : result_of (encode_row (text (65 ∷ 66 ∷ [])) (numbers (1 ∷ 1 ∷ 1 ∷ 1 ∷ 1 ∷ 1 ∷ 1 ∷ 1 ∷ []) (5 ∷ []))) ≡ Err Limit
+-- 'AB'⊤1 1 1 1 1 1 1 1 1 1 1 1 1 1 1⍴5
+shape_before_kinds : result_of (encode_row (text (65 ∷ 66 ∷ [])) (numbers (1 ∷ 1 ∷ 1 ∷ 1 ∷ 1 ∷ 1 ∷ 1 ∷ 1 ∷ 1 ∷ 1 ∷ 1 ∷ 1 ∷ 1 ∷ 1 ∷ 1 ∷ []) (5 ∷ []))) ≡ Err Limit
 shape_before_kinds = refl

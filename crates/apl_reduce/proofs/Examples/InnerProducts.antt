@@ -116,12 +116,12 @@ long_lines_that_are_not_there = refl
 lengths_differ : result_of (inner_row Plus Times (vector (1 ∷ 2 ∷ 3 ∷ [])) (vector (1 ∷ 2 ∷ []))) ≡ Err Length
 lengths_differ = refl
 
--- (1 1 1 1 1 2⍴0)+.×1 1 1 1 1 1⍴0
-lengths_before_the_shape : result_of (inner_row Plus Times (zeros (1 ∷ 1 ∷ 1 ∷ 1 ∷ 1 ∷ 2 ∷ [])) (zeros (1 ∷ 1 ∷ 1 ∷ 1 ∷ 1 ∷ 1 ∷ []))) ≡ Err Length
+-- (1 1 1 1 1 1 1 1 2⍴0)+.×1 1 1 1 1 1 1 1 1⍴0
+lengths_before_the_shape : result_of (inner_row Plus Times (zeros (1 ∷ 1 ∷ 1 ∷ 1 ∷ 1 ∷ 1 ∷ 1 ∷ 1 ∷ 2 ∷ [])) (zeros (1 ∷ 1 ∷ 1 ∷ 1 ∷ 1 ∷ 1 ∷ 1 ∷ 1 ∷ 1 ∷ []))) ≡ Err Length
 lengths_before_the_shape = refl
 
--- (1 1 1 1 1 1⍴'A')+.×1 1 1 1 1 1⍴0
-shape_before_elements : result_of (inner_row Plus Times (character_array (1 ∷ 1 ∷ 1 ∷ 1 ∷ 1 ∷ 1 ∷ []) (65 ∷ [])) (zeros (1 ∷ 1 ∷ 1 ∷ 1 ∷ 1 ∷ 1 ∷ []))) ≡ Err Limit
+-- (1 1 1 1 1 1 1 1 1⍴'A')+.×1 1 1 1 1 1 1 1 1⍴0
+shape_before_elements : result_of (inner_row Plus Times (character_array (1 ∷ 1 ∷ 1 ∷ 1 ∷ 1 ∷ 1 ∷ 1 ∷ 1 ∷ 1 ∷ []) (65 ∷ [])) (zeros (1 ∷ 1 ∷ 1 ∷ 1 ∷ 1 ∷ 1 ∷ 1 ∷ 1 ∷ 1 ∷ []))) ≡ Err Limit
 shape_before_elements = refl
 
 -- 9223372036854775807 1 1∧.×2 2 1

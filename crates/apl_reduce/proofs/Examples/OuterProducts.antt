@@ -62,9 +62,9 @@ limit_at_the_least_place = refl
 domain_at_the_least_place : result_of (outer_row Star (scalar 10) (integers (negsuc 0 ∷ pos 30 ∷ []))) ≡ Err Domain
 domain_at_the_least_place = refl
 
--- (1 1 1 1 1⍴0)∘.+1 1 1 1⍴0
-nine_axes : result_of (outer_row Plus (zeros (1 ∷ 1 ∷ 1 ∷ 1 ∷ 1 ∷ [])) (zeros (1 ∷ 1 ∷ 1 ∷ 1 ∷ []))) ≡ Err Limit
-nine_axes = refl
+-- (1 1 1 1 1 1 1 1⍴0)∘.+1 1 1 1 1 1 1 1⍴0
+sixteen_axes : result_of (outer_row Plus (zeros (1 ∷ 1 ∷ 1 ∷ 1 ∷ 1 ∷ 1 ∷ 1 ∷ 1 ∷ [])) (zeros (1 ∷ 1 ∷ 1 ∷ 1 ∷ 1 ∷ 1 ∷ 1 ∷ 1 ∷ []))) ≡ Err Limit
+sixteen_axes = refl
 
 -- (32768⍴0)∘.÷65536⍴0
 shape_before_elements : result_of (outer_row Divide (zeros (32768 ∷ [])) (zeros (65536 ∷ []))) ≡ Err Limit

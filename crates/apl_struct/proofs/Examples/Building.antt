@@ -103,9 +103,9 @@ axis_past_limit_beside_zero = refl
 count_of_elements_past_limit : result_of (reshape_row (vector (32768 ∷ 32769 ∷ [])) (scalar 0)) ≡ Err Limit
 count_of_elements_past_limit = refl
 
--- 1 1 1 1 1 1 1 1 1⍴0
-nine_axes : result_of (reshape_row (vector (1 ∷ 1 ∷ 1 ∷ 1 ∷ 1 ∷ 1 ∷ 1 ∷ 1 ∷ 1 ∷ [])) (scalar 0)) ≡ Err Limit
-nine_axes = refl
+-- 1 1 1 1 1 1 1 1 1 1 1 1 1 1 1 1⍴0
+sixteen_axes : result_of (reshape_row (vector (1 ∷ 1 ∷ 1 ∷ 1 ∷ 1 ∷ 1 ∷ 1 ∷ 1 ∷ 1 ∷ 1 ∷ 1 ∷ 1 ∷ 1 ∷ 1 ∷ 1 ∷ 1 ∷ [])) (scalar 0)) ≡ Err Limit
+sixteen_axes = refl
 
 -- ---- numbers from the origin
 

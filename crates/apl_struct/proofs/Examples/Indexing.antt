@@ -57,13 +57,13 @@ empty_slot_selects_all = refl
 least_index : result_of (select_row (vector (1 ∷ 2 ∷ 3 ∷ [])) (Some (minus 9223372036854775808) ∷ []) One) ≡ Err Index
 least_index = refl
 
--- (2 2⍴⍳4)[1 1 1 1 1⍴1;1 1 1 1⍴1]
-selected_rank_past_limit : result_of (select_row two_by_two (Some (numbers (1 ∷ 1 ∷ 1 ∷ 1 ∷ 1 ∷ []) (1 ∷ [])) ∷ Some (numbers (1 ∷ 1 ∷ 1 ∷ 1 ∷ []) (1 ∷ [])) ∷ []) One)
+-- (2 2⍴⍳4)[1 1 1 1 1 1 1 1⍴1;1 1 1 1 1 1 1 1⍴1]
+selected_rank_past_limit : result_of (select_row two_by_two (Some (numbers (1 ∷ 1 ∷ 1 ∷ 1 ∷ 1 ∷ 1 ∷ 1 ∷ 1 ∷ []) (1 ∷ [])) ∷ Some (numbers (1 ∷ 1 ∷ 1 ∷ 1 ∷ 1 ∷ 1 ∷ 1 ∷ 1 ∷ []) (1 ∷ [])) ∷ []) One)
     ≡ Err Limit
 selected_rank_past_limit = refl
 
--- (2 2⍴⍳4)[1 1 1 1 1⍴9;1 1 1 1⍴1]
-index_before_limit : result_of (select_row two_by_two (Some (numbers (1 ∷ 1 ∷ 1 ∷ 1 ∷ 1 ∷ []) (9 ∷ [])) ∷ Some (numbers (1 ∷ 1 ∷ 1 ∷ 1 ∷ []) (1 ∷ [])) ∷ []) One)
+-- (2 2⍴⍳4)[1 1 1 1 1 1 1 1⍴9;1 1 1 1 1 1 1 1⍴1]
+index_before_limit : result_of (select_row two_by_two (Some (numbers (1 ∷ 1 ∷ 1 ∷ 1 ∷ 1 ∷ 1 ∷ 1 ∷ 1 ∷ []) (9 ∷ [])) ∷ Some (numbers (1 ∷ 1 ∷ 1 ∷ 1 ∷ 1 ∷ 1 ∷ 1 ∷ 1 ∷ []) (1 ∷ [])) ∷ []) One)
     ≡ Err Index
 index_before_limit = refl
 

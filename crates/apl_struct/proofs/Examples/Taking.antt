@@ -27,17 +27,17 @@ take_of_scalar_by_nothing = refl
 one_number_for_two_axes : result_of (take_row (scalar 2) (zeros (3 ∷ 3 ∷ []))) ≡ Err Length
 one_number_for_two_axes = refl
 
--- 'AAAAAAAAA'↑5
-nine_letters_for_scalar : result_of (take_row (text (65 ∷ 65 ∷ 65 ∷ 65 ∷ 65 ∷ 65 ∷ 65 ∷ 65 ∷ 65 ∷ [])) (scalar 5)) ≡ Err Limit
-nine_letters_for_scalar = refl
+-- 'AAAAAAAAAAAAAAAA'↑5
+sixteen_letters_for_scalar : result_of (take_row (text (65 ∷ 65 ∷ 65 ∷ 65 ∷ 65 ∷ 65 ∷ 65 ∷ 65 ∷ 65 ∷ 65 ∷ 65 ∷ 65 ∷ 65 ∷ 65 ∷ 65 ∷ 65 ∷ [])) (scalar 5)) ≡ Err Limit
+sixteen_letters_for_scalar = refl
 
 -- 'AAAAAAAA'↑5
 eight_letters_for_scalar : result_of (take_row (text (65 ∷ 65 ∷ 65 ∷ 65 ∷ 65 ∷ 65 ∷ 65 ∷ 65 ∷ [])) (scalar 5)) ≡ Err Domain
 eight_letters_for_scalar = refl
 
--- 'AAAAAAAAA'↑1 2
-nine_letters_for_vector : result_of (take_row (text (65 ∷ 65 ∷ 65 ∷ 65 ∷ 65 ∷ 65 ∷ 65 ∷ 65 ∷ 65 ∷ [])) (vector (1 ∷ 2 ∷ []))) ≡ Err Length
-nine_letters_for_vector = refl
+-- 'AAAAAAAAAAAAAAAA'↑1 2
+sixteen_letters_for_vector : result_of (take_row (text (65 ∷ 65 ∷ 65 ∷ 65 ∷ 65 ∷ 65 ∷ 65 ∷ 65 ∷ 65 ∷ 65 ∷ 65 ∷ 65 ∷ 65 ∷ 65 ∷ 65 ∷ 65 ∷ [])) (vector (1 ∷ 2 ∷ []))) ≡ Err Length
+sixteen_letters_for_vector = refl
 
 -- (1 1⍴1)↑5
 table_is_no_list : result_of (take_row (numbers (1 ∷ 1 ∷ []) (1 ∷ [])) (scalar 5)) ≡ Err Rank

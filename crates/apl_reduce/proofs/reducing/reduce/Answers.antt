@@ -32,18 +32,17 @@ returns-in-0 g c =
     let rank_2 : c.rank-2.result ≡ rank_of b = c.rank-2.ensures.rank ∙ ap length c.shape-2.ensures.shape in
     let axis : k < rank_of b = axis_within k (rank_of b) (subst (λ n. (k < n) ⊎ (n ≡ 0)) rank c.in-Some.ensures.2) (λ none. c.if-rank-eq0.false (rank_2 ∙ none)) in
     let lengths : c.as_slice.result.now ≡ remove b.shape k = search rules in
-    let shape : c.in-Ok.shape ≡ remove b.shape k = c.in-Ok.ensures.value ∙ lengths in
+    let shape : c.in_ok-shape.shape ≡ remove b.shape k = c.in_ok-shape.ensures.value ∙ lengths in
     let has : has_axis c.args.axis (rank_of b) ≡ true = ap (has_axis c.args.axis) (sym rank) ∙ c.in-Some.ensures.0 in
     let is : k ≡ axis_of c.args.axis (rank_of b) = c.in-Some.ensures.1 ∙ ap (axis_of c.args.axis) rank in
-    let tested : true ≡ is_shape c.as_slice.result.now = c.in-Ok.ensures.test in
-    let lawful : is_shape (remove b.shape k) ≡ true = ap is_shape (sym lengths) ∙ sym tested in
+    let lawful : is_shape (remove b.shape k) ≡ true = ap is_shape (sym lengths) ∙ c.in_ok-shape.ensures.test in
     let n : c.axis.result ≡ slice_index b.shape k = c.axis.ensures.length ∙ ap (λ s. slice_index s k) c.shape-4.ensures.shape in
     let none : slice_index b.shape k ≡ 0 = sym n ∙ search rules in
     let outcome = λ (index : List ℕ). reduction c.args.f (items_along b k index) in
     let kind = kind_of_others b k (λ one. omega (arith, one, none)) axis in
     row_answer c.args.f b c.args.axis k c.everywhere.result has is lawful
     (rw kind (subst (λ s. IsAnswerOf (answer_of s outcome Number) c.everywhere.result) shape
-    (c.everywhere.ensures outcome (λ place inside. c.identity_or_fault.ensures ∙ sym (no_items c.args.f b k (index_at c.in-Ok.shape place) axis none)))))
+    (c.everywhere.ensures outcome (λ place inside. c.identity_or_fault.ensures ∙ sym (no_items c.args.f b k (index_at c.in_ok-shape.shape place) axis none)))))
 
 pub array_of_elements-requires-in-1-after_bounds : goal.array_of_elements-requires-in-1-after_bounds
 array_of_elements-requires-in-1-after_bounds g c κs within =
@@ -53,10 +52,10 @@ array_of_elements-requires-in-1-after_bounds g c κs within =
     let rank_2 : c.rank-2.result ≡ rank_of b = c.rank-2.ensures.rank ∙ ap length c.shape-2.ensures.shape in
     let axis : k < rank_of b = axis_within k (rank_of b) (subst (λ n. (k < n) ⊎ (n ≡ 0)) rank c.in-Some.ensures.2) (λ none. c.if-rank-eq0.false (rank_2 ∙ none)) in
     let lengths : c.as_slice.result.now ≡ remove b.shape k = search rules in
-    let shape : c.in-Ok.shape ≡ remove b.shape k = c.in-Ok.ensures.value ∙ lengths in
+    let shape : c.in_ok-shape.shape ≡ remove b.shape k = c.in_ok-shape.ensures.value ∙ lengths in
     let n : c.axis.result ≡ slice_index b.shape k = c.axis.ensures.length ∙ ap (λ s. slice_index s k) c.shape-4.ensures.shape in
     let one : slice_index b.shape k ≡ 1 = sym n ∙ c.in-1.is in
-    let same : count_of c.in-Ok.shape ≡ count_of b.shape =
+    let same : count_of c.in_ok-shape.shape ≡ count_of b.shape =
     ap count_of shape ∙ count_without_one c.inserted_index_has_place.ensures.count c.replaced_index_has_place.ensures.count b.shape k axis one in
     omega (arith, same)
 
@@ -68,11 +67,10 @@ returns-in-1 g c =
     let rank_2 : c.rank-2.result ≡ rank_of b = c.rank-2.ensures.rank ∙ ap length c.shape-2.ensures.shape in
     let axis : k < rank_of b = axis_within k (rank_of b) (subst (λ n. (k < n) ⊎ (n ≡ 0)) rank c.in-Some.ensures.2) (λ none. c.if-rank-eq0.false (rank_2 ∙ none)) in
     let lengths : c.as_slice.result.now ≡ remove b.shape k = search rules in
-    let shape : c.in-Ok.shape ≡ remove b.shape k = c.in-Ok.ensures.value ∙ lengths in
+    let shape : c.in_ok-shape.shape ≡ remove b.shape k = c.in_ok-shape.ensures.value ∙ lengths in
     let has : has_axis c.args.axis (rank_of b) ≡ true = ap (has_axis c.args.axis) (sym rank) ∙ c.in-Some.ensures.0 in
     let is : k ≡ axis_of c.args.axis (rank_of b) = c.in-Some.ensures.1 ∙ ap (axis_of c.args.axis) rank in
-    let tested : true ≡ is_shape c.as_slice.result.now = c.in-Ok.ensures.test in
-    let lawful : is_shape (remove b.shape k) ≡ true = ap is_shape (sym lengths) ∙ sym tested in
+    let lawful : is_shape (remove b.shape k) ≡ true = ap is_shape (sym lengths) ∙ c.in_ok-shape.ensures.test in
     let n : c.axis.result ≡ slice_index b.shape k = c.axis.ensures.length ∙ ap (λ s. slice_index s k) c.shape-4.ensures.shape in
     let one : slice_index b.shape k ≡ 1 = sym n ∙ c.in-1.is in
     let outcome = λ (index : List ℕ). reduction c.args.f (items_along b k index) in
@@ -89,11 +87,10 @@ returns g c =
     let rank_2 : c.rank-2.result ≡ rank_of b = c.rank-2.ensures.rank ∙ ap length c.shape-2.ensures.shape in
     let axis : k < rank_of b = axis_within k (rank_of b) (subst (λ n. (k < n) ⊎ (n ≡ 0)) rank c.in-Some.ensures.2) (λ none. c.if-rank-eq0.false (rank_2 ∙ none)) in
     let lengths : c.as_slice.result.now ≡ remove b.shape k = search rules in
-    let shape : c.in-Ok.shape ≡ remove b.shape k = c.in-Ok.ensures.value ∙ lengths in
+    let shape : c.in_ok-shape.shape ≡ remove b.shape k = c.in_ok-shape.ensures.value ∙ lengths in
     let has : has_axis c.args.axis (rank_of b) ≡ true = ap (has_axis c.args.axis) (sym rank) ∙ c.in-Some.ensures.0 in
     let is : k ≡ axis_of c.args.axis (rank_of b) = c.in-Some.ensures.1 ∙ ap (axis_of c.args.axis) rank in
-    let tested : true ≡ is_shape c.as_slice.result.now = c.in-Ok.ensures.test in
-    let lawful : is_shape (remove b.shape k) ≡ true = ap is_shape (sym lengths) ∙ sym tested in
+    let lawful : is_shape (remove b.shape k) ≡ true = ap is_shape (sym lengths) ∙ c.in_ok-shape.ensures.test in
     let n : c.axis.result ≡ slice_index b.shape k = c.axis.ensures.length ∙ ap (λ s. slice_index s k) c.shape-4.ensures.shape in
     let more : slice_index b.shape k ≡ 1 → ⊥ = search rules in
     let outcome = λ (index : List ℕ). reduction c.args.f (items_along b k index) in

@@ -32,9 +32,8 @@ returns g c =
     let fit : (sum counts == slice_index vector.shape k) ≡ true = eq-eqb (sum counts) (slice_index vector.shape k) (sym ones_is ∙ long ∙ length_is) in
     let lengths : c.as_slice.result.now ≡ slice_set vector.shape k (count_of a.shape) =
     c.as_slice.ensures.value ∙ c.in_ok-lengths.ensures (sum counts) ∙ ap (λ j. slice_set vector.shape j (length bits)) k_is ∙ ap (slice_set vector.shape k) bits_are in
-    let tested : true ≡ is_shape c.as_slice.result.now = c.in-Ok.ensures.test in
-    let lawful : is_shape (slice_set vector.shape k (count_of a.shape)) ≡ true = ap is_shape (sym lengths) ∙ sym tested in
-    let shape_is : c.in-Ok.shape ≡ slice_set vector.shape k (count_of a.shape) = c.in-Ok.ensures.value ∙ lengths in
+    let lawful : is_shape (slice_set vector.shape k (count_of a.shape)) ≡ true = ap is_shape (sym lengths) ∙ c.in_ok-shape.ensures.test in
+    let shape_is : c.in_ok-shape.shape ≡ slice_set vector.shape k (count_of a.shape) = c.in_ok-shape.ensures.value ∙ lengths in
     let P : List ℕ → ℕ → Type 0 = λ s j. IsAnswerOf (answer_of s (λ index. Ok (element_or_fill vector (along_axis_or_none j (expanded_index counts) index))) b.kind) c.expand_each.result in
     let by_shape = subst (λ s. P s c.in-Some.k) shape_is c.expand_each.ensures in
     rw (judged, numbers, has, list, fit, lawful) (subst (P (slice_set vector.shape k (count_of a.shape))) k_is by_shape)

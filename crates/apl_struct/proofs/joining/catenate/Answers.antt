@@ -30,9 +30,9 @@ returns g c =
     let lengths : Lengths rank k = subst (λ j. Lengths rank j) k_is (subst (λ r. Lengths r c.in-Some.k) rank_is c.in_ok-lengths.ensures.1) in
     let left : c.in_ok-lengths.field-0.left ≡ n =
     c.in_ok-lengths.ensures.2 ∙ ap (λ r. slice_index (slices_shape r c.in-Some.k a b) c.in-Some.k) rank_is ∙ ap (λ j. slice_index (slices_shape rank j a b) j) k_is in
-    let lawful : is_shape (slice_set own k (n + m)) ≡ true = ap is_shape (sym lengths ∙ sym c.as_slice.ensures) ∙ sym c.in-Ok.ensures.test in
-    let shapes : c.in-Ok.shape ≡ slice_set own k (n + m) = c.in-Ok.ensures.value ∙ c.as_slice.ensures ∙ lengths in
+    let lawful : is_shape (slice_set own k (n + m)) ≡ true = ap is_shape (sym lengths ∙ sym c.as_slice.ensures) ∙ c.in_ok-shape.ensures.test in
+    let shapes : c.in_ok-shape.shape ≡ slice_set own k (n + m) = c.in_ok-shape.ensures.value ∙ c.as_slice.ensures ∙ lengths in
     let P : List ℕ → ℕ → ℕ → Type 0 = λ s j l. IsAnswerOf (answer_of s (λ index. Ok (catenated_element rank j l a b index)) (joined_kind a b)) c.join_along.result in
-    let main : P c.in-Ok.shape c.in-Some.k c.in_ok-lengths.field-0.left = c.join_along.ensures in
+    let main : P c.in_ok-shape.shape c.in-Some.k c.in_ok-lengths.field-0.left = c.join_along.ensures in
     answered row.checks (answer_of row.shape row.outcome row.kind) c.join_along.result (has, (ranks, (others, (kinds, (lawful, tt)))))
-    (subst (λ s. P s k n) shapes (subst (λ j. P c.in-Ok.shape j n) k_is (subst (λ l. P c.in-Ok.shape c.in-Some.k l) left main)))
+    (subst (λ s. P s k n) shapes (subst (λ j. P c.in_ok-shape.shape j n) k_is (subst (λ l. P c.in_ok-shape.shape c.in-Some.k l) left main)))
