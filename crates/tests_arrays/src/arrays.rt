@@ -1,26 +1,39 @@
 //! Shapes, places of a small array, and arrays that keep their kind.
+use crate::notation::lengths_of;
 use apl_array::{
-    Array, Elem, Kind, MOST_ELEMENTS, Shape, ShapeError, changed_axis_has_place,
-    elements_determine_array, inserted_index_has_place, joined_index_has_place,
-    place_is_sum_of_strides, places_match_index_lists, range_is_decided, replaced_index_has_place,
-    reversed_index_is_lawful, shape_is_decided, split_index_has_place, transposed_index_has_place,
+    Array, Elem, Kind, Shape, ShapeError, changed_axis_has_place, elements_determine_array,
+    inserted_index_has_place, joined_index_has_place, place_is_sum_of_strides,
+    places_match_index_lists, range_is_decided, replaced_index_has_place, reversed_index_is_lawful,
+    shape_is_decided, split_index_has_place, transposed_index_has_place,
 };
 use std::test::Fail;
 
+/// Lengths, and how many elements there are, or why there is no such shape.
+const SHAPES: [(&str, Result<usize, ShapeError>); 8] = [
+    ("1 1 1 1 1 1 1 1 1", Ok(1)),
+    ("1 1 1 1 1 1 1 1 1 1 1 1 1 1 1", Ok(1)),
+    ("1 1 1 1 1 1 1 1 1 1 1 1 1 1 1 1", Err(ShapeError::Rank)),
+    (
+        "1073741825 1073741825 1073741825 1073741825 1073741825 1073741825 1073741825 1073741825 \
+         1073741825 1073741825 1073741825 1073741825 1073741825 1073741825 1073741825 1073741825",
+        Err(ShapeError::Rank),
+    ),
+    ("1073741824 2", Err(ShapeError::Count)),
+    ("0 1073741825", Err(ShapeError::Count)),
+    ("1073741824 1073741824 0", Ok(0)),
+    ("", Ok(1)),
+];
+
 #[test]
-fn shapes(rt: HostRuntime) {
-    let rows: [(&[usize], Result<usize, ShapeError>); 6] = [
-        (&[1; 9], Err(ShapeError::Rank)),
-        (&[MOST_ELEMENTS + 1; 9], Err(ShapeError::Rank)),
-        (&[MOST_ELEMENTS, 2], Err(ShapeError::Count)),
-        (&[0, MOST_ELEMENTS + 1], Err(ShapeError::Count)),
-        (&[MOST_ELEMENTS, MOST_ELEMENTS, 0], Ok(0)),
-        (&[], Ok(1)),
-    ];
-    for (lengths, wanted) in rows {
-        let count = Shape::new(rt.alloc(), lengths).map(|shape| shape.count());
-        assert!(rt; count == wanted, "{lengths:?}");
+fn shapes(rt: HostRuntime) -> Result<(), Fail> {
+    for (text, wanted) in SHAPES {
+        let Some(lengths) = lengths_of(rt.alloc(), text) else {
+            return Err(Fail::new(format_args!("not lengths: {text}")));
+        };
+        let count = Shape::new(rt.alloc(), lengths.as_slice()).map(|shape| shape.count());
+        assert!(rt; count == wanted, "{text}");
     }
+    Ok(())
 }
 
 /// Each place of a shape is found again from the indexes along its axes.
@@ -38,6 +51,19 @@ fn places(rt: HostRuntime) -> Result<(), Fail> {
                 && shape.coordinate(place, 2) == place % 4
         );
     }
+    Ok(())
+}
+
+/// A shape of more axes than lie in itself is copied, and has its places.
+#[test]
+fn many_axes(rt: HostRuntime) -> Result<(), Fail> {
+    let shape = Shape::new(rt.alloc(), &[1, 1, 1, 1, 1, 1, 1, 1, 1, 1, 1, 1, 2, 1, 3])?;
+    let copy = shape.copy(rt.alloc())?;
+    assert!(rt; copy.rank() == 15 && copy.count() == 6);
+    assert!(rt; copy.lengths() == shape.lengths());
+    let nine = Shape::new(rt.alloc(), &[2, 1, 1, 1, 1, 1, 1, 1, 3])?;
+    assert!(rt; nine.place(&[1, 0, 0, 0, 0, 0, 0, 0, 2]) == 5);
+    assert!(rt; nine.coordinate(4, 0) == 1 && nine.coordinate(4, 8) == 1);
     Ok(())
 }
 

@@ -14,13 +14,14 @@ fn yard_one(rt: HostRuntime) -> Result<(), Fail> {
     let Some(mut thief) = thieves.pop() else {
         return Err(Fail::new("one thief is asked for"));
     };
-    let nothing = (hand.pop(), thief.steal());
+    let (no_pop, no_steal) = (hand.pop(), thief.steal());
     let _ = hand.push(7);
     let _ = hand.push(8);
-    let taken = (thief.steal(), hand.pop(), hand.pop(), thief.steal());
+    let (first_steal, first_pop) = (thief.steal(), hand.pop());
+    let (last_pop, last_steal) = (hand.pop(), thief.steal());
+    assert!(rt; [no_pop, first_pop, last_pop] == [None, Some(8), None]);
     assert!(rt;
-        nothing == (None, Taken::Nothing)
-            && taken == (Taken::Piece(7), Some(8), None, Taken::Nothing)
+        [no_steal, first_steal, last_steal] == [Taken::Nothing, Taken::Piece(7), Taken::Nothing]
     );
     Ok(())
 }

@@ -2,11 +2,9 @@
 ghost use Rattle.std.specs.Prelude.{◌≤◌};
 ghost use Rattle.apl_pool.specs.declared.kernel.TheConstants.{MOST_PLACES};
 
-use crate::scalars::Answer::{self, Is, Stops};
-use crate::scalars::is_answer;
-use apl_answer::{
-    OpFault, answer_is_each_outcome, answer_is_in_range, answer_is_within_limits, fill_array,
-};
+use crate::notation::wanted_of;
+use crate::tables::is_answer;
+use apl_answer::{answer_is_each_outcome, answer_is_in_range, answer_is_within_limits, fill_array};
 use apl_array::Shape;
 use apl_pool::{Every, Fault, Kernel, MOST_PLACES, Open, Pool};
 use std::test::Fail;
@@ -66,16 +64,19 @@ impl Kernel for Letters {
 
 #[test]
 fn numbers(rt: HostRuntime) -> Result<(), Fail> {
-    let rows: [(&[usize], usize, Answer); 5] = [
-        (&[2, 3], 6, Is(&[2, 3], &[0, 1, 2, 3, 4, 5])),
-        (&[], 1, Is(&[], &[0])),
-        (&[3, 0], 0, Is(&[3, 0], &[])),
-        (&[2, 3], 5, Stops(OpFault::Limit)),
-        (&[6], 0, Stops(OpFault::Limit)),
+    let rows: [(&[usize], usize, &str); 5] = [
+        (&[2, 3], 6, "(2 3: 0 1 2 3 4 5)"),
+        (&[], 1, "(: 0)"),
+        (&[3, 0], 0, "(3 0:)"),
+        (&[2, 3], 5, "LIMIT ERROR"),
+        (&[6], 0, "LIMIT ERROR"),
     ];
     for workers in [1, 3, 64u8] {
         let pool = Pool::new(workers, Every(2), Open);
-        for (lengths, limit, wanted) in rows {
+        for (lengths, limit, text) in rows {
+            let Some(wanted) = wanted_of(rt.alloc(), text) else {
+                return Err(Fail::new(format_args!("not an answer: {text}")));
+            };
             let shape = Shape::new(rt.alloc(), lengths)?;
             let count = shape.count();
             let answer = fill_array(&rt, rt.alloc(), &pool, shape, &Places { count, limit });

@@ -7,11 +7,15 @@ mod arrays;
 #[cfg(test)]
 mod board;
 #[cfg(test)]
+mod calls;
+#[cfg(test)]
 mod deques;
 #[cfg(test)]
 mod elements;
 #[cfg(test)]
 mod filled;
+#[cfg(test)]
+mod notation;
 #[cfg(test)]
 mod printed;
 #[cfg(test)]
@@ -24,3 +28,5 @@ mod scalars;
 mod structures;
 #[cfg(test)]
 mod summaries;
+#[cfg(test)]
+mod tables;

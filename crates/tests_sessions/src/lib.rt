@@ -1,4 +1,4 @@
-//! Tests of sessions, and of what carries them: pools, workspaces, sources, sinks, reports and options.
+//! Tests of sessions, and of what carries them: pools, workspaces, sources, sinks and reports.
 #![tactic(auto)]
 
 #[cfg(test)]
@@ -7,8 +7,6 @@ mod devices;
 mod failures;
 #[cfg(test)]
 mod gates;
-#[cfg(test)]
-mod options;
 #[cfg(test)]
 mod pools;
 #[cfg(test)]

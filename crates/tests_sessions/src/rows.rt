@@ -14,8 +14,8 @@ use std::process::Abort;
 use std::test::Fail;
 use std::thread::Threads;
 use structures::{
-    AXES, BUILT, CHOSEN, EXTENDED, FOUND, INDEXED, JOINED, LIMITS, MOVED, PRINTED, REPLICATED,
-    TAKEN, WORKED,
+    AXES, BUILT, CHOSEN, EXTENDED, FOUND, INDEXED, JOINED, LIMITS, MANY_AXES, MOVED, PRINTED,
+    REPLICATED, TAKEN, WORKED,
 };
 use tables::{CARETS, COMMANDS, LINES, NUMERALS, OPERANDS, SCALARS, TEXTS, UNLISTED, VALUES};
 
@@ -84,19 +84,33 @@ fn statements(rt: HostRuntime) {
 
 #[test]
 fn structural_functions(rt: HostRuntime) {
-    for sessions in [
-        WORKED, EXTENDED, AXES, BUILT, JOINED, TAKEN, MOVED, CHOSEN, REPLICATED, FOUND, INDEXED,
-        PRINTED, LIMITS,
-    ] {
+    for sessions in [WORKED, EXTENDED, AXES, BUILT, JOINED, TAKEN, MOVED, CHOSEN] {
         check(&rt, rt.alloc(), sessions);
     }
 }
 
 #[test]
-fn reductions_products_and_scans(rt: HostRuntime) {
-    for sessions in [FOLDED, PRODUCTS, DIGITS, SCANS] {
+fn replication(rt: HostRuntime) {
+    check(&rt, rt.alloc(), REPLICATED);
+}
+
+#[test]
+fn searches_indexes_and_limits(rt: HostRuntime) {
+    for sessions in [FOUND, INDEXED, PRINTED, LIMITS, MANY_AXES] {
         check(&rt, rt.alloc(), sessions);
     }
+}
+
+#[test]
+fn reductions_and_products(rt: HostRuntime) {
+    for sessions in [FOLDED, PRODUCTS, DIGITS] {
+        check(&rt, rt.alloc(), sessions);
+    }
+}
+
+#[test]
+fn scans_of_each_kind(rt: HostRuntime) {
+    check(&rt, rt.alloc(), SCANS);
 }
 
 #[test]

@@ -1,311 +1,118 @@
 //! Calls with large arguments, and what they answer. The elements are known from their places.
-use super::{
-    AXIS_ONE, Answer, Call, Dyadic, Is, Monadic, Numbers, One, Replace, Rows, Runs, Select, Text,
-    Two,
-};
-use apl_array::{Axis, Origin};
-use apl_scalar::Prim;
+/// Arguments or results of as many elements as 2 to the 17th, and of twice as many.
+pub(super) const SOME: &str = "\
+    ⍴ (131072 2: 7) → (2: 131072 2)
+    , (2 131072: 131072×⍳2 ∘.+ ⍳131072) → (262144: ⍳262144)
+    (: 131072) ⍴ (3: 5 6 7) → (131072: 5 6 7)
+    (2: 2 131072) ⍴ (131072: ⍳131072) → (2 131072: 2⍴0 ∘.+ ⍳131072)
+    (2: 131072 2) ⍴ (2: 'AB') → (131072 2: 'AB')
+    ⍳ (: 131072) → (131072: 1+⍳131072)
+    )ORIGIN 0 ⍳ (: 131072) → (131072: ⍳131072)
+    ⍝ joined
+    (131072: ⍳131072) , (131072: 131072+¯1×⍳131072) → (262144: ⍳131072, 131072+¯1×⍳131072)
+    (131072 1: ⍳131072) , (131072: 5+⍳131072) → (131072 2: ⍳131072 ∘.+ 5×⍳2)
+    ⍝ taken
+    (: 131075) ↑ (131072: 1+⍳131072) → (131075: 1+⍳131072, 3⍴0)
+    (: ¯131075) ↑ (131072: 1+⍳131072) → (131075: 3⍴0, 1+⍳131072)
+    (2: 131072 1) ↑ (131072 2: 2×⍳131072 ∘.+ ⍳2) → (131072 1: 2×⍳131072)
+    (: 3) ↓ (131072: ⍳131072) → (131069: 3+⍳131069)
+    (2: 0 1) ↓ (131072 2: 2×⍳131072 ∘.+ ⍳2) → (131072 1: 1+2×⍳131072)
+    ⍝ moved
+    ⌽ (131072: ⍳131072) → (131072: 131071+¯1×⍳131072)
+    ⊖ (131072 2: 2×⍳131072 ∘.+ ⍳2) → (131072 2: 262142+¯2×⍳131072 ∘.+ ⍳2)
+    ⌽ (131072 2: 'AB') → (131072 2: 'BA')
+    (: ¯1) ⌽ (131072: ⍳131072) → (131072: 131071, ⍳131071)
+    (131072: 1) ⌽ (131072 2: 2×⍳131072 ∘.+ ⍳2) → (131072 2: 1+2×⍳131072 ∘.+ ¯1×⍳2)
+    ⍉ (131072 2: 2×⍳131072 ∘.+ ⍳2) → (2 131072: ⍳2 ∘.+ 2×⍳131072)
+    (3: 2 1 3) ⍉ (2 131072 1: 131072×⍳2 ∘.+ ⍳131072) → (131072 2 1: ⍳131072 ∘.+ 131072×⍳2)
+    ⍝ chosen
+    (262144: 0 1) / (262144: ⍳262144) → (131072: 1+2×⍳131072)
+    (131072: 0, 131071⍴1) /[1] (131072 2: 2×⍳131072 ∘.+ ⍳2) → (131071 2: 2+2×⍳131071 ∘.+ ⍳2)
+    (262144: 1 0) \\ (131072: 5) → (262144: 5 0)
+    (262144: 131072⍴0, 131072⍴1) \\[1] (131072: 1+⍳131072) → (262144: 131072⍴0, 1+⍳131072)
+    ⍝ found
+    )ORIGIN 0 (131072: 131071+¯1×⍳131072) ⍳ (131073: ⍳131073) → (131073: 131071+¯1×⍳131072, 131072)
+    (131072: 'AB') ⍳ (131072: 'CBA') → (131072: 131073 2 1)
+    (131072 2: ¯131072+⍳262144) ∊ (131072: ⍳131072) → (131072 2: 131072⍴0, 131072⍴1)
+    ⍋ (131072: ¯1×⍳131072) → (131072: 131072+¯1×⍳131072)
+    )ORIGIN 0 ⍒ (131072: ⍳131072) → (131072: 131071+¯1×⍳131072)
+    )ORIGIN 0 ⍒ (131072: 7) → (131072: ⍳131072)
+    ⍝ indexed
+    )ORIGIN 0 (131072: 5+3×⍳131072)[(131072: 131071+¯1×⍳131072)] → (131072: 393218+¯3×⍳131072)
+    (131072 2: 2×⍳131072 ∘.+ ⍳2)[;(: 2)] → (131072: 1+2×⍳131072)
+    (131072: 0)[(131072: 131072+¯1×⍳131072)] ← (131072: 1+⍳131072) → (131072: 131072+¯1×⍳131072)
+    ⍝ one place again and again
+    (3: 0)[(131072: 2)] ← (131072: 1+⍳131072) → (3: 0 131072 0)
+    (131072 2: 2×⍳131072 ∘.+ ⍳2)[;(: 2)] ← (131072: 2×⍳131072) → (131072 2: 2×⍳131072 ∘.+ 2⍴0)
+    ⍝ folded
+    +/ (131072: 1) → (: 131072)
+    -/ (131072: 1) → (: 0)
+    +⌿ (2 131072: 131072×⍳2 ∘.+ ⍳131072) → (131072: 131072+2×⍳131072)
+    +/[1] (2 131072: 131072×⍳2 ∘.+ ⍳131072) → (131072: 131072+2×⍳131072)
+    +/ (131072 2: 2×⍳131072 ∘.+ ⍳2) → (131072: 1+4×⍳131072)
+    (131072: ⍳131072) ∘.+ (2: 0 5) → (131072 2: ⍳131072 ∘.+ 5×⍳2)
+    (131072 2: 2×⍳131072 ∘.+ ⍳2) +.× (2: 1 2) → (131072: 2+6×⍳131072)
+    (131072: 1) +.× (131072: 3) → (: 393216)
+    (: 1) ⊥ (131072: 1) → (: 131072)
+    (2: 2 3) ⊤ (131072: 5) → (2 131072: 131072⍴1, 131072⍴2)
+    (131072: 2) ⊤ (: 1) → (131072: 131071⍴0, 1)
+    ";
 
-/// Calls with arguments or results of this many elements, and of twice as many.
-macro_rules! rows_of {
-    ($count:literal) => {
-        &[
-            (
-                One(Monadic::ShapeOf, Numbers(&[$count, 2], &[7])),
-                Is(Numbers(&[2], &[$count, 2])),
-            ),
-            (
-                One(Monadic::Ravel, Rows(&[2, $count], 0, (2, $count), ($count, 1))),
-                Is(Runs(&[2 * $count], &[(0, 2 * $count, 1)])),
-            ),
-            (
-                Two(Numbers(&[], &[$count]), Dyadic::Reshape, Numbers(&[3], &[5, 6, 7])),
-                Is(Numbers(&[$count], &[5, 6, 7])),
-            ),
-            (
-                Two(Numbers(&[2], &[2, $count]), Dyadic::Reshape, Runs(&[$count], &[(0, $count, 1)])),
-                Is(Rows(&[2, $count], 0, (2, 0), ($count, 1))),
-            ),
-            (
-                Two(Numbers(&[2], &[$count, 2]), Dyadic::Reshape, Text(&[2], "AB")),
-                Is(Text(&[$count, 2], "AB")),
-            ),
-            (
-                One(Monadic::Iota(Origin::One), Numbers(&[], &[$count])),
-                Is(Runs(&[$count], &[(1, $count, 1)])),
-            ),
-            (
-                One(Monadic::Iota(Origin::Zero), Numbers(&[], &[$count])),
-                Is(Runs(&[$count], &[(0, $count, 1)])),
-            ),
-            // joined
-            (
-                Two(
-                    Runs(&[$count], &[(0, $count, 1)]),
-                    Dyadic::Catenate(Axis::Last),
-                    Runs(&[$count], &[($count, $count, -1)]),
-                ),
-                Is(Runs(&[2 * $count], &[(0, $count, 1), ($count, $count, -1)])),
-            ),
-            (
-                Two(
-                    Runs(&[$count, 1], &[(0, $count, 1)]),
-                    Dyadic::Catenate(Axis::Last),
-                    Runs(&[$count], &[(5, $count, 1)]),
-                ),
-                Is(Rows(&[$count, 2], 0, ($count, 1), (2, 5))),
-            ),
-            // taken
-            (
-                Two(
-                    Numbers(&[], &[$count + 3]),
-                    Dyadic::Take,
-                    Runs(&[$count], &[(1, $count, 1)]),
-                ),
-                Is(Runs(&[$count + 3], &[(1, $count, 1), (0, 3, 0)])),
-            ),
-            (
-                Two(
-                    Numbers(&[], &[-3 - $count]),
-                    Dyadic::Take,
-                    Runs(&[$count], &[(1, $count, 1)]),
-                ),
-                Is(Runs(&[$count + 3], &[(0, 3, 0), (1, $count, 1)])),
-            ),
-            (
-                Two(
-                    Numbers(&[2], &[$count, 1]),
-                    Dyadic::Take,
-                    Rows(&[$count, 2], 0, ($count, 2), (2, 1)),
-                ),
-                Is(Runs(&[$count, 1], &[(0, $count, 2)])),
-            ),
-            (
-                Two(
-                    Numbers(&[], &[3]),
-                    Dyadic::Drop,
-                    Runs(&[$count], &[(0, $count, 1)]),
-                ),
-                Is(Runs(&[$count - 3], &[(3, $count - 3, 1)])),
-            ),
-            (
-                Two(
-                    Numbers(&[2], &[0, 1]),
-                    Dyadic::Drop,
-                    Rows(&[$count, 2], 0, ($count, 2), (2, 1)),
-                ),
-                Is(Runs(&[$count, 1], &[(1, $count, 2)])),
-            ),
-            // moved
-            (
-                One(Monadic::Reverse(Axis::Last), Runs(&[$count], &[(0, $count, 1)])),
-                Is(Runs(&[$count], &[($count - 1, $count, -1)])),
-            ),
-            (
-                One(
-                    Monadic::Reverse(Axis::First),
-                    Rows(&[$count, 2], 0, ($count, 2), (2, 1)),
-                ),
-                Is(Rows(&[$count, 2], 2 * $count - 2, ($count, -2), (2, 1))),
-            ),
-            (
-                One(Monadic::Reverse(Axis::Last), Text(&[$count, 2], "AB")),
-                Is(Text(&[$count, 2], "BA")),
-            ),
-            (
-                Two(
-                    Numbers(&[], &[-1]),
-                    Dyadic::Rotate(Axis::Last),
-                    Runs(&[$count], &[(0, $count, 1)]),
-                ),
-                Is(Runs(&[$count], &[($count - 1, 1, 0), (0, $count - 1, 1)])),
-            ),
-            (
-                Two(
-                    Numbers(&[$count], &[1]),
-                    Dyadic::Rotate(Axis::Last),
-                    Rows(&[$count, 2], 0, ($count, 2), (2, 1)),
-                ),
-                Is(Rows(&[$count, 2], 1, ($count, 2), (2, -1))),
-            ),
-            (
-                One(Monadic::Transpose, Rows(&[$count, 2], 0, ($count, 2), (2, 1))),
-                Is(Rows(&[2, $count], 0, (2, 1), ($count, 2))),
-            ),
-            (
-                Two(
-                    Numbers(&[3], &[2, 1, 3]),
-                    Dyadic::TransposeBy(Origin::One),
-                    Rows(&[2, $count, 1], 0, (2, $count), ($count, 1)),
-                ),
-                Is(Rows(&[$count, 2, 1], 0, ($count, 1), (2, $count))),
-            ),
-            // chosen
-            (
-                Two(
-                    Numbers(&[2 * $count], &[0, 1]),
-                    Dyadic::Compress(Axis::Last),
-                    Runs(&[2 * $count], &[(0, 2 * $count, 1)]),
-                ),
-                Is(Runs(&[$count], &[(1, $count, 2)])),
-            ),
-            (
-                Two(
-                    Runs(&[$count], &[(0, 1, 0), (1, $count - 1, 0)]),
-                    Dyadic::Compress(AXIS_ONE),
-                    Rows(&[$count, 2], 0, ($count, 2), (2, 1)),
-                ),
-                Is(Rows(&[$count - 1, 2], 2, ($count - 1, 2), (2, 1))),
-            ),
-            (
-                Two(
-                    Numbers(&[2 * $count], &[1, 0]),
-                    Dyadic::Expand(Axis::Last),
-                    Numbers(&[$count], &[5]),
-                ),
-                Is(Numbers(&[2 * $count], &[5, 0])),
-            ),
-            (
-                Two(
-                    Runs(&[2 * $count], &[(0, $count, 0), (1, $count, 0)]),
-                    Dyadic::Expand(AXIS_ONE),
-                    Runs(&[$count], &[(1, $count, 1)]),
-                ),
-                Is(Runs(&[2 * $count], &[(0, $count, 0), (1, $count, 1)])),
-            ),
-            // found
-            (
-                Two(
-                    Runs(&[$count], &[($count - 1, $count, -1)]),
-                    Dyadic::IndexOf(Origin::Zero),
-                    Runs(&[$count + 1], &[(0, $count + 1, 1)]),
-                ),
-                Is(Runs(&[$count + 1], &[($count - 1, $count, -1), ($count, 1, 0)])),
-            ),
-            (
-                Two(Text(&[$count], "AB"), Dyadic::IndexOf(Origin::One), Text(&[$count], "CBA")),
-                Is(Numbers(&[$count], &[$count + 1, 2, 1])),
-            ),
-            (
-                Two(
-                    Runs(&[$count, 2], &[(-$count, 2 * $count, 1)]),
-                    Dyadic::Member,
-                    Runs(&[$count], &[(0, $count, 1)]),
-                ),
-                Is(Runs(&[$count, 2], &[(0, $count, 0), (1, $count, 0)])),
-            ),
-            (
-                One(Monadic::GradeUp(Origin::One), Runs(&[$count], &[(0, $count, -1)])),
-                Is(Runs(&[$count], &[($count, $count, -1)])),
-            ),
-            (
-                One(Monadic::GradeDown(Origin::Zero), Runs(&[$count], &[(0, $count, 1)])),
-                Is(Runs(&[$count], &[($count - 1, $count, -1)])),
-            ),
-            (
-                One(Monadic::GradeDown(Origin::Zero), Numbers(&[$count], &[7])),
-                Is(Runs(&[$count], &[(0, $count, 1)])),
-            ),
-            // indexed
-            (
-                Select(
-                    Runs(&[$count], &[(5, $count, 3)]),
-                    &[Some(Runs(&[$count], &[($count - 1, $count, -1)]))],
-                    Origin::Zero,
-                ),
-                Is(Runs(&[$count], &[(3 * $count + 2, $count, -3)])),
-            ),
-            (
-                Select(
-                    Rows(&[$count, 2], 0, ($count, 2), (2, 1)),
-                    &[None, Some(Numbers(&[], &[2]))],
-                    Origin::One,
-                ),
-                Is(Runs(&[$count], &[(1, $count, 2)])),
-            ),
-            (
-                Replace(
-                    Numbers(&[$count], &[0]),
-                    &[Some(Runs(&[$count], &[($count, $count, -1)]))],
-                    Runs(&[$count], &[(1, $count, 1)]),
-                    Origin::One,
-                ),
-                Is(Runs(&[$count], &[($count, $count, -1)])),
-            ),
-            // one place again and again
-            (
-                Replace(
-                    Numbers(&[3], &[0]),
-                    &[Some(Numbers(&[$count], &[2]))],
-                    Runs(&[$count], &[(1, $count, 1)]),
-                    Origin::One,
-                ),
-                Is(Numbers(&[3], &[0, $count, 0])),
-            ),
-            (
-                Replace(
-                    Rows(&[$count, 2], 0, ($count, 2), (2, 1)),
-                    &[None, Some(Numbers(&[], &[2]))],
-                    Runs(&[$count], &[(0, $count, 2)]),
-                    Origin::One,
-                ),
-                Is(Rows(&[$count, 2], 0, ($count, 2), (2, 0))),
-            ),
-            // folded
-            (
-                One(Monadic::Reduce(Prim::Plus, Axis::Last), Numbers(&[$count], &[1])),
-                Is(Numbers(&[], &[$count])),
-            ),
-            (
-                One(Monadic::Reduce(Prim::Minus, Axis::Last), Numbers(&[$count], &[1])),
-                Is(Numbers(&[], &[$count % 2])),
-            ),
-            (
-                One(Monadic::Reduce(Prim::Plus, Axis::First), Rows(&[2, $count], 0, (2, $count), ($count, 1))),
-                Is(Runs(&[$count], &[($count, $count, 2)])),
-            ),
-            (
-                One(Monadic::Reduce(Prim::Plus, AXIS_ONE), Rows(&[2, $count], 0, (2, $count), ($count, 1))),
-                Is(Runs(&[$count], &[($count, $count, 2)])),
-            ),
-            (
-                One(Monadic::Reduce(Prim::Plus, Axis::Last), Rows(&[$count, 2], 0, ($count, 2), (2, 1))),
-                Is(Runs(&[$count], &[(1, $count, 4)])),
-            ),
-            (
-                Two(Runs(&[$count], &[(0, $count, 1)]), Dyadic::Outer(Prim::Plus), Numbers(&[2], &[0, 5])),
-                Is(Rows(&[$count, 2], 0, ($count, 1), (2, 5))),
-            ),
-            (
-                Two(
-                    Rows(&[$count, 2], 0, ($count, 2), (2, 1)),
-                    Dyadic::Inner(Prim::Plus, Prim::Times),
-                    Numbers(&[2], &[1, 2]),
-                ),
-                Is(Runs(&[$count], &[(2, $count, 6)])),
-            ),
-            (
-                Two(Numbers(&[$count], &[1]), Dyadic::Inner(Prim::Plus, Prim::Times), Numbers(&[$count], &[3])),
-                Is(Numbers(&[], &[3 * $count])),
-            ),
-            (
-                Two(Numbers(&[], &[1]), Dyadic::Decode, Numbers(&[$count], &[1])),
-                Is(Numbers(&[], &[$count])),
-            ),
-            (
-                Two(Numbers(&[2], &[2, 3]), Dyadic::Encode, Numbers(&[$count], &[5])),
-                Is(Runs(&[2, $count], &[(1, $count, 0), (2, $count, 0)])),
-            ),
-            (
-                Two(Numbers(&[$count], &[2]), Dyadic::Encode, Numbers(&[], &[1])),
-                Is(Runs(&[$count], &[(0, $count - 1, 0), (1, 1, 0)])),
-            ),
-        ]
-    };
-}
-
-/// As many elements as 2 to the 17th.
-pub(super) const SOME: &[(Call, Answer)] = rows_of!(131072);
-
-/// One more than 2 to the 20th.
-pub(super) const MANY: &[(Call, Answer)] = rows_of!(1048577);
+/// One more than 2 to the 20th, and twice as many.
+pub(super) const MANY: &str = "\
+    ⍴ (1048577 2: 7) → (2: 1048577 2)
+    , (2 1048577: 1048577×⍳2 ∘.+ ⍳1048577) → (2097154: ⍳2097154)
+    (: 1048577) ⍴ (3: 5 6 7) → (1048577: 5 6 7)
+    (2: 2 1048577) ⍴ (1048577: ⍳1048577) → (2 1048577: 2⍴0 ∘.+ ⍳1048577)
+    (2: 1048577 2) ⍴ (2: 'AB') → (1048577 2: 'AB')
+    ⍳ (: 1048577) → (1048577: 1+⍳1048577)
+    )ORIGIN 0 ⍳ (: 1048577) → (1048577: ⍳1048577)
+    ⍝ joined
+    (1048577: ⍳1048577) , (1048577: 1048577+¯1×⍳1048577) → (2097154: ⍳1048577, 1048577+¯1×⍳1048577)
+    (1048577 1: ⍳1048577) , (1048577: 5+⍳1048577) → (1048577 2: ⍳1048577 ∘.+ 5×⍳2)
+    ⍝ taken
+    (: 1048580) ↑ (1048577: 1+⍳1048577) → (1048580: 1+⍳1048577, 3⍴0)
+    (: ¯1048580) ↑ (1048577: 1+⍳1048577) → (1048580: 3⍴0, 1+⍳1048577)
+    (2: 1048577 1) ↑ (1048577 2: 2×⍳1048577 ∘.+ ⍳2) → (1048577 1: 2×⍳1048577)
+    (: 3) ↓ (1048577: ⍳1048577) → (1048574: 3+⍳1048574)
+    (2: 0 1) ↓ (1048577 2: 2×⍳1048577 ∘.+ ⍳2) → (1048577 1: 1+2×⍳1048577)
+    ⍝ moved
+    ⌽ (1048577: ⍳1048577) → (1048577: 1048576+¯1×⍳1048577)
+    ⊖ (1048577 2: 2×⍳1048577 ∘.+ ⍳2) → (1048577 2: 2097152+¯2×⍳1048577 ∘.+ ⍳2)
+    ⌽ (1048577 2: 'AB') → (1048577 2: 'BA')
+    (: ¯1) ⌽ (1048577: ⍳1048577) → (1048577: 1048576, ⍳1048576)
+    (1048577: 1) ⌽ (1048577 2: 2×⍳1048577 ∘.+ ⍳2) → (1048577 2: 1+2×⍳1048577 ∘.+ ¯1×⍳2)
+    ⍉ (1048577 2: 2×⍳1048577 ∘.+ ⍳2) → (2 1048577: ⍳2 ∘.+ 2×⍳1048577)
+    (3: 2 1 3) ⍉ (2 1048577 1: 1048577×⍳2 ∘.+ ⍳1048577) → (1048577 2 1: ⍳1048577 ∘.+ 1048577×⍳2)
+    ⍝ chosen
+    (2097154: 0 1) / (2097154: ⍳2097154) → (1048577: 1+2×⍳1048577)
+    (1048577: 0, 1048576⍴1) /[1] (1048577 2: 2×⍳1048577 ∘.+ ⍳2) → (1048576 2: 2+2×⍳1048576 ∘.+ ⍳2)
+    (2097154: 1 0) \\ (1048577: 5) → (2097154: 5 0)
+    (2097154: 1048577⍴0, 1048577⍴1) \\[1] (1048577: 1+⍳1048577) → (2097154: 1048577⍴0, 1+⍳1048577)
+    ⍝ found
+    )ORIGIN 0 (1048577: 1048576+¯1×⍳1048577) ⍳ (1048578: ⍳1048578) → (1048578: 1048576+¯1×⍳1048577, 1048577)
+    (1048577: 'AB') ⍳ (1048577: 'CBA') → (1048577: 1048578 2 1)
+    (1048577 2: ¯1048577+⍳2097154) ∊ (1048577: ⍳1048577) → (1048577 2: 1048577⍴0, 1048577⍴1)
+    ⍋ (1048577: ¯1×⍳1048577) → (1048577: 1048577+¯1×⍳1048577)
+    )ORIGIN 0 ⍒ (1048577: ⍳1048577) → (1048577: 1048576+¯1×⍳1048577)
+    )ORIGIN 0 ⍒ (1048577: 7) → (1048577: ⍳1048577)
+    ⍝ indexed
+    )ORIGIN 0 (1048577: 5+3×⍳1048577)[(1048577: 1048576+¯1×⍳1048577)] → (1048577: 3145733+¯3×⍳1048577)
+    (1048577 2: 2×⍳1048577 ∘.+ ⍳2)[;(: 2)] → (1048577: 1+2×⍳1048577)
+    (1048577: 0)[(1048577: 1048577+¯1×⍳1048577)] ← (1048577: 1+⍳1048577) → (1048577: 1048577+¯1×⍳1048577)
+    ⍝ one place again and again
+    (3: 0)[(1048577: 2)] ← (1048577: 1+⍳1048577) → (3: 0 1048577 0)
+    (1048577 2: 2×⍳1048577 ∘.+ ⍳2)[;(: 2)] ← (1048577: 2×⍳1048577) → (1048577 2: 2×⍳1048577 ∘.+ 2⍴0)
+    ⍝ folded
+    +/ (1048577: 1) → (: 1048577)
+    -/ (1048577: 1) → (: 1)
+    +⌿ (2 1048577: 1048577×⍳2 ∘.+ ⍳1048577) → (1048577: 1048577+2×⍳1048577)
+    +/[1] (2 1048577: 1048577×⍳2 ∘.+ ⍳1048577) → (1048577: 1048577+2×⍳1048577)
+    +/ (1048577 2: 2×⍳1048577 ∘.+ ⍳2) → (1048577: 1+4×⍳1048577)
+    (1048577: ⍳1048577) ∘.+ (2: 0 5) → (1048577 2: ⍳1048577 ∘.+ 5×⍳2)
+    (1048577 2: 2×⍳1048577 ∘.+ ⍳2) +.× (2: 1 2) → (1048577: 2+6×⍳1048577)
+    (1048577: 1) +.× (1048577: 3) → (: 3145731)
+    (: 1) ⊥ (1048577: 1) → (: 1048577)
+    (2: 2 3) ⊤ (1048577: 5) → (2 1048577: 1048577⍴1, 1048577⍴2)
+    (1048577: 2) ⊤ (: 1) → (1048577: 1048576⍴0, 1)
+    ";

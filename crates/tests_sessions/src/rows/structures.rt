@@ -199,18 +199,6 @@ pub(super) const TAKEN: &[(&str, &str)] = &[
     ("⍴1↓5\n", "0\n"),
     ("⍴0 0↓5\n", "1 1\n"),
     (
-        "(9⍴'A')↑5\n",
-        "LIMIT ERROR\n      (9⍴'A')↑5\n             ∧\n",
-    ),
-    (
-        "(8⍴'A')↑5\n",
-        "DOMAIN ERROR\n      (8⍴'A')↑5\n             ∧\n",
-    ),
-    (
-        "(9⍴'A')↑1 2\n",
-        "LENGTH ERROR\n      (9⍴'A')↑1 2\n             ∧\n",
-    ),
-    (
         "(1 1⍴1)↑5\n",
         "RANK ERROR\n      (1 1⍴1)↑5\n             ∧\n",
     ),
@@ -416,9 +404,43 @@ pub(super) const LIMITS: &[(&str, &str)] = &[
         "32768 32769⍴0\n",
         "LIMIT ERROR\n      32768 32769⍴0\n                 ∧\n",
     ),
-    (
-        "1 1 1 1 1 1 1 1 1⍴0\n",
-        "LIMIT ERROR\n      1 1 1 1 1 1 1 1 1⍴0\n                       ∧\n",
-    ),
     ("0 1073741824⍴0\n⍴0 1073741824⍴0\n", "0 1073741824\n"),
+];
+
+/// Shapes of more than 8 axes, and of more than there may be.
+pub(super) const MANY_AXES: &[(&str, &str)] = &[
+    (
+        "1 1 1 1 1 1 1 1 1⍴7\n⍴1 1 1 1 1 1 1 1 1⍴7\n",
+        "7\n1 1 1 1 1 1 1 1 1\n",
+    ),
+    ("1 1 1 1 1 1 1 1 1 1 1 1 1 1 1⍴7\n", "7\n"),
+    (
+        "1 1 1 1 1 1 1 1 1 1 1 1 1 1 1 1⍴7\n",
+        "LIMIT ERROR\n      1 1 1 1 1 1 1 1 1 1 1 1 1 1 1 1⍴7\n                                     ∧\n",
+    ),
+    ("2 1 1 1 1 1 1 1 1⍴8 9\n", "8\n\n\n\n\n\n\n\n9\n"),
+    (
+        "A←1 1 1 1 1 1 1 1⍴3\nA∘.+A\n",
+        "LIMIT ERROR\n      A∘.+A\n        ∧\n",
+    ),
+    (
+        "(16⍴'A')↑5\n",
+        "LIMIT ERROR\n      (16⍴'A')↑5\n              ∧\n",
+    ),
+    (
+        "(15⍴'A')↑5\n",
+        "DOMAIN ERROR\n      (15⍴'A')↑5\n              ∧\n",
+    ),
+    (
+        "(16⍴'A')↑1 2\n",
+        "LENGTH ERROR\n      (16⍴'A')↑1 2\n              ∧\n",
+    ),
+    (
+        "B←2 2⍴⍳4\nB[(8⍴1)⍴1;(8⍴1)⍴1]\n",
+        "LIMIT ERROR\n      B[(8⍴1)⍴1;(8⍴1)⍴1]\n       ∧\n",
+    ),
+    (
+        "B←2 2⍴⍳4\nB[(8⍴1)⍴9;(8⍴1)⍴1]\n",
+        "INDEX ERROR\n      B[(8⍴1)⍴9;(8⍴1)⍴1]\n       ∧\n",
+    ),
 ];
