@@ -1,6 +1,6 @@
 #!/bin/sh
 # A bill: counts and prices in cents are columns of a text, and the calculator multiplies and adds them. It shows how a shell script asks
-# aplcalc and reads numbers back: a minus is '¯' there, and a report has a line that ends in ERROR, with status 0 all the same.
+# aplcalc and reads numbers back: a minus is '¯' there, and a report's first line ends in ERROR or is WS FULL, with status 0 all the same.
 set -eu
 
 aplcalc=${APLCALC:-$(dirname "$0")/../aplcalc}
@@ -11,11 +11,11 @@ returned 1 -300'
 # A column of the entries as a constant.
 column() { printf '%s\n' "$entries" | awk -v n="$1" '{ printf "%s ", $n }' | sed 's/-/¯/g'; }
 
-# The value of a line, a number in each line of the answer.
+# The value of a line as it is written, with '-' for '¯'; a report goes to standard error.
 value() {
     answer=$(printf '%s\n' ")WIDTH 130" "$1" | "$aplcalc" | sed '1d; s/¯/-/g')
     case $answer in
-    *' ERROR'*) printf '%s\n' "$answer" >&2 && exit 1 ;;
+    *' ERROR'* | 'WS FULL'*) printf '%s\n' "$answer" >&2 && exit 1 ;;
     esac
     printf '%s\n' "$answer"
 }

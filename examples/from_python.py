@@ -8,7 +8,7 @@ PROGRAM = os.environ.get("APLCALC", str(pathlib.Path(__file__).resolve().parent.
 
 
 class AplError(Exception):
-    """A report: its heading, the line and the caret."""
+    """A report: its heading, the line, and the caret if there is one."""
 
 
 class Calculator:
@@ -26,7 +26,7 @@ class Calculator:
         answer = []
         while (text := self.process.stdout.readline().removesuffix("\n")) != mark:
             answer.append(text)
-        if len(answer) == 3 and answer[0].endswith(" ERROR"):
+        if len(answer) == 3 and answer[0].endswith(" ERROR") or answer[:1] == ["WS FULL"]:
             raise AplError("\n".join(answer))
         return answer
 

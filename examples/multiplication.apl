@@ -1,4 +1,4 @@
-⍝ A table of multiplication: each row counts on, each column does, and the two are multiplied
+⍝ A table of multiplication: a table whose rows count on, times one whose columns do
 N←10
 ROWS←(N,N)⍴⍳N
 ROWS×⍉ROWS

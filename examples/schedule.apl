@@ -17,6 +17,8 @@ BEFORE
 ⍝ the month of each date is how many months have begun before it
 MONTHS←+⌿BEFORE∘.<DATES
 MONTHS
+⍝ or by a list of all days, in which each month stands as often as it has days
+(DAYS/⍳12)[DATES]
 ⍝ month, day of the month, and day of the week, where the year begins with a Monday: a row for each date
 ⍉3 8⍴MONTHS,(DATES-BEFORE[MONTHS]),1+7|DATES-1
 ⍝ the day of the week in letters
