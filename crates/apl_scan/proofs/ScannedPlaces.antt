@@ -1,10 +1,12 @@
 -- Places of lines of neighbours, and what stands before them.
-use Rattle.std.proofs.Common.{◌≡◌, ℕ, zero, suc, ℤ, pos, ◌+◌, ◌-◌, ◌*◌, ◌/◌, ◌%◌, ◌<◌, ◌≤◌, List, [], ◌∷◌, ◌++◌, length, take, drop, Option, Some, None, Result, Ok, slice_index_or, slice_set, ap, sym, ◌∙◌, arith, drop-cons, drop-drop, take-add, take-suc, take-take, get_or-drop, get_or-take, length-drop, length-set, get_or-set_same, get_or-set_other, ⊎_elim, mul-le-mul_right}
+use Rattle.std.proofs.Common.{◌≡◌, ℕ, zero, suc, ℤ, pos, ◌+◌, ◌-◌, ◌*◌, ◌/◌, ◌%◌, ◌<◌, ◌≤◌, List, [], ◌∷◌, ◌++◌, length, take, drop, Option, Some, None, Result, Ok, slice_index_or, slice_set, ap, sym, ◌∙◌, arith, drop-cons, drop-drop, take-add, take-suc, take-take, get_or-drop, get_or-take, length-drop, length-set, refl, get_or-set_same, get_or-set_other, ⊎_elim, mul-le-mul_right}
 use Rattle.std.specs.Prelude.{IfSome, MatchOption}
 use Rattle.std.proofs.lemmas.Bool.{cases_lt}
-use Rattle.std.proofs.Math.Nat.{mod-lt, div-one, div-add-mod', div-eq_of_lt-le}
+use Rattle.std.proofs.Math.Seq.{take-length}
+use Rattle.std.proofs.Math.Nat.{mod-lt, zero-mod, div-one, div-add-mod', div-eq_of_lt-le}
 use Rattle.apl_pool.specs.declared.kernel.Fault.{Fault}
 use Rattle.apl_pool.specs.declared.kernel.TheConstants.{MOST_PLACES}
+use Rattle.apl_pool.specs.Pool.{AreValues}
 use Rattle.apl_pool.specs.Runs.{AreWritten}
 use Rattle.apl_pool.specs.Summaries.{and_then, fold_onto, IsSummaryOf}
 use Rattle.apl_scan.specs.declared.chunks.TheConstants.{CHUNK}
@@ -148,6 +150,17 @@ written_behind step numbers room items from count len line within most same are 
       ∙ ap (fold_onto step (stretch numbers first before ++ take j behind)) (sym read)
       ∙ are j d here;
 }
+
+-- folds behind no number are those of the places of one line
+pub line_of_folds : (step : ℤ → ℤ → Result ℤ Fault) (numbers room : List ℤ) → length room ≡ length numbers → 0 < length numbers → AreFoldsBehind step [] numbers (length numbers) room
+    → AreValues (scan_at step numbers (length numbers) 1) (length numbers) room
+line_of_folds step numbers room same some are =
+    let count = length numbers in
+    let none : 0 % count ≡ 0 = zero-mod count in
+    let before : stretch numbers (0 - 0 % count) (0 % count) ≡ [] = rw none refl in
+    let all : take count (drop 0 numbers) ≡ numbers = take-length numbers in
+    let written = written_behind step numbers room count 0 count count (omega (arith, none)) (omega arith) (omega arith) same (rw (before, all) are) in
+    record { len = same; each = λ place d inside. let here : 0 + place ≡ place = omega arith in ap (scan_at step numbers count 1) (sym here) ∙ written.each place d (omega (arith, inside)) }
 
 -- ---- the chunks of all lines
 

@@ -17,7 +17,7 @@ use apl_array::ScalarFunction;
 use apl_divisor::Divisor;
 use apl_pool::{Cut, Fault, Gate, Kernel, Pool, Stop, Summary};
 use apl_summary::{Running, with_summary};
-use std::alloc::Global;
+use std::alloc::{AllocError, Global};
 use std::thread::Threads;
 
 /// Numbers in lines of neighbours, and the summaries of the beginnings of each line.
@@ -214,6 +214,23 @@ fn summarize_lines<
     summarize(rt, alloc, pool, &chunks)
 }
 
+/// The folds of numbers up to each, in one pass from the left, where the summaries put all of them.
+fn put_line<S: Running>(alloc: Global, numbers: &[i64]) -> Result<Option<Vec<i64>>, AllocError>
+    requires some { 0 < length numbers.now }
+    ensures { IfOk result (λ line. IfSome line (λ v. AreValues (scan_at S.step numbers.now (length numbers.now) 1) (length numbers.now) v.items)) }
+{
+    let mut first = [0];
+    if S::put_folds(&None, &numbers[..1], &mut first) == 0 {
+        return Ok(None);
+    }
+    let mut values = Vec::with_capacity(alloc, numbers.len())?;
+    append_zeros(&mut values, numbers.len());
+    if S::put_folds(&None, numbers, values.as_mut_slice()) < numbers.len() {
+        return Ok(None);
+    }
+    Ok(Some(values))
+}
+
 /// The folds of numbers up to each place of lines of so many neighbours, by one type of summaries.
 fn fill_summarized<
     S: Running + Copy + Drop + Send + Sync,
@@ -227,6 +244,11 @@ fn fill_summarized<
     ensures values { IfOk result (λ v. AreValues (scan_at S.step numbers.now items 1) (length numbers.now) v.items) }
     ensures stop { IfErr result (IsStopOf (scan_at S.step numbers.now items 1) (length numbers.now)) }
 {
+    if items == numbers.len() && !pool.is_shared(items) {
+        if let Some(values) = put_line::<S>(alloc, numbers)? {
+            return Ok(values);
+        }
+    }
     let per_line = (items - 1) / CHUNK;
     let beginnings: Vec<Kept<S>> = summarize_lines(rt, alloc, pool, numbers, items, per_line)?;
     let scans = Scans {

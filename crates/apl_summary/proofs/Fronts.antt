@@ -1,5 +1,5 @@
 -- What is known of the numbers in front of others, with one more number behind them.
-use Rattle.std.proofs.Common.{◌≡◌, ℤ, pos, negsuc, ◌+ℤ◌, ◌≤ℤ◌, Bool, true, false, true≢false, cond, List, [], ◌∷◌, ◌++◌, Result, Ok, Err, refl, sym, ap, subst, ◌∙◌, arith, if◌then◌else◌}
+use Rattle.std.proofs.Common.{◌≡◌, ℤ, pos, negsuc, neg_ℤ, ◌+ℤ◌, ◌-ℤ◌, ◌≤ℤ◌, Bool, true, false, true≢false, cond, List, [], ◌∷◌, ◌++◌, Result, Ok, Err, refl, sym, ap, ◌∙◌, arith, if◌then◌else◌}
 use Rattle.std.proofs.lemmas.Int.{ints, clamps}
 use Rattle.std.specs.Int.{int_min, int_max}
 use Rattle.apl_array.specs.declared.function.ScalarFunction.{ScalarFunction}
@@ -12,7 +12,7 @@ use Rattle.apl_scalar.specs.Scalar.{bit, is_one, dyadic_numbers}
 use Rattle.apl_summary.specs.declared.running_sum.RunningSum.{RunningSum}
 use Rattle.apl_summary.specs.Answers.{is_two_valued}
 use Rattle.apl_summary.specs.Extremes.{extreme_function, extreme_of_two}
-use Rattle.apl_summary.specs.Fronts.{sums_fit, sum_outcome, IsRunningSum, IsRunningExtreme, AreRunningBits}
+use Rattle.apl_summary.specs.Fronts.{sums_fit, sum_outcome, IsRunningSum, IsBoundedSum, IsRunningExtreme, AreRunningBits}
 use Rattle.apl_summary.proofs.ExtremeItems.{two_in_range, one_is, nested}
 use Rattle.apl_summary.proofs.TwoValuedAnswers.{two_valued_is_bit}
 use Rattle.apl_summary.proofs.FrontNumbers.{fold_behind}
@@ -102,3 +102,28 @@ bits_front f for_zero for_one x right z numbers two is are =
     ∙ ap (fold_onto (dyadic_numbers f) numbers) b.1
     ∙ at_bit f for_zero for_one b.0 numbers are
     ∙ ap (λ y. Ok (bit (answer_for for_zero for_one y))) (sym b.1)
+
+-- ---- sums that are small together
+
+-- a number behind them that is small enough is added
+pub bounded_value : (total slack m x : ℤ) (numbers : List ℤ) → m ≤ℤ slack → neg_ℤ m ≤ℤ x → x ≤ℤ m → IsBoundedSum total slack numbers → fold_onto plus numbers x ≡ Ok (total +ℤ x)
+bounded_value total slack m x numbers most least greatest is = is.adds x (omega (arith, ints, most, least)) (omega (arith, ints, most, greatest))
+
+pub bounded_front : (total slack m x : ℤ) (numbers : List ℤ) → slack ≤ℤ pos 9223372036854775807 → neg_ℤ m ≤ℤ x → x ≤ℤ m → IsBoundedSum total slack numbers → IsBoundedSum (total +ℤ x) (slack -ℤ m) (numbers ++ x ∷ [])
+bounded_front total slack m x numbers fits least greatest is = record {
+  adds = λ right low high.
+      let e : in_range (x +ℤ right) ≡ true = in_range_true (x +ℤ right) (omega (arith, ints, fits, least, greatest, low, high), omega (arith, ints, fits, least, greatest, low, high)) in
+      let added : total +ℤ (x +ℤ right) ≡ (total +ℤ x) +ℤ right = omega (arith, ints) in
+      fold_behind plus numbers x right
+      ∙ ap (λ (b : Bool). and_then (cond b (Ok (x +ℤ right)) (Err Limit)) (fold_onto plus numbers)) e
+      ∙ is.adds (x +ℤ right) (omega (arith, ints, least, greatest, low, high)) (omega (arith, ints, least, greatest, low, high))
+      ∙ ap (λ (z : ℤ). Ok z) added;
+}
+
+-- where the sums of all ends are far enough within the range, so is each with a small number behind
+pub sum_is_bounded : (s : RunningSum) (slack : ℤ) (numbers : List ℤ) → slack ≤ℤ pos 9223372036854775807 → (slack -ℤ pos 9223372036854775807) ≤ℤ s.least → s.greatest ≤ℤ (pos 9223372036854775807 -ℤ slack) → IsRunningSum s numbers → IsBoundedSum s.total slack numbers
+sum_is_bounded s slack numbers most least greatest is = record {
+  adds = λ right low high.
+      is.does right (omega (arith, ints, most, low), omega (arith, ints, most, high))
+      ∙ ap (λ (b : Bool). cond b (Ok (s.total +ℤ right)) (Err Limit)) (fits s right (record { least = omega (arith, ints, least, low); greatest = omega (arith, ints, greatest, high) }));
+}

@@ -1,5 +1,5 @@
 -- What is known of the numbers in front of others. No contract of a public function cites this file.
-use Rattle.std.specs.Prelude.{◌≡◌, Bool, ◌&&◌, ℤ, pos, ◌+ℤ◌, ◌≤ℤ◌, int_le, List, Result, Ok, Err, if◌then◌else◌}
+use Rattle.std.specs.Prelude.{◌≡◌, Bool, ◌&&◌, ℤ, pos, neg_ℤ, ◌+ℤ◌, ◌≤ℤ◌, int_le, List, Result, Ok, Err, if◌then◌else◌}
 use Rattle.apl_array.specs.declared.function.ScalarFunction.{ScalarFunction}
 use Rattle.apl_array.specs.declared.function.ScalarFunction.TheVariants.{Plus}
 use Rattle.apl_array.specs.Range.{least_number, greatest_number}
@@ -22,6 +22,10 @@ pub record IsRunningSum (s : RunningSum) (numbers : List ℤ) : Type 0 where
   pub least : s.least ≤ℤ pos 0
   pub greatest : pos 0 ≤ℤ s.greatest
   pub does : (right : ℤ) → IsI64 right → fold_onto (dyadic_numbers Plus) numbers right ≡ sum_outcome s right
+
+-- the total of the numbers; a number behind them of at most so great a magnitude is refused by no end of them
+pub record IsBoundedSum (total slack : ℤ) (numbers : List ℤ) : Type 0 where
+  pub adds : (right : ℤ) → neg_ℤ slack ≤ℤ right → right ≤ℤ slack → fold_onto (dyadic_numbers Plus) numbers right ≡ Ok (total +ℤ right)
 
 -- the least or the greatest of the numbers
 abbrev pub IsRunningExtreme : Bool → ℤ → List ℤ → Type 0

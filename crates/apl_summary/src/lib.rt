@@ -2,6 +2,7 @@
 #![tactic(auto)]
 
 mod answers;
+mod bounded_sum;
 mod coefficients;
 mod consecutive;
 mod consecutive_sums;

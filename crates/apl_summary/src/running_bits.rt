@@ -74,6 +74,24 @@ impl<P: TwoValuedFunction> RunningBits<P> {
     }
 }
 
+impl<P: TwoValuedFunction + Drop> RunningBits<P> {
+    /// The fold of the numbers and a bit behind them, and then all of these.
+    #[inline(always)]
+    fn with_bit(&self, item: i64) -> Option<(i64, Self)>
+        requires { item ≡ bit (is_one item) }
+        ensures value { IfSome result (λ next. (xs : List ℤ) → AreRunningBits P.FUNCTION self.now.for_zero self.now.for_one xs → fold_onto (dyadic_numbers P.FUNCTION) xs item ≡ Ok next.0) }
+        ensures front { IfSome result (λ next. (xs : List ℤ) → AreRunningBits P.FUNCTION self.now.for_zero self.now.for_one xs → AreRunningBits P.FUNCTION next.1.for_zero next.1.for_one (xs ++ item ∷ [])) }
+    {
+        let value = self.answer(is_one(item));
+        let next = RunningBits {
+            for_zero: self.answer_behind(item, 0)?,
+            for_one: self.answer_behind(item, 1)?,
+            function: PhantomData,
+        };
+        Some((number(value), next))
+    }
+}
+
 impl<P: TwoValuedFunction + Drop> Front for RunningBits<P> {
     ghost use Rattle.apl_scalar.specs.Scalar.{dyadic_numbers};
     ghost use Rattle.apl_summary.specs.Fronts.{AreRunningBits};
@@ -84,15 +102,10 @@ impl<P: TwoValuedFunction + Drop> Front for RunningBits<P> {
 
     #[inline(always)]
     fn with(&self, item: i64) -> Option<(i64, Self)> {
-        if item != 0 && item != 1 {
-            return None;
+        match item {
+            0 => self.with_bit(0),
+            1 => self.with_bit(1),
+            _ => None,
         }
-        let value = self.answer(is_one(item));
-        let next = RunningBits {
-            for_zero: self.answer_behind(item, 0)?,
-            for_one: self.answer_behind(item, 1)?,
-            function: PhantomData,
-        };
-        Some((number(value), next))
     }
 }

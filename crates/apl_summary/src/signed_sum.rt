@@ -2,8 +2,9 @@
 ghost use Rattle.std.specs.Prelude.{◌≡◌, ℕ, nat_eq};
 ghost use Rattle.apl_summary.specs.Constants.{AreConstants};
 
+use crate::bounded_sum::put_sums_behind;
 use crate::constants::Constants;
-use crate::running::{Running, put_folds_behind};
+use crate::running::Running;
 use crate::running_sum::RunningSum;
 use crate::small_constants::small_constants;
 use apl_pool::{Fault, Kernel, Summary};
@@ -65,10 +66,10 @@ impl<const MINUS: u8> Running for SignedSum<MINUS> {
             return 0;
         }
         let Some(before) = before else {
-            return put_folds_behind(RunningSum::none(), numbers, room);
+            return put_sums_behind(RunningSum::none(), numbers, room);
         };
         match RunningSum::of(&before.constants) {
-            Some(front) => put_folds_behind(front, numbers, room),
+            Some(front) => put_sums_behind(front, numbers, room),
             None => 0,
         }
     }
