@@ -71,7 +71,15 @@ const DEQUES: &str = "deques";
 const STATUSES: &str = "Exit status:
   0  at the end of the input, after )OFF, and for help
   1  where a read or a write failed, or memory was wanting outside a line
-  2  where the options are refused";
+  2  where the options are refused
+
+A line and its answer:
+      1 2 3∘.×1 2 3 4 5
+1 2 3  4  5
+2 4 6  8 10
+3 6 9 12 15
+
+The manual is docs/MANUAL.md, and docs/KEYBOARD.md tells how to type the symbols.";
 
 /// The exit status where the words gave no settings: 0 for help, 1 for want of memory, else 2.
 pub fn refusal(error: &Error) -> u8

@@ -82,7 +82,7 @@ fn words_that_are_refused(rt: HostRuntime) -> Result<(), Fail> {
     Ok(())
 }
 
-/// The help has one text for each option, with its range and its default, and names the exit statuses.
+/// The help has one text for each option, with its range and its default, and names the exit statuses and the manual.
 #[test]
 fn help_names_what_there_is(rt: HostRuntime) -> Result<(), Fail> {
     let help = settings(rt.alloc(), &["aplcalc", "--help"])
@@ -102,6 +102,7 @@ fn help_names_what_there_is(rt: HostRuntime) -> Result<(), Fail> {
         "[default: deques]",
         "[possible values: claims, deques]",
         "Exit status:",
+        "docs/MANUAL.md",
     ] {
         assert!(rt; refusal(&help) == 0 && text.contains(part), "{part}");
     }
