@@ -12,6 +12,9 @@ use apl_array::MOST_ELEMENTS;
 use apl_divisor::Divisor;
 use std::alloc::{AllocError, Global};
 
+/// How many times an index is put into a table at once, whatever its count is.
+const SPARE: usize = 4;
+
 /// Each index so many times in a row.
 #[derive(Drop)]
 pub(crate) struct Repeated {
@@ -66,14 +69,30 @@ pub(crate) fn capped_product(length: usize, count: usize) -> usize
 
 /// Puts an index so many times behind others.
 #[inline(always)]
+fn push_times(table: &mut Vec<u32>, index: u32, times: usize)
+    requires { vec_len table.old + times ≤ vec_capacity table.old }
+    ensures items { table.new.items ≡ table.old.items ++ replicate times index }
+    ensures capacity { vec_capacity table.new ≡ vec_capacity table.old }
+{
+    for _again in 0..times {
+        table.push_reserved(index);
+    }
+}
+
+/// Puts an index as often behind others as its count says. It is put there a few times in any case, and what
+/// is past its count is taken away again: nothing hangs on a small count, which no processor can foresee.
+#[inline(always)]
 fn append_times(table: &mut Vec<u32>, index: u32, count: usize)
-    requires { vec_len table.old + count ≤ vec_capacity table.old }
+    requires { vec_len table.old + count + SPARE ≤ vec_capacity table.old }
     ensures items { table.new.items ≡ table.old.items ++ replicate count index }
     ensures capacity { vec_capacity table.new ≡ vec_capacity table.old }
 {
-    for _again in 0..count {
-        table.push_reserved(index);
+    let end = table.len() + count;
+    push_times(table, index, SPARE);
+    if count > SPARE {
+        push_times(table, index, count - SPARE);
     }
+    table.truncate(end);
 }
 
 /// Each index as often as its count says, which is so often in all.
@@ -88,7 +107,7 @@ pub(crate) fn listed_indexes(
     requires few { all ≤ MOST_PLACES }
     ensures { IfOk result (λ table. table.items ≡ repeated_indexes (map place_number counts.now)) }
 {
-    let mut table = Vec::with_capacity(alloc, all)?;
+    let mut table = Vec::with_capacity(alloc, all + SPARE)?;
     for (i, count) in counts.iter().enumerate() {
         append_times(&mut table, i as u32, *count as usize);
     }

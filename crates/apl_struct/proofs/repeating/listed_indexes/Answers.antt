@@ -1,5 +1,5 @@
 use Rattle.std.proofs.Common.{◌≡◌, ◌+◌, ◌≤◌, ◌++◌, pos, map, take, length, replicate, to_z, of_z, w64, nat_abs, slice_index_or, ap, sym, ◌∙◌, arith, rules}
-use Rattle.std.specs.Prelude.{sum, vec_len, vec_capacity}
+use Rattle.std.specs.Prelude.{sum, vec_len}
 use Rattle.std.proofs.lemmas.List.Sums.{sum_by-take-le}
 use Rattle.apl_array.specs.Axes.{place_number}
 use Rattle.apl_struct.proofs.Naturals.{natural_at, natural_sum, cast_is, natural_repeats}
