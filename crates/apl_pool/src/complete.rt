@@ -10,6 +10,7 @@ use super::pass::{Pass, fill_rooms};
 use super::pieces::{Piece, Pieces};
 use super::tasks::Values;
 use super::work::write_piece;
+use super::zeros::Zeros;
 use std::thread::Threads;
 
 /// The values of one piece at its places in the list. Where they don't stand there already the first worker writes them, who passes
@@ -80,6 +81,6 @@ where
 {
     let pieces = pass.shares.pieces();
     let task = Values { kernel, pieces };
-    let marks = fill_rooms(pass, &task, values)?;
-    complete(kernel, pass.gate, pieces, marks.as_slice(), values)
+    let brought = fill_rooms(pass, &task, values, Zeros::none(pass.alloc))?;
+    complete(kernel, pass.gate, pieces, brought.marks.as_slice(), values)
 }

@@ -1,5 +1,5 @@
 //! What a worker does with its share of a fold: the items at its places are summarized.
-ghost use Rattle.std.specs.Prelude.{◌≡◌, ℕ, ◌+◌, ◌-◌, ◌*◌, ◌<◌, ◌≤◌, true, false, Result, None, IfOk, length, slice_index, slice_index_or, slice_set, vec_len, vec_capacity};
+ghost use Rattle.std.specs.Prelude.{◌≡◌, ℕ, pos, ◌+◌, ◌-◌, ◌*◌, ◌<◌, ◌≤◌, true, false, Result, None, IfOk, length, replicate, slice_index, slice_index_or, slice_set, vec_len, vec_capacity};
 ghost use Rattle.apl_pool.specs.declared.kernel.Fault.{Fault};
 ghost use Rattle.apl_pool.specs.declared.kernel.TheConstants.{MOST_PLACES};
 ghost use Rattle.apl_pool.specs.declared.summary.TheConstants.{LONGEST_RUN};
@@ -15,6 +15,7 @@ use super::rows::{Folds, Row, Rows};
 use super::summary::{LONGEST_RUN, Summary};
 use super::tasks::Summaries;
 use super::work::{next_piece, stop_at};
+use super::zeros::Zeros;
 use std::alloc::{AllocError, Global};
 use std::thread::Threads;
 
@@ -187,7 +188,7 @@ fn join_parts<S: Summary + Drop, K: Kernel<Out = S::Item>, G: Gate>(
     Ok(folded)
 }
 
-/// The summaries of all rows, one after the other, put into the room for them.
+/// The summaries of all rows, one after the other, put into the room for them, and the zeros beside them.
 fn join_rows<S: Summary + Drop, K: Rows<Out = S::Item>, G: Gate>(
     rows: &K,
     gate: &G,
@@ -195,6 +196,7 @@ fn join_rows<S: Summary + Drop, K: Rows<Out = S::Item>, G: Gate>(
     marks: &[bool],
     parts: &mut [Option<S>],
     room: Vec<S>,
+    zeros: Vec<i64>,
 ) -> Folds<S>
     requires some { 0 < K.place_count rows.now }
     requires places { pieces.now.places ≡ K.place_count rows.now }
@@ -204,7 +206,8 @@ fn join_rows<S: Summary + Drop, K: Rows<Out = S::Item>, G: Gate>(
     requires right { ArePartsOf S.step S.item_count S.outcome (K.outcome rows.now) (K.row_count rows.now) pieces.now.count (slice_index pieces.now.starts.items) marks.now parts.old }
     requires empty { vec_len room ≡ 0 }
     requires room { K.row_count rows.now ≤ vec_capacity room }
-    ensures { AreFolds S.step S.item_count S.outcome (K.outcome rows.now) (K.row_count rows.now) (K.place_count rows.now) result.summaries.items result.end }
+    ensures folds { AreFolds S.step S.item_count S.outcome (K.outcome rows.now) (K.row_count rows.now) (K.place_count rows.now) result.summaries.items result.end }
+    ensures zeros { result.zeros ≡ zeros }
 {
     let mut summaries = room;
     let count = rows.rows();
@@ -213,18 +216,22 @@ fn join_rows<S: Summary + Drop, K: Rows<Out = S::Item>, G: Gate>(
             Ok(Some(summary)) => summaries.push_reserved(summary),
             Ok(None) => unreachable!(),
             Err(stop) => {
-                let end = Err(stop);
-                return Folds { summaries, end };
+                return Folds {
+                    summaries,
+                    end: Err(stop),
+                    zeros,
+                };
             }
         }
     }
     Folds {
         summaries,
         end: Ok(()),
+        zeros,
     }
 }
 
-/// The summaries of all rows, by one worker who has all pieces. The first one of each row ends at `end`.
+/// The summaries of all rows, by one worker who has all pieces, and the zeros beside them. The first piece of each row ends at `end`.
 pub(crate) fn fold_rows_alone<S: Summary + Drop, K: Rows<Out = S::Item>, C: Cut, G: Gate>(
     rows: &K,
     cut: &C,
@@ -232,12 +239,14 @@ pub(crate) fn fold_rows_alone<S: Summary + Drop, K: Rows<Out = S::Item>, C: Cut,
     worker: u8,
     end: usize,
     room: Vec<S>,
+    zeros: Vec<i64>,
 ) -> Folds<S>
     requires some { 0 < end }
     requires within { end ≤ K.place_count rows.now }
     requires empty { vec_len room ≡ 0 }
     requires room { K.row_count rows.now ≤ vec_capacity room }
-    ensures { AreFolds S.step S.item_count S.outcome (K.outcome rows.now) (K.row_count rows.now) (K.place_count rows.now) result.summaries.items result.end }
+    ensures folds { AreFolds S.step S.item_count S.outcome (K.outcome rows.now) (K.row_count rows.now) (K.place_count rows.now) result.summaries.items result.end }
+    ensures zeros { result.zeros ≡ zeros }
 {
     let mut summaries = room;
     for row in 0..rows.rows() {
@@ -245,14 +254,18 @@ pub(crate) fn fold_rows_alone<S: Summary + Drop, K: Rows<Out = S::Item>, C: Cut,
             Ok(Some(summary)) => summaries.push_reserved(summary),
             Ok(None) => unreachable!(),
             Err(stop) => {
-                let end = Err(stop);
-                return Folds { summaries, end };
+                return Folds {
+                    summaries,
+                    end: Err(stop),
+                    zeros,
+                };
             }
         }
     }
     Folds {
         summaries,
         end: Ok(()),
+        zeros,
     }
 }
 
@@ -268,7 +281,7 @@ fn no_parts<S: Drop>(alloc: Global, count: usize) -> Result<Vec<Option<S>>, Allo
 }
 
 /// The summaries of all rows, by several workers, who put one of each piece into a list of as many parts; then those of each row are
-/// joined.
+/// joined. The first worker writes the zeros before.
 fn fold_into_parts<
     R: Threads + Sync,
     S: Summary + Drop + Send,
@@ -279,6 +292,7 @@ fn fold_into_parts<
     rows: &K,
     parts: &mut [Option<S>],
     room: Vec<S>,
+    zeros: Zeros,
 ) -> Result<Folds<S>, AllocError>
     requires some { 0 < K.place_count rows.now }
     requires rows { pass.now.shares.now.rows ≡ K.row_count rows.now }
@@ -286,28 +300,40 @@ fn fold_into_parts<
     requires parts { K.row_count rows.now * pass.now.shares.now.pieces.count ≡ length parts.old }
     requires empty { vec_len room ≡ 0 }
     requires room { K.row_count rows.now ≤ vec_capacity room }
-    ensures { IfOk result (λ f. AreFolds S.step S.item_count S.outcome (K.outcome rows.now) (K.row_count rows.now) (K.place_count rows.now) f.summaries.items f.end) }
+    ensures folds { IfOk result (λ f. AreFolds S.step S.item_count S.outcome (K.outcome rows.now) (K.row_count rows.now) (K.place_count rows.now) f.summaries.items f.end) }
+    ensures zeros { IfOk result (λ f. f.zeros.items ≡ replicate zeros.count (pos 0)) }
 {
     let pieces = pass.shares.pieces();
     let task = Summaries { rows, pieces };
-    let marks = fill_rooms(pass, &task, parts)?;
-    Ok(join_rows(rows, pass.gate, pieces, marks.as_slice(), parts, room))
+    let brought = fill_rooms(pass, &task, parts, zeros)?;
+    let marks = brought.marks;
+    let zeros = brought.zeros;
+    Ok(join_rows(
+        rows,
+        pass.gate,
+        pieces,
+        marks.as_slice(),
+        parts,
+        room,
+        zeros,
+    ))
 }
 
-/// The summaries of all rows, by several workers.
+/// The summaries of all rows, by several workers, of whom the first writes the zeros before.
 pub(crate) fn fold_rows_together<
     R: Threads + Sync,
     S: Summary + Drop + Send,
     K: Rows<Out = S::Item> + Sync,
     G: Gate + Sync,
->(pass: &Pass<R, G>, rows: &K, room: Vec<S>) -> Result<Folds<S>, AllocError>
+>(pass: &Pass<R, G>, rows: &K, room: Vec<S>, zeros: Zeros) -> Result<Folds<S>, AllocError>
     requires some { 0 < K.place_count rows.now }
     requires rows { pass.now.shares.now.rows ≡ K.row_count rows.now }
     requires places { pass.now.shares.now.pieces.places ≡ K.place_count rows.now }
     requires empty { vec_len room ≡ 0 }
     requires room { K.row_count rows.now ≤ vec_capacity room }
-    ensures { IfOk result (λ f. AreFolds S.step S.item_count S.outcome (K.outcome rows.now) (K.row_count rows.now) (K.place_count rows.now) f.summaries.items f.end) }
+    ensures folds { IfOk result (λ f. AreFolds S.step S.item_count S.outcome (K.outcome rows.now) (K.row_count rows.now) (K.place_count rows.now) f.summaries.items f.end) }
+    ensures zeros { IfOk result (λ f. f.zeros.items ≡ replicate zeros.count (pos 0)) }
 {
     let mut parts = no_parts(pass.alloc, pass.shares.count())?;
-    fold_into_parts(pass, rows, parts.as_mut_slice(), room)
+    fold_into_parts(pass, rows, parts.as_mut_slice(), room, zeros)
 }

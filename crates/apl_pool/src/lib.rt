@@ -21,6 +21,7 @@ mod shares;
 mod summary;
 mod tasks;
 mod work;
+mod zeros;
 
 pub use cut::{Cut, Every};
 pub use gate::{Gate, Open};

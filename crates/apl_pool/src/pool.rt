@@ -1,5 +1,5 @@
 //! The pool: how many workers there are, how the places are cut, and what a worker passes before each piece.
-ghost use Rattle.std.specs.Prelude.{◌≡◌, ℕ, ◌+◌, ◌<◌, ◌≤◌, false, List, IfOk, OnOk, IfErr, length};
+ghost use Rattle.std.specs.Prelude.{◌≡◌, ℕ, ◌+◌, ◌<◌, ◌≤◌, ◌⊎◌, pos, false, List, [], IfOk, IfSome, OnOk, IfErr, length, replicate, vec_len};
 ghost use Rattle.apl_pool.specs.declared.kernel.TheConstants.{MOST_PLACES};
 ghost use Rattle.apl_pool.specs.declared.pool.TheConstants.{MOST_WORKERS};
 ghost use Rattle.apl_pool.specs.Pool.{AreValues, IsStopOf};
@@ -17,6 +17,7 @@ use super::schedule::Schedule;
 use super::shares::Shares;
 use super::summary::Summary;
 use super::work::append_all;
+use super::zeros::Zeros;
 use std::alloc::{AllocError, Global};
 use std::thread::Threads;
 
@@ -99,8 +100,37 @@ impl<C: Cut + Sync, G: Gate + Sync> Pool<C, G> {
             return append_all(alloc, kernel, &self.cut, &self.gate, last, end);
         }
         let value = first_value(kernel)?;
+        let values = vec![in alloc; value; count]?;
+        self.fill_into(rt, alloc, kernel, values)
+    }
+
+    /// The same, written into a list of as many values, whatever these are.
+    pub fn fill_into<R: Threads + Sync, K: Kernel + Sync>(
+        &self,
+        rt: &R,
+        alloc: Global,
+        kernel: &K,
+        values: Vec<K::Out>,
+    ) -> Result<Vec<K::Out>, Stop>
+    where
+        K::Out: Copy + Send,
+        requires room { vec_len values ≡ K.place_count kernel.now }
+        ensures values { IfOk result (λ v. AreValues (K.outcome kernel.now) (K.place_count kernel.now) v.items) }
+        ensures stop { IfErr result (IsStopOf (K.outcome kernel.now) (K.place_count kernel.now)) }
+    {
+        let count = kernel.count();
+        if count == 0 {
+            return Ok(values);
+        }
+        let end = piece_end(&self.cut, 0, count);
         let shares = Shares::new(alloc, &self.cut, 1, count, end, self.workers)?;
-        fill_shares(&self.pass(rt, alloc, &shares), kernel, value)
+        let mut values = values;
+        fill_values(
+            &self.pass(rt, alloc, &shares),
+            kernel,
+            values.as_mut_slice(),
+        )?;
+        Ok(values)
     }
 
     /// The summary of the items at all places, in their order, or the least place that has a fault, and
@@ -140,34 +170,53 @@ impl<C: Cut + Sync, G: Gate + Sync> Pool<C, G> {
         requires some { 0 < K.place_count rows.now }
         ensures { AreFolds S.step S.item_count S.outcome (K.outcome rows.now) (K.row_count rows.now) (K.place_count rows.now) result.summaries.items result.end }
     {
-        match self.fold_pieces(rt, alloc, rows) {
+        self.fold_rows_beside(rt, alloc, rows, 0)
+    }
+
+    /// The same, and so many zeros, where several workers share the pieces: the first one writes them before it takes a piece, while the
+    /// others fold.
+    pub fn fold_rows_beside<
+        R: Threads + Sync,
+        S: Summary + Drop + Send,
+        K: Rows<Out = S::Item> + Sync,
+    >(&self, rt: &R, alloc: Global, rows: &K, zeros: usize) -> Folds<S>
+        requires some { 0 < K.place_count rows.now }
+        ensures folds { AreFolds S.step S.item_count S.outcome (K.outcome rows.now) (K.row_count rows.now) (K.place_count rows.now) result.summaries.items result.end }
+        ensures zeros { (result.zeros.items ≡ []) ⊎ (result.zeros.items ≡ replicate zeros (pos 0)) }
+    {
+        match self.fold_pieces(rt, alloc, rows, zeros) {
             Ok(folds) => folds,
             Err(AllocError) => Folds {
                 summaries: Vec::new(alloc),
                 end: Err(Stop::Memory),
+                zeros: Vec::new(alloc),
             },
         }
     }
 
-    /// What `fold_rows` answers where there is memory.
+    /// What `fold_rows_beside` answers where there is memory.
     fn fold_pieces<R: Threads + Sync, S: Summary + Drop + Send, K: Rows<Out = S::Item> + Sync>(
         &self,
         rt: &R,
         alloc: Global,
         rows: &K,
+        zeros: usize,
     ) -> Result<Folds<S>, AllocError>
         requires some { 0 < K.place_count rows.now }
-        ensures { IfOk result (λ f. AreFolds S.step S.item_count S.outcome (K.outcome rows.now) (K.row_count rows.now) (K.place_count rows.now) f.summaries.items f.end) }
+        ensures folds { IfOk result (λ f. AreFolds S.step S.item_count S.outcome (K.outcome rows.now) (K.row_count rows.now) (K.place_count rows.now) f.summaries.items f.end) }
+        ensures zeros { IfOk result (λ f. (f.zeros.items ≡ []) ⊎ (f.zeros.items ≡ replicate zeros (pos 0))) }
     {
         let (count, places) = (rows.rows(), rows.count());
         let room = Vec::with_capacity(alloc, count)?;
         let end = piece_end(&self.cut, 0, places);
         if self.workers == 1 || count == 0 || (count == 1 && end == places) {
             let last = self.workers - 1;
-            return Ok(fold_rows_alone(rows, &self.cut, &self.gate, last, end, room));
+            let none = Vec::new(alloc);
+            return Ok(fold_rows_alone(rows, &self.cut, &self.gate, last, end, room, none));
         }
         let shares = Shares::new(alloc, &self.cut, count, places, end, self.workers)?;
-        fold_rows_together(&self.pass(rt, alloc, &shares), rows, room)
+        let zeros = Zeros::with_room(alloc, zeros)?;
+        fold_rows_together(&self.pass(rt, alloc, &shares), rows, room, zeros)
     }
 
     /// A pass of several workers who have these shares.
@@ -182,25 +231,6 @@ impl<C: Cut + Sync, G: Gate + Sync> Pool<C, G> {
             schedule: self.schedule,
         }
     }
-}
-
-/// The value at each place, by several workers, who write into a list that is made full of one value.
-fn fill_shares<R: Threads + Sync, K: Kernel + Sync, G: Gate + Sync>(
-    pass: &Pass<R, G>,
-    kernel: &K,
-    value: K::Out,
-) -> Result<Vec<K::Out>, Stop>
-where
-    K::Out: Copy + Send,
-    requires rows { pass.now.shares.now.rows ≡ 1 }
-    requires places { pass.now.shares.now.pieces.places ≡ K.place_count kernel.now }
-    ensures values { IfOk result (λ v. AreValues (K.outcome kernel.now) (K.place_count kernel.now) v.items) }
-    ensures stop { IfErr result (IsStopOf (K.outcome kernel.now) (K.place_count kernel.now)) }
-{
-    let mut values = vec![in pass.alloc; value; kernel.count()]?;
-    let room = values.as_mut_slice();
-    fill_values(pass, kernel, room)?;
-    Ok(values)
 }
 
 /// The value at the first place. It is computed again with its piece.

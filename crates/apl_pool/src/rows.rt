@@ -90,11 +90,13 @@ impl<X, K: Kernel<Out = X>> Rows for OneRow<'_, K> {
     }
 }
 
-/// The summaries of the rows in front of the first that has none, and why that has none.
+/// The summaries of the rows in front of the first that has none, and why that has none; and the zeros beside them.
 #[derive(Drop)]
 pub struct Folds<S> {
     /// Those of the rows from the first on.
     pub summaries: Vec<S>,
     /// `Ok` where each row has one.
     pub end: Result<(), Stop>,
+    /// As many as were asked for, where several workers shared the pieces; else none.
+    pub zeros: Vec<i64>,
 }

@@ -71,20 +71,21 @@ fn carry_on<S: Summary<Item = i64> + Copy + Drop>(chunks: &Chunks, summaries: &m
     }
 }
 
-/// For each chunk the summary of its line up to the end of the chunk.
+/// For each chunk the summary of its line up to the end of the chunk; and where several workers made them as many zeros as there are
+/// numbers.
 pub(crate) fn summarize<
     S: Summary<Item = i64> + Copy + Drop + Send,
     R: Threads + Sync,
     C: Cut + Sync,
     G: Gate + Sync,
->(rt: &R, alloc: Global, pool: &Pool<C, G>, chunks: &Chunks) -> Result<Vec<Kept<S>>, Stop>
-    ensures rows { IfOk result (λ v. vec_len v ≡ chunks.now.rows) }
-    ensures joined { IfOk result (λ v. AreUpToChunks S.step (λ k. S.item_count k.summary) (λ k. S.outcome k.summary) chunks.now.numbers.now chunks.now.items chunks.now.per_line chunks.now.rows v.items) }
+>(rt: &R, alloc: Global, pool: &Pool<C, G>, chunks: &Chunks) -> Result<Folds<Kept<S>>, Stop>
+    ensures rows { IfOk result (λ f. vec_len f.summaries ≡ chunks.now.rows) }
+    ensures joined { IfOk result (λ f. AreUpToChunks S.step (λ k. S.item_count k.summary) (λ k. S.outcome k.summary) chunks.now.numbers.now chunks.now.items chunks.now.per_line chunks.now.rows f.summaries.items) }
     ensures memory { IfErr result (λ stop. stop ≡ Stop.Memory) }
 {
-    let folds: Folds<Kept<S>> = pool.fold_rows(rt, alloc, chunks);
+    let zeros = chunks.numbers.len();
+    let mut folds: Folds<Kept<S>> = pool.fold_rows_beside(rt, alloc, chunks, zeros);
     folds.end?;
-    let mut summaries = folds.summaries;
-    carry_on(chunks, summaries.as_mut_slice());
-    Ok(summaries)
+    carry_on(chunks, folds.summaries.as_mut_slice());
+    Ok(folds)
 }

@@ -15,7 +15,7 @@ use crate::kept::Kept;
 use crate::running::{fold_behind, with_next};
 use apl_array::ScalarFunction;
 use apl_divisor::Divisor;
-use apl_pool::{Cut, Fault, Gate, Kernel, Pool, Stop, Summary};
+use apl_pool::{Cut, Fault, Folds, Gate, Kernel, Pool, Stop, Summary};
 use apl_summary::{Running, with_summary};
 use std::alloc::{AllocError, Global};
 use std::thread::Threads;
@@ -180,7 +180,7 @@ impl<S: Running + Copy + Drop> Kernel for Scans<'_, S> {
     }
 }
 
-/// The summaries of the beginnings of all lines, so many of each.
+/// The summaries of the beginnings of all lines, so many of each; and where several workers made them as many zeros as there are numbers.
 fn summarize_lines<
     S: Summary<Item = i64> + Copy + Drop + Send,
     R: Threads + Sync,
@@ -193,16 +193,20 @@ fn summarize_lines<
     numbers: &[i64],
     items: usize,
     per_line: usize,
-) -> Result<Vec<Kept<S>>, Stop>
+) -> Result<Folds<Kept<S>>, Stop>
     requires most { length numbers.now ≤ MOST_PLACES }
     requires items { (0 < items) × (items ≤ MOST_PLACES) }
     requires within { per_line * CHUNK < items }
-    ensures rows { IfOk result (λ v. vec_len v ≡ length numbers.now / items * per_line) }
-    ensures joined { IfOk result (λ v. AreUpToChunks S.step (λ k. S.item_count k.summary) (λ k. S.outcome k.summary) numbers.now items per_line (length numbers.now / items * per_line) v.items) }
+    ensures rows { IfOk result (λ f. vec_len f.summaries ≡ length numbers.now / items * per_line) }
+    ensures joined { IfOk result (λ f. AreUpToChunks S.step (λ k. S.item_count k.summary) (λ k. S.outcome k.summary) numbers.now items per_line (length numbers.now / items * per_line) f.summaries.items) }
     ensures memory { IfErr result (λ stop. stop ≡ Stop.Memory) }
 {
     if per_line == 0 {
-        return Ok(Vec::new(alloc));
+        return Ok(Folds {
+            summaries: Vec::new(alloc),
+            end: Ok(()),
+            zeros: Vec::new(alloc),
+        });
     }
     let rows = numbers.len() / items * per_line;
     let chunks = Chunks {
@@ -231,6 +235,29 @@ fn put_line<S: Running>(alloc: Global, numbers: &[i64]) -> Result<Option<Vec<i64
     Ok(Some(values))
 }
 
+/// The folds at all places, written into the room where it has as many.
+fn fill_scans<
+    S: Running + Copy + Drop + Send + Sync,
+    R: Threads + Sync,
+    C: Cut + Sync,
+    G: Gate + Sync,
+>(
+    rt: &R,
+    alloc: Global,
+    pool: &Pool<C, G>,
+    scans: &Scans<S>,
+    room: Vec<i64>,
+) -> Result<Vec<i64>, Stop>
+    ensures values { IfOk result (λ v. AreValues (scan_at S.step scans.now.numbers.now scans.now.items 1) (length scans.now.numbers.now) v.items) }
+    ensures stop { IfErr result (IsStopOf (scan_at S.step scans.now.numbers.now scans.now.items 1) (length scans.now.numbers.now)) }
+{
+    if room.len() == scans.numbers.len() {
+        pool.fill_into(rt, alloc, scans, room)
+    } else {
+        pool.fill(rt, alloc, scans)
+    }
+}
+
 /// The folds of numbers up to each place of lines of so many neighbours, by one type of summaries.
 fn fill_summarized<
     S: Running + Copy + Drop + Send + Sync,
@@ -250,14 +277,16 @@ fn fill_summarized<
         }
     }
     let per_line = (items - 1) / CHUNK;
-    let beginnings: Vec<Kept<S>> = summarize_lines(rt, alloc, pool, numbers, items, per_line)?;
+    let before: Folds<Kept<S>> = summarize_lines(rt, alloc, pool, numbers, items, per_line)?;
+    let beginnings = before.summaries;
+    let room = before.zeros;
     let scans = Scans {
         numbers,
         items: Divisor::new(items),
         per_line,
         beginnings: beginnings.as_slice(),
     };
-    pool.fill(rt, alloc, &scans)
+    fill_scans(rt, alloc, pool, &scans, room)
 }
 
 /// The folds of numbers up to each place of lines of so many neighbours, by a function whose folds have

@@ -13,3 +13,4 @@ pub mod ConsecutiveLists
 pub mod RunningSums
 pub mod FrontNumbers
 pub mod Fronts
+pub mod BitRuns

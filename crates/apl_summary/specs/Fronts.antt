@@ -1,10 +1,11 @@
 -- What is known of the numbers in front of others. No contract of a public function cites this file.
-use Rattle.std.specs.Prelude.{◌≡◌, Bool, ◌&&◌, ℤ, pos, neg_ℤ, ◌+ℤ◌, ◌≤ℤ◌, int_le, List, Result, Ok, Err, if◌then◌else◌}
+use Rattle.std.specs.Prelude.{◌≡◌, ℕ, ◌+◌, ◌-◌, Bool, ◌&&◌, ℤ, pos, neg_ℤ, ◌+ℤ◌, ◌≤ℤ◌, int_le, List, Result, Ok, Err, if◌then◌else◌}
 use Rattle.apl_array.specs.declared.function.ScalarFunction.{ScalarFunction}
 use Rattle.apl_array.specs.declared.function.ScalarFunction.TheVariants.{Plus}
 use Rattle.apl_array.specs.Range.{least_number, greatest_number}
 use Rattle.apl_pool.specs.declared.kernel.Fault.{Fault}
 use Rattle.apl_pool.specs.declared.kernel.Fault.TheVariants.{Limit}
+use Rattle.apl_pool.specs.Pool.{AreValues}
 use Rattle.apl_pool.specs.Summaries.{IsI64, fold_onto}
 use Rattle.apl_scalar.specs.Scalar.{bit, dyadic_numbers}
 use Rattle.apl_summary.specs.declared.running_sum.RunningSum.{RunningSum}
@@ -35,3 +36,9 @@ IsRunningExtreme is_least item numbers = (right : ℤ) → IsI64 right → fold_
 pub record AreRunningBits (f : ScalarFunction) (for_zero for_one : Bool) (numbers : List ℤ) : Type 0 where
   pub zero_is : fold_onto (dyadic_numbers f) numbers (pos 0) ≡ Ok (bit for_zero)
   pub one_is : fold_onto (dyadic_numbers f) numbers (pos 1) ≡ Ok (bit for_one)
+
+-- the items at the places from `from` up to before `to`, and what they answer for 0 and for 1
+pub record AreBitsFrom (f : ScalarFunction) (outcome : ℕ → Result ℤ Fault) (from to : ℕ) (for_zero for_one : Bool) : Type 0 where
+  pub items : List ℤ
+  pub values : AreValues (λ k. outcome (from + k)) (to - from) items
+  pub answers : AreRunningBits f for_zero for_one items

@@ -1,13 +1,15 @@
 //! What bits answer for the next one, under a function with two values.
-ghost use Rattle.std.specs.Prelude.{◌≡◌, ℤ, pos, List, [], ◌∷◌, ◌++◌, Ok, IfSome, if◌then◌else◌};
-ghost use Rattle.apl_pool.specs.Summaries.{fold_onto};
+ghost use Rattle.std.specs.Prelude.{◌≡◌, ◌-◌, ◌<◌, ◌≤◌, ℤ, pos, List, [], ◌∷◌, ◌++◌, Ok, IfSome, if◌then◌else◌};
+ghost use Rattle.apl_pool.specs.declared.summary.TheConstants.{LONGEST_RUN};
+ghost use Rattle.apl_pool.specs.Summaries.{fold_onto, IsSummaryFrom};
 ghost use Rattle.apl_scalar.specs.Scalar.{bit, is_one, dyadic_numbers};
 ghost use Rattle.apl_summary.specs.Answers.{two_valued_outcome};
-ghost use Rattle.apl_summary.specs.Fronts.{AreRunningBits};
+ghost use Rattle.apl_summary.specs.Fronts.{AreRunningBits, AreBitsFrom};
 
 use crate::answers::{Answers, number};
 use crate::running::Front;
 use crate::two_valued::TwoValuedFunction;
+use apl_pool::Kernel;
 use std::marker::PhantomData;
 
 /// What numbers answer for 0 and for 1.
@@ -90,6 +92,24 @@ impl<P: TwoValuedFunction + Drop> RunningBits<P> {
         };
         Some((number(value), next))
     }
+
+    /// Those of the items at the places from `from` up to before `to`, where they are bits.
+    #[inline(always)]
+    fn of_places<K: Kernel<Out = i64>>(kernel: &K, from: usize, to: usize) -> Option<Self>
+        requires order { from ≤ to }
+        requires places { to ≤ K.place_count kernel.now }
+        ensures { IfSome result (λ s. AreBitsFrom P.FUNCTION (K.outcome kernel.now) from to s.for_zero s.for_one) }
+    {
+        let mut bits = RunningBits::none();
+        for place in from..to {
+            let Ok(item) = kernel.at(place) else {
+                return None;
+            };
+            let (_, next) = bits.with(item)?;
+            bits = next;
+        }
+        Some(bits)
+    }
 }
 
 impl<P: TwoValuedFunction + Drop> Front for RunningBits<P> {
@@ -108,4 +128,28 @@ impl<P: TwoValuedFunction + Drop> Front for RunningBits<P> {
             _ => None,
         }
     }
+}
+
+/// What the items at the places from `from` up to before `to` answer, where all but the last are bits.
+#[inline(always)]
+pub fn answers_of_run<P: TwoValuedFunction + Drop, K: Kernel<Out = i64>>(
+    kernel: &K,
+    from: usize,
+    to: usize,
+) -> Option<Answers>
+    requires some { from < to }
+    requires places { to ≤ K.place_count kernel.now }
+    requires few { to - from ≤ LONGEST_RUN }
+    ensures { IfSome result (IsSummaryFrom (dyadic_numbers P.FUNCTION) (λ (a : Answers). a.count) (two_valued_outcome P.FUNCTION) (K.outcome kernel.now) from to) }
+{
+    let bits = RunningBits::<P>::of_places(kernel, from, to - 1)?;
+    let Ok(last) = kernel.at(to - 1) else {
+        return None;
+    };
+    Some(Answers {
+        count: (to - from) as u32,
+        last,
+        for_zero: Ok(bits.for_zero),
+        for_one: Ok(bits.for_one),
+    })
 }

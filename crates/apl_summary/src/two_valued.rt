@@ -4,8 +4,8 @@ ghost use Rattle.apl_summary.specs.Answers.{is_two_valued};
 
 use crate::answers::Answers;
 use crate::running::{Running, put_folds_behind};
-use crate::running_bits::RunningBits;
-use apl_pool::{Fault, Summary};
+use crate::running_bits::{RunningBits, answers_of_run};
+use apl_pool::{Fault, Kernel, Summary};
 use apl_scalar::function_types::{
     And, Equal, Function, Greater, GreaterOrEqual, Less, LessOrEqual, Nand, Nor, NotEqual, Or,
 };
@@ -66,7 +66,7 @@ pub struct TwoValued<P> {
     function: PhantomData<P>,
 }
 
-impl<P: TwoValuedFunction> Summary for TwoValued<P> {
+impl<P: TwoValuedFunction + Drop> Summary for TwoValued<P> {
     type Item = i64;
 
     ghost use Rattle.apl_scalar.specs.Scalar.{dyadic_numbers};
@@ -98,6 +98,14 @@ impl<P: TwoValuedFunction> Summary for TwoValued<P> {
 
     fn apply(&self, right: i64) -> Result<i64, Fault> {
         self.answers.apply::<P>(right)
+    }
+
+    fn of_run<K: Kernel<Out = i64>>(kernel: &K, from: usize, to: usize) -> Option<Self> {
+        let answers = answers_of_run::<P, K>(kernel, from, to)?;
+        Some(TwoValued {
+            answers,
+            function: PhantomData,
+        })
     }
 }
 

@@ -2,9 +2,9 @@
 ghost use Rattle.std.specs.Prelude.{◌*◌, ◌≤◌, length};
 ghost use Rattle.apl_pool.specs.declared.kernel.TheConstants.{MOST_PLACES};
 
-use apl_pool::{Every, Fault, MOST_PLACES, Open, Pool, Rows, Schedule, Stop};
+use apl_pool::{Every, Fault, Folds, MOST_PLACES, Open, Pool, Rows, Schedule, Stop, Summary};
 use apl_scalar::Prim;
-use apl_summary::{FoldedRows, fold_rows};
+use apl_summary::{FoldedRows, SignedSum, fold_rows};
 use std::test::Fail;
 
 /// The number 1 at each place of each row, but a fault at one place, and what comes in to each row.
@@ -137,4 +137,31 @@ fn folds_of_rows(rt: HostRuntime) -> Result<(), Fail> {
         }
     }
     Ok(())
+}
+
+/// Several workers bring zeros beside the folds, and one worker brings none.
+#[test]
+fn zeros_beside_folds(rt: HostRuntime) {
+    let incoming = [Ok(0), Ok(0), Ok(0)];
+    for schedule in [Schedule::Claims, Schedule::Deques] {
+        for (workers, zeros, wanted) in [
+            (1u8, 5, 0),
+            (2, 0, 0),
+            (3, 5, 5),
+            (64, 100_000, 100_000),
+        ] {
+            let rows = Ones {
+                rows: 3,
+                count: 10_000,
+                faulty: (NOWHERE, NOWHERE),
+                incoming: incoming.as_slice(),
+            };
+            let pool = Pool::with(workers, schedule, Every(4096), Open);
+            let folds: Folds<SignedSum<0>> = pool.fold_rows_beside(&rt, rt.alloc(), &rows, zeros);
+            let are_sums = folds.summaries.iter().all(|sum| sum.apply(0) == Ok(10_000));
+            let are_zeros = folds.zeros.iter().all(|number| *number == 0);
+            assert!(rt; are_sums && folds.summaries.len() == 3 && folds.end == Ok(()));
+            assert!(rt; are_zeros && folds.zeros.len() == wanted);
+        }
+    }
 }

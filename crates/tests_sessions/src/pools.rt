@@ -93,6 +93,38 @@ fn the_least_fault_is_the_answer(rt: HostRuntime) -> Result<(), Fail> {
     Ok(())
 }
 
+/// Whatever the values of a list were, they are those of the kernel then, or the least fault is the answer.
+#[test]
+fn a_list_is_written_over(rt: HostRuntime) -> Result<(), Fail> {
+    for workers in [1, 2, 3, 64u8] {
+        for (count, piece) in [(0, 1), (1, 4096), (7, 2), (100_000, 4096)] {
+            let pool = Pool::new(workers, Every(piece), Open);
+            let whole = Numbers {
+                count,
+                limit: count,
+            };
+            let old = vec![in rt.alloc(); 9; count]?;
+            let values = pool.fill_into(&rt, rt.alloc(), &whole, old)?;
+            let are_places = values
+                .iter()
+                .enumerate()
+                .all(|(place, value)| place == *value);
+            let faulty = Numbers {
+                count,
+                limit: count / 2,
+            };
+            let old = vec![in rt.alloc(); 9; count]?;
+            let fault = match pool.fill_into(&rt, rt.alloc(), &faulty, old) {
+                Err(Stop::Fault { place, .. }) => Some(place as usize),
+                _ => None,
+            };
+            let wanted = if count == 0 { None } else { Some(count / 2) };
+            assert!(rt; are_places && values.len() == count && fault == wanted);
+        }
+    }
+    Ok(())
+}
+
 #[test]
 fn several_workers_share_several_pieces(rt: HostRuntime) {
     for (workers, piece, count, wanted) in [

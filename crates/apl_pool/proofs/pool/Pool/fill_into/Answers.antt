@@ -3,7 +3,7 @@ use Rattle.std.proofs.Math.Seq.{take-append_seam}
 use Rattle.std.proofs.lemmas.Result.{err_from_is_err_and}
 use Rattle.apl_pool.specs.Pool.{AreValues}
 use Rattle.apl_pool.proofs.Values.{AreValues-from_zero, IsStopOf-from_zero}
-use Rattle.apl_pool.proofs.pool.fill_shares.Goals as goal
+use Rattle.apl_pool.proofs.pool.Pool.fill_into.Goals as goal
 
 pub returns-in_err-fill_values-clause-stop : goal.returns-in_err-fill_values-clause-stop
 returns-in_err-fill_values-clause-stop g c =
@@ -16,7 +16,7 @@ returns-clause-values g c =
     let count = g.K.Kernel.place_count c.args.kernel.now in
     let told = c.in_ok-fill_values.ensures in
     let all = c.fill_values.new.values in
-    let old = c.in_ok-values.values in
-    let long : length all ≡ old.len = omega (arith, told.len, c.as_mut_slice-room.ensures.len) in
+    let old = c.args.values in
+    let long : length all ≡ old.len = omega (arith, told.len, c.as_mut_slice.ensures.len) in
     let same : take old.len (all ++ drop (length all) old.items) ≡ all = ap (λ k. take k (all ++ drop (length all) old.items)) (sym long) ∙ take-append_seam all (drop (length all) old.items) in
     subst (λ l. AreValues outcome count l) (sym same) (AreValues-from_zero outcome count all told.ok)
