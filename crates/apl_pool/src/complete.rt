@@ -4,13 +4,13 @@ ghost use Rattle.apl_pool.specs.declared.kernel.TheConstants.{MOST_PLACES};
 ghost use Rattle.apl_pool.specs.Parts.{AreValuesFrom, AreValuesAt, IsStopFrom};
 ghost use Rattle.apl_pool.specs.Crew.{AreMarks};
 
+use super::copies::Copies;
 use super::gate::Gate;
 use super::kernel::{Kernel, Stop};
 use super::pass::{Pass, fill_rooms};
 use super::pieces::{Piece, Pieces};
 use super::tasks::Values;
 use super::work::write_piece;
-use super::zeros::Zeros;
 use std::thread::Threads;
 
 /// The values of one piece at its places in the list. Where they don't stand there already the first worker writes them, who passes
@@ -81,6 +81,6 @@ where
 {
     let pieces = pass.shares.pieces();
     let task = Values { kernel, pieces };
-    let brought = fill_rooms(pass, &task, values, Zeros::none(pass.alloc))?;
+    let brought = fill_rooms(pass, &task, values, Copies::none(pass.alloc))?;
     complete(kernel, pass.gate, pieces, brought.marks.as_slice(), values)
 }

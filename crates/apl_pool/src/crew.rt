@@ -1,24 +1,24 @@
 //! What several workers do at once: the first in this thread, and each other one in a thread of its own. This thread starts them
 //! all: a thread that has only just begun tends to share its processor with what it starts.
 ghost use Rattle.std.specs.Thread.{IsSync};
-ghost use Rattle.std.specs.Prelude.{◌≡◌, ℕ, ◌+◌, ◌-◌, ◌<◌, ◌≤◌, ◌*◌, pos, replicate};
+ghost use Rattle.std.specs.Prelude.{◌≡◌, ℕ, ◌+◌, ◌-◌, ◌<◌, ◌≤◌, ◌*◌, replicate};
 ghost use Rattle.apl_board.specs.Seats.{view, IsSeatOf};
 ghost use Rattle.apl_pool.specs.Crew.{AreSeatsOf, AreRoomsFor};
 
+use super::copies::Copies;
 use super::ends::Ends;
 use super::gate::Gate;
 use super::shares::Shares;
-use super::zeros::Zeros;
 use apl_board::{Board, BoardSeat};
 use apl_rooms::{Filled, RoomSeat, Rooms, Task};
 use std::thread::{Threads, join};
 
-/// The seats of some workers, at the rooms of all pieces and at the board, and the zeros that they wrote.
+/// The seats of some workers, at the rooms of all pieces and at the board, and the copies that they wrote.
 #[derive(Drop)]
 pub(crate) struct Seats<T> {
     pub rooms: RoomSeat<T>,
     pub board: BoardSeat,
-    pub zeros: Vec<i64>,
+    pub copies: Vec<i64>,
 }
 
 /// The number of the next piece: of the worker's deques where there are some, else from the board.
@@ -92,26 +92,26 @@ fn split_one<T, F: Task<T>>(
     ensures rest { AreSeatsOf rooms.now board.now result.0 (share - 1) }
     ensures one { AreSeatsOf rooms.now board.now result.1 1 }
 {
-    let none = Vec::new(*seats.zeros.allocator());
+    let none = Vec::new(*seats.copies.allocator());
     let (rest, one) = rooms.split(seats.rooms);
     match board.split(seats.board, 1) {
         Ok((others, own)) => (
             Seats {
                 rooms: rest,
                 board: others,
-                zeros: seats.zeros,
+                copies: seats.copies,
             },
             Seats {
                 rooms: one,
                 board: own,
-                zeros: none,
+                copies: none,
             },
         ),
         Err(_) => unreachable!(),
     }
 }
 
-/// The seats of both, and the zeros of the rest.
+/// The seats of both, and the copies of the rest.
 fn join_seats<T, F: Task<T>>(
     rooms: &Rooms<T, F>,
     board: &Board,
@@ -123,17 +123,17 @@ fn join_seats<T, F: Task<T>>(
     requires rest { AreSeatsOf rooms.now board.now rest (share - 1) }
     requires one { AreSeatsOf rooms.now board.now one 1 }
     ensures seats { AreSeatsOf rooms.now board.now result share }
-    ensures zeros { result.zeros ≡ rest.zeros }
+    ensures copies { result.copies ≡ rest.copies }
 {
     Seats {
         rooms: rooms.join(rest.rooms, one.rooms),
         board: board.join(rest.board, one.board),
-        zeros: rest.zeros,
+        copies: rest.copies,
     }
 }
 
 /// What the first `workers` workers do, each with the ends of the deques that are its own where there are some. The first one writes the
-/// zeros before.
+/// copies before.
 #[cycle(crew)]
 pub(crate) fn work_together<T: Send, R: Threads + Sync, F: Task<T> + Sync, G: Gate + Sync>(
     rt: &R,
@@ -145,7 +145,7 @@ pub(crate) fn work_together<T: Send, R: Threads + Sync, F: Task<T> + Sync, G: Ga
     workers: u8,
     ends: Vec<Ends>,
     seats: Seats<T>,
-    zeros: Zeros,
+    copies: Copies,
 ) -> Seats<T>
     requires some { 0 < workers }
     requires within { workers ≤ shares.now.tasks }
@@ -153,19 +153,19 @@ pub(crate) fn work_together<T: Send, R: Threads + Sync, F: Task<T> + Sync, G: Ga
     requires pieces { F.piece_count task.now ≡ shares.now.rows * shares.now.pieces.count }
     requires seats { AreSeatsOf rooms.now board.now seats workers }
     ensures seats { AreSeatsOf rooms.now board.now result workers }
-    ensures zeros { result.zeros.items ≡ replicate zeros.count (pos 0) }
+    ensures copies { result.copies.items ≡ replicate copies.count copies.number }
 {
     let mut ends = ends;
     let own = ends.pop();
     let others = workers - 1;
     let worker = shares.share(others as usize).worker;
     if others == 0 {
-        let zeros = zeros.written();
+        let copies = copies.written();
         let seats = work(rooms, board, task, gate, shares, worker, own, seats);
         return Seats {
             rooms: seats.rooms,
             board: seats.board,
-            zeros,
+            copies,
         };
     }
     let (rest, one) = split_one(rooms, board, seats, workers);
@@ -176,10 +176,10 @@ pub(crate) fn work_together<T: Send, R: Threads + Sync, F: Task<T> + Sync, G: Ga
     let before = move || -> Seats<T>
         requires { IsSync R.row × IsSync F.row × IsSync G.row × (0 < others) × (others ≤ shares.now.tasks) × AreRoomsFor T.row F.start_of F.piece_count rooms.now task.now
             × (F.piece_count task.now ≡ shares.now.rows * shares.now.pieces.count) × AreSeatsOf rooms.now board.now rest others }
-        ensures { AreSeatsOf rooms.entry.now board.entry.now result others × (result.zeros.items ≡ replicate zeros.count (pos 0)) }
+        ensures { AreSeatsOf rooms.entry.now board.entry.now result others × (result.copies.items ≡ replicate copies.count copies.number) }
     {
         work_together(
-            rt, rooms, board, task, gate, shares, others, ends, rest, zeros,
+            rt, rooms, board, task, gate, shares, others, ends, rest, copies,
         )
     };
     let (one, rest) = join(rt, last, before);

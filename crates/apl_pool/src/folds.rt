@@ -1,11 +1,12 @@
 //! What a worker does with its share of a fold: the items at its places are summarized.
-ghost use Rattle.std.specs.Prelude.{◌≡◌, ℕ, pos, ◌+◌, ◌-◌, ◌*◌, ◌<◌, ◌≤◌, true, false, Result, None, IfOk, length, replicate, slice_index, slice_index_or, slice_set, vec_len, vec_capacity};
+ghost use Rattle.std.specs.Prelude.{◌≡◌, ℕ, ◌+◌, ◌-◌, ◌*◌, ◌<◌, ◌≤◌, true, false, Result, None, IfOk, length, replicate, slice_index, slice_index_or, slice_set, vec_len, vec_capacity};
 ghost use Rattle.apl_pool.specs.declared.kernel.Fault.{Fault};
 ghost use Rattle.apl_pool.specs.declared.kernel.TheConstants.{MOST_PLACES};
 ghost use Rattle.apl_pool.specs.declared.summary.TheConstants.{LONGEST_RUN};
 ghost use Rattle.apl_pool.specs.Folds.{items_in, IsFolded, IsFoldedPart, ArePartsOf};
 ghost use Rattle.apl_pool.specs.Summaries.{AreFolds};
 
+use super::copies::Copies;
 use super::cut::Cut;
 use super::gate::Gate;
 use super::kernel::{Kernel, Stop};
@@ -15,7 +16,6 @@ use super::rows::{Folds, Row, Rows};
 use super::summary::{LONGEST_RUN, Summary};
 use super::tasks::Summaries;
 use super::work::{next_piece, stop_at};
-use super::zeros::Zeros;
 use std::alloc::{AllocError, Global};
 use std::thread::Threads;
 
@@ -188,7 +188,7 @@ fn join_parts<S: Summary + Drop, K: Kernel<Out = S::Item>, G: Gate>(
     Ok(folded)
 }
 
-/// The summaries of all rows, one after the other, put into the room for them, and the zeros beside them.
+/// The summaries of all rows, one after the other, put into the room for them, and the copies beside them.
 fn join_rows<S: Summary + Drop, K: Rows<Out = S::Item>, G: Gate>(
     rows: &K,
     gate: &G,
@@ -196,7 +196,7 @@ fn join_rows<S: Summary + Drop, K: Rows<Out = S::Item>, G: Gate>(
     marks: &[bool],
     parts: &mut [Option<S>],
     room: Vec<S>,
-    zeros: Vec<i64>,
+    copies: Vec<i64>,
 ) -> Folds<S>
     requires some { 0 < K.place_count rows.now }
     requires places { pieces.now.places ≡ K.place_count rows.now }
@@ -207,7 +207,7 @@ fn join_rows<S: Summary + Drop, K: Rows<Out = S::Item>, G: Gate>(
     requires empty { vec_len room ≡ 0 }
     requires room { K.row_count rows.now ≤ vec_capacity room }
     ensures folds { AreFolds S.step S.item_count S.outcome (K.outcome rows.now) (K.row_count rows.now) (K.place_count rows.now) result.summaries.items result.end }
-    ensures zeros { result.zeros ≡ zeros }
+    ensures copies { result.copies ≡ copies }
 {
     let mut summaries = room;
     let count = rows.rows();
@@ -219,7 +219,7 @@ fn join_rows<S: Summary + Drop, K: Rows<Out = S::Item>, G: Gate>(
                 return Folds {
                     summaries,
                     end: Err(stop),
-                    zeros,
+                    copies,
                 };
             }
         }
@@ -227,11 +227,11 @@ fn join_rows<S: Summary + Drop, K: Rows<Out = S::Item>, G: Gate>(
     Folds {
         summaries,
         end: Ok(()),
-        zeros,
+        copies,
     }
 }
 
-/// The summaries of all rows, by one worker who has all pieces, and the zeros beside them. The first piece of each row ends at `end`.
+/// The summaries of all rows, by one worker who has all pieces, and the copies beside them. The first piece of each row ends at `end`.
 pub(crate) fn fold_rows_alone<S: Summary + Drop, K: Rows<Out = S::Item>, C: Cut, G: Gate>(
     rows: &K,
     cut: &C,
@@ -239,14 +239,14 @@ pub(crate) fn fold_rows_alone<S: Summary + Drop, K: Rows<Out = S::Item>, C: Cut,
     worker: u8,
     end: usize,
     room: Vec<S>,
-    zeros: Vec<i64>,
+    copies: Vec<i64>,
 ) -> Folds<S>
     requires some { 0 < end }
     requires within { end ≤ K.place_count rows.now }
     requires empty { vec_len room ≡ 0 }
     requires room { K.row_count rows.now ≤ vec_capacity room }
     ensures folds { AreFolds S.step S.item_count S.outcome (K.outcome rows.now) (K.row_count rows.now) (K.place_count rows.now) result.summaries.items result.end }
-    ensures zeros { result.zeros ≡ zeros }
+    ensures copies { result.copies ≡ copies }
 {
     let mut summaries = room;
     for row in 0..rows.rows() {
@@ -257,7 +257,7 @@ pub(crate) fn fold_rows_alone<S: Summary + Drop, K: Rows<Out = S::Item>, C: Cut,
                 return Folds {
                     summaries,
                     end: Err(stop),
-                    zeros,
+                    copies,
                 };
             }
         }
@@ -265,7 +265,7 @@ pub(crate) fn fold_rows_alone<S: Summary + Drop, K: Rows<Out = S::Item>, C: Cut,
     Folds {
         summaries,
         end: Ok(()),
-        zeros,
+        copies,
     }
 }
 
@@ -281,7 +281,7 @@ fn no_parts<S: Drop>(alloc: Global, count: usize) -> Result<Vec<Option<S>>, Allo
 }
 
 /// The summaries of all rows, by several workers, who put one of each piece into a list of as many parts; then those of each row are
-/// joined. The first worker writes the zeros before.
+/// joined. The first worker writes the copies before.
 fn fold_into_parts<
     R: Threads + Sync,
     S: Summary + Drop + Send,
@@ -292,7 +292,7 @@ fn fold_into_parts<
     rows: &K,
     parts: &mut [Option<S>],
     room: Vec<S>,
-    zeros: Zeros,
+    copies: Copies,
 ) -> Result<Folds<S>, AllocError>
     requires some { 0 < K.place_count rows.now }
     requires rows { pass.now.shares.now.rows ≡ K.row_count rows.now }
@@ -301,13 +301,13 @@ fn fold_into_parts<
     requires empty { vec_len room ≡ 0 }
     requires room { K.row_count rows.now ≤ vec_capacity room }
     ensures folds { IfOk result (λ f. AreFolds S.step S.item_count S.outcome (K.outcome rows.now) (K.row_count rows.now) (K.place_count rows.now) f.summaries.items f.end) }
-    ensures zeros { IfOk result (λ f. f.zeros.items ≡ replicate zeros.count (pos 0)) }
+    ensures copies { IfOk result (λ f. f.copies.items ≡ replicate copies.count copies.number) }
 {
     let pieces = pass.shares.pieces();
     let task = Summaries { rows, pieces };
-    let brought = fill_rooms(pass, &task, parts, zeros)?;
+    let brought = fill_rooms(pass, &task, parts, copies)?;
     let marks = brought.marks;
-    let zeros = brought.zeros;
+    let copies = brought.copies;
     Ok(join_rows(
         rows,
         pass.gate,
@@ -315,25 +315,25 @@ fn fold_into_parts<
         marks.as_slice(),
         parts,
         room,
-        zeros,
+        copies,
     ))
 }
 
-/// The summaries of all rows, by several workers, of whom the first writes the zeros before.
+/// The summaries of all rows, by several workers, of whom the first writes the copies before.
 pub(crate) fn fold_rows_together<
     R: Threads + Sync,
     S: Summary + Drop + Send,
     K: Rows<Out = S::Item> + Sync,
     G: Gate + Sync,
->(pass: &Pass<R, G>, rows: &K, room: Vec<S>, zeros: Zeros) -> Result<Folds<S>, AllocError>
+>(pass: &Pass<R, G>, rows: &K, room: Vec<S>, copies: Copies) -> Result<Folds<S>, AllocError>
     requires some { 0 < K.place_count rows.now }
     requires rows { pass.now.shares.now.rows ≡ K.row_count rows.now }
     requires places { pass.now.shares.now.pieces.places ≡ K.place_count rows.now }
     requires empty { vec_len room ≡ 0 }
     requires room { K.row_count rows.now ≤ vec_capacity room }
     ensures folds { IfOk result (λ f. AreFolds S.step S.item_count S.outcome (K.outcome rows.now) (K.row_count rows.now) (K.place_count rows.now) f.summaries.items f.end) }
-    ensures zeros { IfOk result (λ f. f.zeros.items ≡ replicate zeros.count (pos 0)) }
+    ensures copies { IfOk result (λ f. f.copies.items ≡ replicate copies.count copies.number) }
 {
     let mut parts = no_parts(pass.alloc, pass.shares.count())?;
-    fold_into_parts(pass, rows, parts.as_mut_slice(), room, zeros)
+    fold_into_parts(pass, rows, parts.as_mut_slice(), room, copies)
 }

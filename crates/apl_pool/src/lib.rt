@@ -6,6 +6,7 @@
 #![tactic(auto)]
 
 mod complete;
+mod copies;
 mod crew;
 mod cut;
 mod ends;
@@ -21,7 +22,6 @@ mod shares;
 mod summary;
 mod tasks;
 mod work;
-mod zeros;
 
 pub use cut::{Cut, Every};
 pub use gate::{Gate, Open};

@@ -1,16 +1,16 @@
 //! One pass of several workers over the rooms of all pieces.
 ghost use Rattle.std.specs.Thread.{IsSync};
-ghost use Rattle.std.specs.Prelude.{◌≡◌, ◌<◌, ◌≤◌, IfOk, IfSome, length, ◌*◌, pos, replicate};
+ghost use Rattle.std.specs.Prelude.{◌≡◌, ◌<◌, ◌≤◌, IfOk, IfSome, length, ◌*◌, replicate};
 ghost use Rattle.core.specs.Mem.Slots.{slots_items, slots_len, IsFull, Refills};
 ghost use Rattle.apl_board.specs.Seats.{view, IsSeatOf};
 ghost use Rattle.apl_pool.specs.Crew.{AreMarks};
 
+use super::copies::Copies;
 use super::crew::{Seats, work_together};
 use super::ends::{Ends, deal};
 use super::gate::Gate;
 use super::schedule::Schedule;
 use super::shares::Shares;
-use super::zeros::Zeros;
 use apl_board::{Board, BoardSeat};
 use apl_rooms::{Rooms, Task};
 use core::slots::{Slots, with_slots};
@@ -27,11 +27,11 @@ pub(crate) struct Pass<'a, R, G> {
     pub schedule: Schedule,
 }
 
-/// What the workers of a pass bring: a mark for each piece whose values are right, and a list of zeros.
+/// What the workers of a pass bring: a mark for each piece whose values are right, and a list of copies.
 #[derive(Drop)]
 pub(crate) struct Brought {
     pub marks: Vec<bool>,
-    pub zeros: Vec<i64>,
+    pub copies: Vec<i64>,
 }
 
 /// All workers fill the rooms of a row, which comes back with what they bring besides. That is missing for want of memory.
@@ -44,7 +44,7 @@ fn fill_row<T: Send, R: Threads + Sync, F: Task<T> + Sync, G: Gate + Sync>(
     board: &Board,
     seat: BoardSeat,
     ends: Vec<Ends>,
-    zeros: Zeros,
+    copies: Copies,
     row: Slots<T>,
 ) -> (Slots<T>, Option<Brought>)
     requires full { IsFull row }
@@ -53,7 +53,7 @@ fn fill_row<T: Send, R: Threads + Sync, F: Task<T> + Sync, G: Gate + Sync>(
     requires seat { IsSeatOf board.now seat × ((view seat).share ≡ shares.now.tasks) }
     ensures row { Refills row result.0 }
     ensures marks { IfSome result.1 (λ b. AreMarks (F.is_right task.now) (F.start_of task.now) (F.piece_count task.now) (slots_items result.0) b.marks.items) }
-    ensures zeros { IfSome result.1 (λ b. b.zeros.items ≡ replicate zeros.count (pos 0)) }
+    ensures copies { IfSome result.1 (λ b. b.copies.items ≡ replicate copies.count copies.number) }
 {
     let workers = shares.tasks() as u8;
     match Rooms::new(alloc, row, task, workers) {
@@ -61,32 +61,32 @@ fn fill_row<T: Send, R: Threads + Sync, F: Task<T> + Sync, G: Gate + Sync>(
             let seats = Seats {
                 rooms: places,
                 board: seat,
-                zeros: Vec::new(alloc),
+                copies: Vec::new(alloc),
             };
             let seats = work_together(
-                rt, &rooms, board, task, gate, shares, workers, ends, seats, zeros,
+                rt, &rooms, board, task, gate, shares, workers, ends, seats, copies,
             );
             let (row, marks) = rooms.close(seats.rooms);
-            let zeros = seats.zeros;
-            (row, Some(Brought { marks, zeros }))
+            let copies = seats.copies;
+            (row, Some(Brought { marks, copies }))
         }
         Err(row) => (row, None),
     }
 }
 
-/// All workers fill the room of each piece where it lies in the list, and the first one writes the zeros before. Of a piece that is marked
+/// All workers fill the room of each piece where it lies in the list, and the first one writes the copies before. Of a piece that is marked
 /// the values are right; of another one nothing is known.
 pub(crate) fn fill_rooms<T: Send, R: Threads + Sync, F: Task<T> + Sync, G: Gate + Sync>(
     pass: &Pass<R, G>,
     task: &F,
     values: &mut [T],
-    zeros: Zeros,
+    copies: Copies,
 ) -> Result<Brought, AllocError>
     requires all { F.start_of task.now (F.piece_count task.now) ≡ length values.old }
     requires pieces { F.piece_count task.now ≡ pass.now.shares.now.rows * pass.now.shares.now.pieces.count }
     ensures len { length values.new ≡ length values.old }
     ensures marks { IfOk result (λ b. AreMarks (F.is_right task.now) (F.start_of task.now) (F.piece_count task.now) values.new b.marks.items) }
-    ensures zeros { IfOk result (λ b. b.zeros.items ≡ replicate zeros.count (pos 0)) }
+    ensures copies { IfOk result (λ b. b.copies.items ≡ replicate copies.count copies.number) }
 {
     let (alloc, gate, shares) = (pass.alloc, pass.gate, pass.shares);
     let (board, seat) = Board::new(alloc, shares.count() as u32, shares.tasks() as u8)?;
@@ -103,10 +103,10 @@ pub(crate) fn fill_rooms<T: Send, R: Threads + Sync, F: Task<T> + Sync, G: Gate 
                 requires { IsSync F.row × IsSync G.row × IsFull row × (F.start_of task.now (F.piece_count task.now) ≡ slots_len row) × (F.piece_count task.now ≡ shares.now.rows * shares.now.pieces.count)
                     × IsSeatOf board seat × ((view seat).share ≡ shares.now.tasks) }
                 ensures { Refills row result.0 × IfSome result.2 (λ b. AreMarks (F.is_right task.entry.now) (F.start_of task.entry.now) (F.piece_count task.entry.now) (slots_items result.0) b.marks.items)
-                    × IfSome result.2 (λ b. b.zeros.items ≡ replicate zeros.count (pos 0)) }
+                    × IfSome result.2 (λ b. b.copies.items ≡ replicate copies.count copies.number) }
             {
                 let (row, brought) = fill_row(
-                    rt, alloc, task, gate, shares, &board, seat, ends, zeros, row,
+                    rt, alloc, task, gate, shares, &board, seat, ends, copies, row,
                 );
                 (row, (), brought)
             },

@@ -1,11 +1,12 @@
 //! The pool: how many workers there are, how the places are cut, and what a worker passes before each piece.
-ghost use Rattle.std.specs.Prelude.{◌≡◌, ℕ, ◌+◌, ◌<◌, ◌≤◌, ◌⊎◌, pos, false, List, [], IfOk, IfSome, OnOk, IfErr, length, replicate, vec_len};
+ghost use Rattle.std.specs.Prelude.{◌≡◌, ℕ, ◌+◌, ◌<◌, ◌≤◌, ◌⊎◌, false, List, [], IfOk, IfSome, OnOk, IfErr, length, replicate, vec_len};
 ghost use Rattle.apl_pool.specs.declared.kernel.TheConstants.{MOST_PLACES};
 ghost use Rattle.apl_pool.specs.declared.pool.TheConstants.{MOST_WORKERS};
 ghost use Rattle.apl_pool.specs.Pool.{AreValues, IsStopOf};
 ghost use Rattle.apl_pool.specs.Summaries.{IsSummaryOf, AreFolds};
 
 use super::complete::fill_values;
+use super::copies::Copies;
 use super::cut::Cut;
 use super::folds::{fold_rows_alone, fold_rows_together};
 use super::gate::Gate;
@@ -17,7 +18,6 @@ use super::schedule::Schedule;
 use super::shares::Shares;
 use super::summary::Summary;
 use super::work::append_all;
-use super::zeros::Zeros;
 use std::alloc::{AllocError, Global};
 use std::thread::Threads;
 
@@ -170,26 +170,26 @@ impl<C: Cut + Sync, G: Gate + Sync> Pool<C, G> {
         requires some { 0 < K.place_count rows.now }
         ensures { AreFolds S.step S.item_count S.outcome (K.outcome rows.now) (K.row_count rows.now) (K.place_count rows.now) result.summaries.items result.end }
     {
-        self.fold_rows_beside(rt, alloc, rows, 0)
+        self.fold_rows_beside(rt, alloc, rows, 0, 0)
     }
 
-    /// The same, and so many zeros, where several workers share the pieces: the first one writes them before it takes a piece, while the
-    /// others fold.
+    /// The same, and so many copies of a number, where several workers share the pieces: the first one writes them before it takes a piece,
+    /// while the others fold.
     pub fn fold_rows_beside<
         R: Threads + Sync,
         S: Summary + Drop + Send,
         K: Rows<Out = S::Item> + Sync,
-    >(&self, rt: &R, alloc: Global, rows: &K, zeros: usize) -> Folds<S>
+    >(&self, rt: &R, alloc: Global, rows: &K, number: i64, count: usize) -> Folds<S>
         requires some { 0 < K.place_count rows.now }
         ensures folds { AreFolds S.step S.item_count S.outcome (K.outcome rows.now) (K.row_count rows.now) (K.place_count rows.now) result.summaries.items result.end }
-        ensures zeros { (result.zeros.items ≡ []) ⊎ (result.zeros.items ≡ replicate zeros (pos 0)) }
+        ensures copies { (result.copies.items ≡ []) ⊎ (result.copies.items ≡ replicate count number) }
     {
-        match self.fold_pieces(rt, alloc, rows, zeros) {
+        match self.fold_pieces(rt, alloc, rows, number, count) {
             Ok(folds) => folds,
             Err(AllocError) => Folds {
                 summaries: Vec::new(alloc),
                 end: Err(Stop::Memory),
-                zeros: Vec::new(alloc),
+                copies: Vec::new(alloc),
             },
         }
     }
@@ -200,23 +200,24 @@ impl<C: Cut + Sync, G: Gate + Sync> Pool<C, G> {
         rt: &R,
         alloc: Global,
         rows: &K,
-        zeros: usize,
+        number: i64,
+        count: usize,
     ) -> Result<Folds<S>, AllocError>
         requires some { 0 < K.place_count rows.now }
         ensures folds { IfOk result (λ f. AreFolds S.step S.item_count S.outcome (K.outcome rows.now) (K.row_count rows.now) (K.place_count rows.now) f.summaries.items f.end) }
-        ensures zeros { IfOk result (λ f. (f.zeros.items ≡ []) ⊎ (f.zeros.items ≡ replicate zeros (pos 0))) }
+        ensures copies { IfOk result (λ f. (f.copies.items ≡ []) ⊎ (f.copies.items ≡ replicate count number)) }
     {
-        let (count, places) = (rows.rows(), rows.count());
-        let room = Vec::with_capacity(alloc, count)?;
+        let (row_count, places) = (rows.rows(), rows.count());
+        let room = Vec::with_capacity(alloc, row_count)?;
         let end = piece_end(&self.cut, 0, places);
-        if self.workers == 1 || count == 0 || (count == 1 && end == places) {
+        if self.workers == 1 || row_count == 0 || (row_count == 1 && end == places) {
             let last = self.workers - 1;
             let none = Vec::new(alloc);
             return Ok(fold_rows_alone(rows, &self.cut, &self.gate, last, end, room, none));
         }
-        let shares = Shares::new(alloc, &self.cut, count, places, end, self.workers)?;
-        let zeros = Zeros::with_room(alloc, zeros)?;
-        fold_rows_together(&self.pass(rt, alloc, &shares), rows, room, zeros)
+        let shares = Shares::new(alloc, &self.cut, row_count, places, end, self.workers)?;
+        let copies = Copies::with_room(alloc, number, count)?;
+        fold_rows_together(&self.pass(rt, alloc, &shares), rows, room, copies)
     }
 
     /// A pass of several workers who have these shares.

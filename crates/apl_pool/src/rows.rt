@@ -90,13 +90,13 @@ impl<X, K: Kernel<Out = X>> Rows for OneRow<'_, K> {
     }
 }
 
-/// The summaries of the rows in front of the first that has none, and why that has none; and the zeros beside them.
+/// The summaries of the rows in front of the first that has none, and why that has none; and the copies beside them.
 #[derive(Drop)]
 pub struct Folds<S> {
     /// Those of the rows from the first on.
     pub summaries: Vec<S>,
     /// `Ok` where each row has one.
     pub end: Result<(), Stop>,
-    /// As many as were asked for, where several workers shared the pieces; else none.
-    pub zeros: Vec<i64>,
+    /// As many of a number as were asked for, where several workers shared the pieces; else none.
+    pub copies: Vec<i64>,
 }

@@ -71,8 +71,8 @@ fn carry_on<S: Summary<Item = i64> + Copy + Drop>(chunks: &Chunks, summaries: &m
     }
 }
 
-/// For each chunk the summary of its line up to the end of the chunk; and where several workers made them as many zeros as there are
-/// numbers.
+/// For each chunk the summary of its line up to the end of the chunk; and where several workers made them as many copies of a number as
+/// there are numbers.
 pub(crate) fn summarize<
     S: Summary<Item = i64> + Copy + Drop + Send,
     R: Threads + Sync,
@@ -83,8 +83,9 @@ pub(crate) fn summarize<
     ensures joined { IfOk result (λ f. AreUpToChunks S.step (λ k. S.item_count k.summary) (λ k. S.outcome k.summary) chunks.now.numbers.now chunks.now.items chunks.now.per_line chunks.now.rows f.summaries.items) }
     ensures memory { IfErr result (λ stop. stop ≡ Stop.Memory) }
 {
-    let zeros = chunks.numbers.len();
-    let mut folds: Folds<Kept<S>> = pool.fold_rows_beside(rt, alloc, chunks, zeros);
+    let count = chunks.numbers.len();
+    // 1 and not 0: for a number of equal bytes the compiler calls `memset`, which takes longer than a loop.
+    let mut folds: Folds<Kept<S>> = pool.fold_rows_beside(rt, alloc, chunks, 1, count);
     folds.end?;
     carry_on(chunks, folds.summaries.as_mut_slice());
     Ok(folds)

@@ -36,14 +36,14 @@ struct Scans<'a, S: Summary<Item = i64>> {
     ghost joined: { AreUpToChunks S.step (λ k. S.item_count k.summary) (λ k. S.outcome k.summary) numbers.now items per_line (length beginnings.now) beginnings.now },
 }
 
-/// Puts so many zeros behind other values.
-fn append_zeros(values: &mut Vec<i64>, len: usize)
+/// Puts so many ones behind other values. They are no zeros: for these the compiler calls `memset`, which takes longer than a loop.
+fn append_ones(values: &mut Vec<i64>, len: usize)
     requires { vec_len values.old + len ≤ vec_capacity values.old }
-    ensures items { values.new.items ≡ values.old.items ++ replicate len (pos 0) }
+    ensures items { values.new.items ≡ values.old.items ++ replicate len (pos 1) }
     ensures capacity { vec_capacity values.new ≡ vec_capacity values.old }
 {
     for _more in 0..len {
-        values.push_reserved(0);
+        values.push_reserved(1);
     }
 }
 
@@ -165,7 +165,7 @@ impl<S: Running + Copy + Drop> Kernel for Scans<'_, S> {
             return from;
         }
         let start = values.len();
-        append_zeros(values, len);
+        append_ones(values, len);
         let done = self.scan_run(from, &mut values.as_mut_slice()[start..]);
         values.truncate(start + done);
         from + done
@@ -180,7 +180,8 @@ impl<S: Running + Copy + Drop> Kernel for Scans<'_, S> {
     }
 }
 
-/// The summaries of the beginnings of all lines, so many of each; and where several workers made them as many zeros as there are numbers.
+/// The summaries of the beginnings of all lines, so many of each; and where several workers made them as many copies of a
+/// number as there are numbers.
 fn summarize_lines<
     S: Summary<Item = i64> + Copy + Drop + Send,
     R: Threads + Sync,
@@ -205,7 +206,7 @@ fn summarize_lines<
         return Ok(Folds {
             summaries: Vec::new(alloc),
             end: Ok(()),
-            zeros: Vec::new(alloc),
+            copies: Vec::new(alloc),
         });
     }
     let rows = numbers.len() / items * per_line;
@@ -228,7 +229,7 @@ fn put_line<S: Running>(alloc: Global, numbers: &[i64]) -> Result<Option<Vec<i64
         return Ok(None);
     }
     let mut values = Vec::with_capacity(alloc, numbers.len())?;
-    append_zeros(&mut values, numbers.len());
+    append_ones(&mut values, numbers.len());
     if S::put_folds(&None, numbers, values.as_mut_slice()) < numbers.len() {
         return Ok(None);
     }
@@ -279,7 +280,7 @@ fn fill_summarized<
     let per_line = (items - 1) / CHUNK;
     let before: Folds<Kept<S>> = summarize_lines(rt, alloc, pool, numbers, items, per_line)?;
     let beginnings = before.summaries;
-    let room = before.zeros;
+    let room = before.copies;
     let scans = Scans {
         numbers,
         items: Divisor::new(items),
