@@ -151,6 +151,10 @@ class Placing(InstallTest):
         self.assertEqual(found, "%s/bin/aplcalc\n" % self.prefix)
         told = self.succeed([self.clone / "install", self.prefix], PATH="%s/bin:%s" % (self.prefix, os.environ["PATH"]))
         self.assertIn("%s/bin is on your PATH" % self.prefix, told)
+        self.assertNotIn("But ", told)
+        path = "%s:%s/bin" % (self.path_with("aplcalc", ""), self.prefix)
+        told = self.succeed([self.clone / "install", self.prefix], PATH=path)
+        self.assertIn("But %s/before/bin/aplcalc comes before %s/bin/aplcalc on your PATH." % (self.folder, self.prefix), told)
 
     def test_removal_leaves_what_others_put_there(self):
         install = self.small_clone()

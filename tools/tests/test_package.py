@@ -18,7 +18,9 @@ FILES = ["bin/aplcalc", "lib/aplcalc/aplcalc", "share/man/man1/aplcalc.1.gz", "s
 
 def output(*command, typed=None, **variables):
     """What a command writes that must succeed."""
-    return subprocess.run([str(word) for word in command], env={**os.environ, **variables}, input=typed, capture_output=True, text=True,
+    environment = {**os.environ, **variables}
+    environment.pop("SOURCE_DATE_EPOCH", None)
+    return subprocess.run([str(word) for word in command], env=environment, input=typed, capture_output=True, text=True,
                           encoding="utf-8", timeout=120, check=True).stdout
 
 
