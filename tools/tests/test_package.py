@@ -6,6 +6,7 @@ import hashlib
 import os
 import pathlib
 import subprocess
+import sys
 import tempfile
 import unittest
 
@@ -60,6 +61,14 @@ class Package(unittest.TestCase):
         self.assertEqual(output(command, typed="+/31 4 15\n6×7\n"), "50\n42\n")
         self.assertEqual((self.root / "usr/lib/aplcalc/aplcalc").read_bytes(), (TOP / "release/aplcalc").read_bytes())
 
+    @unittest.skipUnless((TOP / "tools/aplrun").exists(), "tools/aplrun: not found")
+    def test_scripts_and_python_find_the_unpacked_program(self):
+        alone = {"PATH": "/usr/bin:/bin", "PYTHONDONTWRITEBYTECODE": "1", "APLCALC": ""}
+        self.assertEqual(output(sys.executable, self.root / "usr/bin/aplrun", "-e", "6×7", **alone), "42\n")
+        asked = "import aplcalc\nwith aplcalc.Calculator() as apl: print(apl('+/31 4 15'))"
+        packages = self.root / "usr/lib/python3/dist-packages"
+        self.assertEqual(output(sys.executable, "-c", asked, PYTHONPATH=str(packages), **alone), "50\n")
+
     def test_version_and_dependencies(self):
         version, date = output(TOP / "release/version").split()
         self.assertEqual(self.packages[0].name, "aplcalc_%s_amd64.deb" % version)
@@ -76,7 +85,7 @@ class Package(unittest.TestCase):
         for line in output("dpkg-deb", "-c", self.packages[0], TZ="UTC").splitlines():
             mode, owner, _, day, hour, path = line.split(None, 5)
             self.assertEqual((owner, day, hour), ("root/root", date, "00:00"), line)
-            self.assertIn(mode, ("drwxr-xr-x",) if path.endswith("/") else ("-rw-r--r--", "-rwxr-xr-x"), line)
+            self.assertIn(mode, ("drwxr-xr-x", "lrwxrwxrwx", "-rw-r--r--", "-rwxr-xr-x"), line)
             if path in programs:
                 self.assertEqual(mode, "-rwxr-xr-x", line)
 
