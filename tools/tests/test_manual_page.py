@@ -4,6 +4,7 @@ import pathlib
 import re
 import shlex
 import subprocess
+import sys
 import tempfile
 import unittest
 
@@ -12,7 +13,7 @@ from common import PROGRAM, TOP, needs
 PAGES = sorted((TOP / "tools").glob("*.1"))
 SECTIONS = ["NAME", "SYNOPSIS", "DESCRIPTION", "OPTIONS", "EXIT STATUS", "ENVIRONMENT", "EXAMPLES", "SEE ALSO"]
 COMPLETIONS = TOP / "tools" / "completions"
-COMMANDS = [path for path in (TOP / "tools" / "apl", TOP / "tools" / "aplrun") if path.exists()]
+APLRUN = TOP / "tools" / "aplrun"
 RULES = ["claims", "deques"]
 BASH = '. "$1"; shift; COMP_WORDS=("$@"); COMP_CWORD=$(($# - 1)); _aplcalc; printf "%s\\n" "${COMPREPLY[@]}"'
 ZSH_SETTINGS = """
@@ -93,6 +94,8 @@ class ManualPage(unittest.TestCase):
 
     def test_options_are_those_of_the_help(self):
         self.assertEqual(options_of(source_of(TOP / "tools/aplcalc.1")), options_of(run(PROGRAM, "--help")))
+        if APLRUN.exists():
+            self.assertEqual(options_of(source_of(TOP / "tools/aplrun.1")), options_of(run(sys.executable, APLRUN, "--help")))
 
     def test_examples(self):
         with tempfile.TemporaryDirectory() as name:
@@ -101,7 +104,7 @@ class ManualPage(unittest.TestCase):
             (folder / "prices.csv").write_text("3,5\n4,6\n", encoding="utf-8")
             (folder / "aplcalc").symlink_to(PROGRAM)
             path = "%s:%s:%s" % (folder, TOP / "tools", os.environ["PATH"])
-            for page in [TOP / "tools/aplcalc.1"] + [TOP / "tools/aplrun.1"] * ((TOP / "tools/aplrun") in COMMANDS):
+            for page in [TOP / "tools/aplcalc.1"] + [TOP / "tools/aplrun.1"] * APLRUN.exists():
                 blocks = re.findall(r"\n\.EX\n(.*?)\.EE\n", source_of(page), re.S)
                 self.assertTrue(blocks)
                 for typed, shown in [part for block in blocks for part in re.findall(r"^\$ (.*)\n((?:(?!\$ ).*\n)*)", block, re.M)]:
