@@ -47,8 +47,8 @@ def options_of(text):
 
 def source_of(page):
     """A page's text without the escapes of its format that these pages have."""
-    text = page.read_text(encoding="utf-8")
-    for written, meant in ((r"\(aq", "'"), (r"\-", "-"), (r"\&", ""), (r"\e", "\\")):
+    text = re.sub(r"\\f[BIR]", "", page.read_text(encoding="utf-8"))
+    for written, meant in ((r"\(aq", "'"), (r"\-", "-"), (r"\~", " "), (r"\&", ""), (r"\e", "\\")):
         text = text.replace(written, meant)
     return text
 
