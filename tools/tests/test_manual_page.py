@@ -80,9 +80,11 @@ class ManualPage(unittest.TestCase):
         for page in PAGES:
             heading = '.TH %s 1 %s "aplcalc %s" "User Commands"' % (page.stem.upper(), date, version)
             self.assertEqual(page.read_text(encoding="utf-8").split("\n")[0], heading)
-        for project in [TOP / "tools/python/pyproject.toml", TOP / "contrib/jupyter/pyproject.toml"]:
-            if project.exists():
-                self.assertIn('\nversion = "%s"\n' % version, project.read_text(encoding="utf-8"), project)
+        others = {"tools/python/pyproject.toml": 'version = "%s"', "contrib/jupyter/pyproject.toml": 'version = "%s"',
+                  "contrib/emacs/aplcalc.el": ";; Version: %s"}
+        for name, line in others.items():
+            if (TOP / name).exists():
+                self.assertIn("\n%s\n" % (line % version), (TOP / name).read_text(encoding="utf-8"), name)
 
     def test_the_newest_version_is_the_first_heading(self):
         versions = re.findall(r"^## (.*)$", (TOP / "CHANGELOG.md").read_text(encoding="utf-8"), re.M)
