@@ -202,6 +202,19 @@ class Placing(InstallTest):
         self.assertTrue((self.folder / "package/usr/bin/aplcalc").exists())
         self.assertFalse((self.folder / "package/usr" / LIST).exists())
 
+    def test_printed_pages_are_installed_if_they_are_of_these_pages(self):
+        install = self.small_clone()
+        page, printed = self.clone / "docs/MANUAL.md", self.clone / "docs/out/manual.html"
+        for path in (page, printed):
+            path.parent.mkdir(parents=True, exist_ok=True)
+            path.write_text(path.name, encoding="utf-8")
+        for later, expected in ((1, True), (-1, False)):
+            time = page.stat().st_mtime + later
+            os.utime(printed, (time, time))
+            self.succeed([install, self.prefix])
+            self.assertEqual((self.prefix / "share/doc/aplcalc/manual.html").exists(), expected)
+            self.assertTrue((self.prefix / "share/doc/aplcalc/docs/MANUAL.md").exists())
+
     def test_wrong_usage(self):
         install = self.small_clone()
         for words in (["--wrong"], ["--remove", "--wrong"], [self.prefix, self.prefix], ["--remove", self.prefix, "x"], [""]):
