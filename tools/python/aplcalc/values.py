@@ -161,7 +161,7 @@ def in_range(ravel: List[int]) -> List[int]:
     """The numbers, each of which must be one of the language's."""
     if ravel and not LEAST <= min(ravel) <= max(ravel) <= GREATEST:
         place = next(place for place, item in enumerate(ravel) if not LEAST <= item <= GREATEST)
-        raise ConversionError("item %d in row order, %s, is not from %d to %d" % (place, reprlib.repr(ravel[place]), LEAST, GREATEST))
+        raise ConversionError("item %d in row order is not from %d to %d" % (place, LEAST, GREATEST))
     return ravel
 
 
