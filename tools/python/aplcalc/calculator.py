@@ -4,7 +4,7 @@ import re
 from types import TracebackType
 from typing import Any, NamedTuple, Optional, Tuple, Type
 
-from .errors import AplError, CalculatorError, InvalidLine, InvalidName
+from .errors import AplError, Busy, CalculatorError, InvalidLine, InvalidName
 from .reports import BLANKS, report, report_of, without_return
 from .session import Session
 from .values import CHARACTERS, NUMBERS, Value, constant, numbers
@@ -60,7 +60,11 @@ class Calculator(Session):
         return self
 
     def __exit__(self, kind: Optional[Type[BaseException]], error: Optional[BaseException], trace: Optional[TracebackType]) -> None:
-        self.close()
+        """Ends the session, also in the middle of a call."""
+        try:
+            self.close()
+        except Busy:
+            self.kill()
 
     def __call__(self, line: str, timeout: Optional[float] = None) -> Any:
         """The value of a line as Python has it: an int, a str, or lists nested by the shape. Value.python tells what these can't show.

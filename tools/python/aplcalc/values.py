@@ -116,11 +116,11 @@ def unnested(given: Any) -> Tuple[Tuple[int, ...], List[Any]]:
     level = [given]
     while any(are_lists := set(map(is_list, set(map(type, level))))):
         if not all(are_lists):
-            raise ConversionError("the list is ragged: along axis %d it has lists and other items side by side" % len(shape))
+            raise ConversionError("the list is ragged: at depth %d it has lists and other items side by side" % len(shape))
         lengths = set(map(len, level))
         if len(lengths) > 1:
-            raise ConversionError("the list is ragged: along axis %d it has lists of %d and of %d items"
-                                  % (len(shape), min(lengths), max(lengths)))
+            raise ConversionError("the list is ragged: its lists at depth %d have from %d to %d items"
+                                  % (len(shape) + 1, min(lengths), max(lengths)))
         shape += lengths
         if len(shape) > MOST_AXES:
             raise ConversionError("an array has at most %d axes" % MOST_AXES)
