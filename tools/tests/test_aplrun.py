@@ -1,4 +1,5 @@
 """aplrun: what it writes where, its exit statuses, the tables and texts that go in, and the values that come out."""
+import io
 import json
 import os
 import pathlib
@@ -10,8 +11,12 @@ import sys
 import tempfile
 import time
 import unittest
+from unittest import mock
 
 from common import PROGRAM, TOP, needs
+
+sys.path.insert(0, str(TOP / "tools" / "python"))
+from aplcalc.run import main  # noqa: E402
 
 APLRUN = TOP / "tools" / "aplrun"
 BLANKS = " " * 6
@@ -19,12 +24,26 @@ LONG_WORK = "(20000⍴1)+.×20000 20000⍴1"
 SESSIONS = sorted([*TOP.glob("sessions/*.apl"), *TOP.glob("examples/*.apl")])
 
 
-def aplrun(*words, text=b"", **environment):
-    """Runs the command: its status, and what it writes to standard output and standard error."""
-    given = text.encode() if isinstance(text, str) else text
-    run = subprocess.run([sys.executable, str(APLRUN), *words], input=given, capture_output=True, timeout=60,
-                         env={**os.environ, "APLCALC": PROGRAM, **environment})
-    return run.returncode, run.stdout.decode("utf-8", "surrogateescape"), run.stderr.decode("utf-8", "surrogateescape")
+def stream(data=b""):
+    """A standard stream that is kept in memory."""
+    return io.TextIOWrapper(io.BytesIO(data), encoding="utf-8")
+
+
+def aplrun(*words, text=b"", program=PROGRAM):
+    """Runs the command in this process: its status, and what it writes to standard output and standard error."""
+    given = stream(text.encode() if isinstance(text, str) else text)
+    answers, told = stream(), stream()
+    with mock.patch.multiple(sys, stdin=given, stdout=answers, stderr=told), mock.patch.dict(os.environ, APLCALC=program):
+        try:
+            status = main(words)
+        except SystemExit as end:
+            status = end.code
+    return status, whole(answers), whole(told)
+
+
+def whole(written):
+    written.flush()
+    return written.buffer.getvalue().decode("utf-8", "surrogateescape")
 
 
 class InFolder(unittest.TestCase):
@@ -65,7 +84,7 @@ class Sessions(InFolder):
     def test_it_writes_what_the_calculator_writes(self):
         for path in SESSIONS:
             with self.subTest(session=path.name):
-                wanted = subprocess.run([PROGRAM], stdin=path.open("rb"), capture_output=True).stdout.decode("utf-8", "surrogateescape")
+                wanted = subprocess.run([PROGRAM], input=path.read_bytes(), capture_output=True).stdout.decode("utf-8", "surrogateescape")
                 status, transcript, told = aplrun("--keep-going", "--transcript", str(path))
                 lines = [line.removesuffix("\r") for line in path.read_bytes().decode("utf-8", "surrogateescape").split("\n")]
                 answers, reports = answers_of(transcript, lines)
@@ -264,7 +283,7 @@ class Usage(InFolder):
     def test_options_are_handed_on(self):
         echo = self.file("echo", '#!/bin/sh\necho "$@" >&2\nexit 3\n')
         os.chmod(echo, 0o755)
-        told = aplrun("--workers", "2", "--piece", "7", "--schedule", "claims", "-e", "1", APLCALC=echo)[2]
+        told = aplrun("--workers", "2", "--piece", "7", "--schedule", "claims", "-e", "1", program=echo)[2]
         self.assertIn("--workers 2 --piece 7 --schedule claims", told)
         self.assertEqual(aplrun("--workers", "2", "--piece", "1", "--schedule", "claims", "-e", "+/⍳1000"), (0, "500500\n", ""))
 
@@ -276,7 +295,7 @@ class Usage(InFolder):
                 self.assertIn(words[-1].rpartition("=")[2], told)
 
     def test_no_program(self):
-        self.assertEqual(aplrun("-e", "1", APLCALC="/nowhere/aplcalc")[0:2], (1, ""))
+        self.assertEqual(aplrun("-e", "1", program="/nowhere/aplcalc")[0:2], (1, ""))
 
     def test_several_lines_in_one(self):
         self.assertEqual(aplrun("-e", "A←5\nA", "--line=-A"), (0, "5\n¯5\n", ""))
@@ -311,7 +330,7 @@ class Ends(InFolder):
     def test_a_calculator_that_ends(self):
         dies = self.file("dies", "#!/bin/sh\nread line\necho no memory >&2\nexit 1\n")
         os.chmod(dies, 0o755)
-        status, answers, told = aplrun("-e", "1", APLCALC=dies)
+        status, answers, told = aplrun("-e", "1", program=dies)
         self.assertEqual((status, answers), (1, ""))
         self.assertIn("status 1: no memory", told)
 
