@@ -218,7 +218,7 @@ def failure(error: Exception) -> str:
 def main(words: Optional[Sequence[str]] = None) -> int:
     """The command. Its status is told in its help."""
     if None in (sys.stdin, sys.stdout, sys.stderr):
-        return FAILED
+        sys.exit("aplrun: standard input, standard output or standard error is closed")
     try:
         return run(arguments_of(words))
     except KeyboardInterrupt:
