@@ -182,14 +182,16 @@ class Data(InFolder):
 
     def test_cells_that_are_no_whole_numbers(self):
         for name, text, words in (("t.csv", "1,2\n3,4.5\n", "row 2, column 2: '4.5'"), ("t.csv", "1,2\n\n3,\n", "row 3, column 2: ''"),
-                                  ("t.csv", "n,m\n1,2\n", "row 1, column 1: 'n' is no whole number"), ("t.csv", "1\n9223372036854775808\n", "row 2, column 1"),
-                                  ("t.csv", "1e3\n", "row 1, column 1"), ("t.csv", "1,2\n3\n", "row 2 has 1 cells, and row 1 has 2"),
-                                  ("t.csv", "٣\n", "row 1, column 1"), ("t.csv", "1_0\n", "row 1, column 1"), ("t.csv", "%s\n" % ("9" * 9999), "row 1, column 1"),
-                                  ("t.tsv", "1\t2\n3\t4,5\n", "row 2, column 2: '4,5'"), ("t.json", "[[1,2],[3,4.5]]", "row 2, column 2: 4.5"),
+                                  ("t.csv", "n,m\n1,2\n", "row 1, column 1: 'n' is no whole number"),
+                                  ("t.csv", "1\n9223372036854775808\n", "row 2, column 1"), ("t.csv", "1e3\n", "row 1, column 1"),
+                                  ("t.csv", "1,2\n3\n", "row 2 has 1 cells, and row 1 has 2"), ("t.csv", "٣\n", "row 1, column 1"),
+                                  ("t.csv", "1_0\n", "row 1, column 1"), ("t.csv", "%s\n" % ("9" * 9999), "row 1, column 1"),
+                                  ("t.tsv", "1\t2\n3\t4,5\n", "row 2, column 2: '4,5'"),
+                                  ("t.json", "[[1,2],[3,4.5]]", "row 2, column 2: 4.5"),
                                   ("t.json", "[[1,true]]", "row 1, column 2: True"), ("t.json", "[[1,null]]", "row 1, column 2: None"),
-                                  ("t.json", "[[1,2],[3]]", "ragged"), ("t.json", "[[1,2],3]", "ragged"), ("t.json", "[1,{}]", "item 2: {}"),
-                                  ("t.json", "{}", "t.json: {}"), ("t.json", "[1", "no JSON"), ("t.json", "[" * 99999, "no JSON"),
-                                  ("t.json", "[[%s]]" % ("9" * 9999), "row 1, column 1")):
+                                  ("t.json", "[[1,2],[3]]", "ragged"), ("t.json", "[[1,2],3]", "ragged"),
+                                  ("t.json", "[1,{}]", "item 2: {}"), ("t.json", "{}", "t.json: {}"), ("t.json", "[1", "no JSON"),
+                                  ("t.json", "[" * 99999, "no JSON"), ("t.json", "[[%s]]" % ("9" * 9999), "row 1, column 1")):
             with self.subTest(text=text[:30]):
                 status, answers, told = aplrun("--table", "T=" + self.file(name, text), "-e", "5")
                 self.assertEqual((status, answers, told.count("\n")), (1, "", 1), told)
@@ -222,7 +224,8 @@ class Data(InFolder):
 
     def test_several_at_once(self):
         table, text = self.file("t.csv", "1,2\n"), self.file("t.txt", "AB\n")
-        self.assertEqual(aplrun("--table", "T=" + table, "--table", "U=" + table, "--text", "V=" + text, "-e", "T+U", "-e", "V"), (0, "2 4\nAB\n", ""))
+        words = ["--table", "T=" + table, "--table", "U=" + table, "--text", "V=" + text, "-e", "T+U", "-e", "V"]
+        self.assertEqual(aplrun(*words), (0, "2 4\nAB\n", ""))
 
 
 class Results(InFolder):
@@ -266,9 +269,10 @@ class Results(InFolder):
 class Usage(InFolder):
     def test_wrong_usage(self):
         path = self.file("t.txt", "")
-        for words in (["--table", "T"], ["--table", "T=t.txt"], ["--table", "1=t.csv"], ["--text", "T="], ["--text", "=t"], ["--skip", "-1"],
-                      ["--out", "xml", "A"], ["--out", "json", "1"], ["--out", "json"], ["--workers", "0"], ["--workers", "65"], ["--piece", "x"],
-                      ["--piece", "1048577"], ["--schedule", "none"], [path, "-e", "1"], [path, path], ["--nothing"], ["--trans", path]):
+        for words in (["--table", "T"], ["--table", "T=t.txt"], ["--table", "1=t.csv"], ["--text", "T="], ["--text", "=t"],
+                      ["--skip", "-1"], ["--out", "xml", "A"], ["--out", "json", "1"], ["--out", "json"], ["--workers", "0"],
+                      ["--workers", "65"], ["--piece", "x"], ["--piece", "1048577"], ["--schedule", "none"], [path, "-e", "1"],
+                      [path, path], ["--nothing"], ["--trans", path]):
             with self.subTest(words=words):
                 status, answers, told = aplrun(*words)
                 self.assertEqual((status, answers), (2, ""))
@@ -277,7 +281,8 @@ class Usage(InFolder):
     def test_help(self):
         status, answers, told = aplrun("--help")
         self.assertEqual((status, told), (0, ""))
-        for word in ("--keep-going", "--transcript", "--table", "--text", "--out", "--skip", "--workers", "--piece", "--schedule", "exit status"):
+        for word in ("--keep-going", "--transcript", "--table", "--text", "--out", "--skip", "--workers", "--piece", "--schedule",
+                     "exit status"):
             self.assertIn(word, answers)
 
     def test_options_are_handed_on(self):
@@ -302,9 +307,14 @@ class Usage(InFolder):
 
 
 class Ends(InFolder):
+    def started(self, *lines, **streams):
+        """The command in a process group of its own."""
+        words = [sys.executable, str(APLRUN), *(word for line in lines for word in ("-e", line))]
+        given = {"stdout": subprocess.PIPE, "stderr": subprocess.PIPE, "start_new_session": True, **streams}
+        return subprocess.Popen(words, env={**os.environ, "APLCALC": PROGRAM}, **given)
+
     def test_a_reader_that_ends_early(self):
-        command = subprocess.Popen([sys.executable, str(APLRUN), "-e", "1", "-e", "2000000⍴1 2 3"], stdout=subprocess.PIPE, stderr=subprocess.PIPE,
-                                   env={**os.environ, "APLCALC": PROGRAM})
+        command = self.started("1", "2000000⍴1 2 3")
         self.assertEqual(command.stdout.readline(), b"1\n")
         command.stdout.close()
         told = command.stderr.read()
@@ -313,17 +323,17 @@ class Ends(InFolder):
 
     def test_a_full_device(self):
         with open("/dev/full", "wb") as full:
-            run = subprocess.run([sys.executable, str(APLRUN), "-e", "1"], stdout=full, stderr=subprocess.PIPE, env={**os.environ, "APLCALC": PROGRAM})
-        self.assertEqual((run.returncode, run.stderr), (1, b"aplrun: writing failed: No space left on device\n"))
+            command = self.started("1", stdout=full)
+            _, told = command.communicate(timeout=30)
+        self.assertEqual((command.returncode, told), (1, b"aplrun: writing failed: No space left on device\n"))
 
     def test_an_interrupt(self):
-        for is_group in (False, True):
-            with self.subTest(is_group=is_group):
-                command = subprocess.Popen([sys.executable, str(APLRUN), "-e", "1", "-e", LONG_WORK], stdout=subprocess.PIPE, stderr=subprocess.PIPE,
-                                           env={**os.environ, "APLCALC": PROGRAM}, start_new_session=True)
+        for signalled in (os.kill, os.killpg):
+            with self.subTest(signalled=signalled):
+                command = self.started("1", LONG_WORK)
                 self.assertEqual(command.stdout.readline(), b"1\n")
                 time.sleep(0.1)
-                (os.killpg if is_group else os.kill)(command.pid, signal.SIGINT)
+                signalled(command.pid, signal.SIGINT)
                 _, told = command.communicate(timeout=30)
                 self.assertEqual((command.returncode, told), (130, b""))
 

@@ -103,9 +103,9 @@ class RoundTrips(WithCalculator):
                 self.assertEqual(self.apl.value(line), value)
 
     def test_what_python_types_become(self):
-        for given, value in ((True, Value((), NUMBERS, [1])), ((1, 2), Value((2,), NUMBERS, [1, 2])), (range(3), Value((3,), NUMBERS, [0, 1, 2])),
-                             ([True, 7], Value((2,), NUMBERS, [1, 7])), ("A", Value((1,), CHARACTERS, "A")),
-                             (["A"], Value((1, 1), CHARACTERS, "A"))):
+        for given, value in ((True, Value((), NUMBERS, [1])), ((1, 2), Value((2,), NUMBERS, [1, 2])),
+                             (range(3), Value((3,), NUMBERS, [0, 1, 2])), ([True, 7], Value((2,), NUMBERS, [1, 7])),
+                             ("A", Value((1,), CHARACTERS, "A")), (["A"], Value((1, 1), CHARACTERS, "A"))):
             with self.subTest(given=given):
                 self.apl["A"] = given
                 self.assertEqual(self.apl.value("A"), value)
@@ -125,13 +125,14 @@ class RoundTrips(WithCalculator):
 
 class Reports(WithCalculator):
     LINES = (("1 2+1 2 3", "LENGTH ERROR", 3), ("(2 2⍴0)+1 2", "RANK ERROR", 7), ("7÷2", "DOMAIN ERROR", 1), ("2*63", "LIMIT ERROR", 1),
-             ("9223372036854775808", "LIMIT ERROR", 0), ("(⍳3)[4]", "INDEX ERROR", 4), ("TOTAL", "VALUE ERROR", 0), ("2+TOTAL", "VALUE ERROR", 2),
-             ("3+", "SYNTAX ERROR", 1), ("(1+2", "SYNTAX ERROR", 0), ("1)", "SYNTAX ERROR", 0), ("  1)", "SYNTAX ERROR", 2),
-             ("←5", "SYNTAX ERROR", 0), ("[1]←5", "SYNTAX ERROR", 0), ("3←4", "SYNTAX ERROR", 0), ("1 ¯ 2", "SYNTAX ERROR", 2),
-             ("'AB", "SYNTAX ERROR", 0), ("A←", "SYNTAX ERROR", 1), ("A[1]←5", "VALUE ERROR", 0), ("É", "CHARACTER ERROR", 0),
-             ("1 ⍝ É", "CHARACTER ERROR", 4), ("⍝ É", "CHARACTER ERROR", 2), (")CLEAR É", "CHARACTER ERROR", 7), ("A←'É'", "CHARACTER ERROR", 3),
-             ("1+1\t", "CHARACTER ERROR", 3), (")FOO", "INCORRECT COMMAND", None), (" ) ", "INCORRECT COMMAND", None),
-             (")WIDTH 7", "INCORRECT COMMAND", None), ("B←5+÷0×C←4", "DOMAIN ERROR", 4))
+             ("9223372036854775808", "LIMIT ERROR", 0), ("(⍳3)[4]", "INDEX ERROR", 4), ("TOTAL", "VALUE ERROR", 0),
+             ("2+TOTAL", "VALUE ERROR", 2), ("3+", "SYNTAX ERROR", 1), ("(1+2", "SYNTAX ERROR", 0), ("1)", "SYNTAX ERROR", 0),
+             ("  1)", "SYNTAX ERROR", 2), ("←5", "SYNTAX ERROR", 0), ("[1]←5", "SYNTAX ERROR", 0), ("3←4", "SYNTAX ERROR", 0),
+             ("1 ¯ 2", "SYNTAX ERROR", 2), ("'AB", "SYNTAX ERROR", 0), ("A←", "SYNTAX ERROR", 1), ("A[1]←5", "VALUE ERROR", 0),
+             ("É", "CHARACTER ERROR", 0), ("1 ⍝ É", "CHARACTER ERROR", 4), ("⍝ É", "CHARACTER ERROR", 2),
+             (")CLEAR É", "CHARACTER ERROR", 7), ("A←'É'", "CHARACTER ERROR", 3), ("1+1\t", "CHARACTER ERROR", 3),
+             (")FOO", "INCORRECT COMMAND", None), (" ) ", "INCORRECT COMMAND", None), (")WIDTH 7", "INCORRECT COMMAND", None),
+             ("B←5+÷0×C←4", "DOMAIN ERROR", 4))
 
     def test_kind_line_and_column(self):
         for line, kind, column in self.LINES:
@@ -169,9 +170,11 @@ class Reports(WithCalculator):
         self.assertEqual(self.apl("⍉⍉⍉⍉A"), ["VALUE ERROR", "      ⍉⍉⍉⍉A", "          ∧"])
 
     def test_texts_that_are_nearly_reports(self):
-        for text in ("LENGTH ERROR\n      1 2+1 2 3\n         ∧ \n", "LENGTH ERROR\n     1 2+1 2 3\n         ∧\n", "LENGTH ERROR\n      1 2+1 2 3\n",
-                     "LENGTH ERROR\n      1 2+1 2 3\n               ∧\n", "LENGTH  ERROR\n      1 2+1 2 3\n         ∧\n", "LENGTH ERROR\n      1 2+1 2\n         ∧\n",
-                     "CHARACTER ERROR\n      1 2+1 2 3\n               ∧\n", "WS FULL\n      1 2+1 2\n", "WS FULL\n", "INCORRECT COMMAND\n", ""):
+        for text in ("LENGTH ERROR\n      1 2+1 2 3\n         ∧ \n", "LENGTH ERROR\n     1 2+1 2 3\n         ∧\n",
+                     "LENGTH ERROR\n      1 2+1 2 3\n", "LENGTH ERROR\n      1 2+1 2 3\n               ∧\n",
+                     "LENGTH  ERROR\n      1 2+1 2 3\n         ∧\n", "LENGTH ERROR\n      1 2+1 2\n         ∧\n",
+                     "CHARACTER ERROR\n      1 2+1 2 3\n               ∧\n", "WS FULL\n      1 2+1 2\n", "WS FULL\n",
+                     "INCORRECT COMMAND\n", ""):
             with self.subTest(text=text):
                 self.assertIsNone(report_of("1 2+1 2 3", text))
 
@@ -203,10 +206,12 @@ class Refusals(WithCalculator):
         cyclic.append(cyclic)
         for given, words in ((1.5, "1.5, is no whole number"), ([1, 2.0], "item 1"), ([[1, 2], [3]], "ragged"), ([1, [2]], "ragged"),
                              (["AB", "C"], "lengths"), ([1, "A"], "'A', is no whole number"), ("É", "'É'"), ("A\nB", r"'\n'"),
-                             (GREATEST + 1, "is not from"), ([0, LEAST - 1], "item 1"), (10 ** 5000, "is not from"), (None, "None"), ({}, "{}"),
-                             (b"AB", "b'AB'"), (cyclic, "at most 15 axes"), (Value((1,) * 16, NUMBERS, [1]), "at most 15 axes"),
-                             (Value((2,), NUMBERS, [1]), "2 elements"), (Value((2,), NUMBERS, "AB"), "'A'"), (Value((1,), CHARACTERS, [1]), "list"),
-                             (Value((-1,), NUMBERS, []), "length"), (Value((0, 1 << 31), NUMBERS, []), "length"), (Value((1,), "bits", [1]), "bits")):
+                             (GREATEST + 1, "is not from"), ([0, LEAST - 1], "item 1"), (10 ** 5000, "is not from"), (None, "None"),
+                             ({}, "{}"), (b"AB", "b'AB'"), (cyclic, "at most 15 axes"),
+                             (Value((1,) * 16, NUMBERS, [1]), "at most 15 axes"), (Value((2,), NUMBERS, [1]), "2 elements"),
+                             (Value((2,), NUMBERS, "AB"), "'A'"), (Value((1,), CHARACTERS, [1]), "list"),
+                             (Value((-1,), NUMBERS, []), "length"), (Value((0, 1 << 31), NUMBERS, []), "length"),
+                             (Value((1,), "bits", [1]), "bits")):
             with self.subTest(words=words):
                 with self.assertRaisesRegex(ConversionError, ".*") as caught:
                     self.apl["A"] = given
@@ -226,7 +231,8 @@ class Refusals(WithCalculator):
         self.assertEqual(self.apl("2+3"), 5)
 
     def test_all_errors_have_one_base(self):
-        for name in ("AplError", "Busy", "ConversionError", "InvalidLine", "InvalidName", "ProgramEnded", "ProgramMissing", "SessionOver", "TimedOut"):
+        for name in ("AplError", "Busy", "ConversionError", "InvalidLine", "InvalidName", "ProgramEnded", "ProgramMissing", "SessionOver",
+                     "TimedOut"):
             self.assertTrue(issubclass(getattr(aplcalc, name), aplcalc.CalculatorError))
 
 

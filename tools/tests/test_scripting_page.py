@@ -89,9 +89,10 @@ class Page(unittest.TestCase):
 
     def test_links(self):
         text = PAGE.read_text(encoding="utf-8")
-        headings = {re.sub(r"[^\w -]", "", line.lstrip("# ").lower()).replace(" ", "-") for line in re.findall(r"^#+ .*$", text, re.MULTILINE)}
+        headings = re.findall(r"^#+ (.*)$", text, re.MULTILINE)
+        anchors = {re.sub(r"[^\w -]", "", heading.lower()).replace(" ", "-") for heading in headings}
         for target in re.findall(r"\]\(#([^)]*)\)", text):
-            self.assertIn(target, headings)
+            self.assertIn(target, anchors)
 
 
 if __name__ == "__main__":

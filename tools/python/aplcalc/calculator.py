@@ -72,12 +72,12 @@ class Calculator(Session):
         The line is evaluated exactly once. An assignment gives None, and so do a comment and )OFF; the other commands give the text that
         they write. A line that is refused raises AplError.
         """
-        if statement(line) is Statement.EXPRESSION:
+        kind = statement(line)
+        if kind is Statement.EXPRESSION:
             return self._written(line, timeout).value().python()
         text = self.text(line, timeout)
-        error = report_of(line, text)
-        if error is not None:
-            raise error
+        if text and (kind is not Statement.COMMAND or report_of(line, text)):
+            raise refusal(line, text)
         return text.rstrip("\n") or None
 
     def value(self, line: str, timeout: Optional[float] = None) -> Value:

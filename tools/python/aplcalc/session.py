@@ -6,7 +6,7 @@ import shutil
 import subprocess
 import threading
 import time
-from typing import IO, Iterable, Iterator, List, Optional, Union
+from typing import IO, Any, Generator, Iterable, Iterator, List, Optional, Tuple, Union
 
 from .errors import Busy, InvalidLine, ProgramEnded, ProgramMissing, SessionOver, TimedOut
 from .reports import BLANKS, WS_FULL
@@ -86,8 +86,9 @@ class Session:
         The lines are sent ahead of the answers. So the session is over where you leave the iterator before its end, and the timeout is for
         all of them together.
         """
-        with self._call(None) as deadline:
-            yield from map(decoded, self._answers(map(encoded, lines), deadline))
+        with self._call(None) as deadline, contextlib.closing(self._answers(map(encoded, lines), deadline)) as answers:
+            for answer in answers:
+                yield decoded(answer)
 
     def close(self) -> int:
         """Ends the session where it has not ended, and gives the calculator's exit status."""
@@ -119,9 +120,10 @@ class Session:
 
     def _ask(self, lines: List[str], deadline: Optional[float]) -> List[str]:
         """What each of the lines writes, in one exchange."""
-        return [decoded(answer) for answer in self._answers(iter([encoded(line) for line in lines]), deadline)]
+        with contextlib.closing(self._answers(iter([encoded(line) for line in lines]), deadline)) as answers:
+            return [decoded(answer) for answer in answers]
 
-    def _answers(self, lines: Iterator[bytes], deadline: Optional[float]) -> Iterator[bytes]:
+    def _answers(self, lines: Iterator[bytes], deadline: Optional[float]) -> Generator[bytes, None, None]:
         """What each line writes. After each one a text that nobody can foresee is sent, and its own answer tells where the line's ends."""
         mark = os.urandom(MARK_SIZE).hex().encode()
         outgoing, incoming = _Outgoing(lines, mark), _Incoming(mark)
@@ -148,10 +150,10 @@ class Session:
                         return
                 yield from incoming.answers()
 
-    def _ready(self, selector: selectors.BaseSelector, deadline: Optional[float]) -> list:
-        remaining = None if deadline is None else max(0.0, deadline - time.monotonic())
-        ready = selector.select(remaining)
-        if not ready:
+    def _ready(self, selector: selectors.BaseSelector, deadline: Optional[float]) -> List[Tuple[Any, int]]:
+        """The pipes that can be used; waits for one until the deadline."""
+        ready = selector.select(None if deadline is None else max(0.0, deadline - time.monotonic()))
+        if not ready and deadline is not None and time.monotonic() >= deadline:
             self._over = "the session was ended, since a call took too long"
             raise TimedOut("the calculator had not answered in time, and was ended")
         return ready
