@@ -146,6 +146,16 @@ class Reports(WithCalculator):
                 self.assertEqual(str(self.refused(line)) + "\n", self.apl.text(line))
                 self.assertEqual(str(report_of(line, self.apl.text(line))) + "\n", self.apl.text(line))
 
+    def test_every_line_of_the_sessions_is_refused_where_the_calculator_refuses_it(self):
+        for path in sorted([*TOP.glob("sessions/*.apl"), *TOP.glob("examples/*.apl")]):
+            lines = path.read_bytes().decode("utf-8", "surrogateescape").split("\n")
+            with self.subTest(session=path.name), Calculator(PROGRAM) as apl, Calculator(PROGRAM) as other:
+                for line in lines:
+                    given, wanted = catch(apl, line), report_of(line, other.text(line))
+                    self.assertEqual(str(given) if isinstance(given, AplError) else None, str(wanted) if wanted else None)
+                    if other.is_over:
+                        break
+
     def test_a_carriage_return_at_the_end_is_no_part_of_the_line(self):
         error = self.refused("1 2+1 2 3\r")
         self.assertEqual((error.line, error.column), ("1 2+1 2 3", 3))
@@ -242,6 +252,7 @@ class Lives(unittest.TestCase):
         self.assertIsNone(apl(")OFF"))
         for use in (lambda: apl("1"), lambda: apl.text("1"), lambda: apl["A"], lambda: list(apl.texts(["1"])), lambda: apl.value("1")):
             self.assertRaisesRegex(aplcalc.SessionOver, "OFF", use)
+        self.assertTrue(apl.is_over)
         self.assertEqual(apl.close(), 0)
         self.assertEqual(apl.close(), 0)
 

@@ -90,6 +90,11 @@ class Session:
             for answer in answers:
                 yield decoded(answer)
 
+    @property
+    def is_over(self) -> bool:
+        """Whether the session is known to have ended, so that each further call raises SessionOver."""
+        return self._over is not None
+
     def close(self) -> int:
         """Ends the session where it has not ended, and gives the calculator's exit status."""
         with self._one_at_a_time():
