@@ -21,7 +21,7 @@ from aplcalc.reports import ALPHABET, BLANKS  # noqa: E402
 SEED = 20240229
 SYSTEM_PYTHON = "/usr/bin/python3"
 LEAST, GREATEST = -9223372036854775808, 9223372036854775807
-LONG_WORK = "(20000⍴1)+.×20000 20000⍴1"
+LONG_WORK = "(3000 3000⍴1)+.×3000 3000⍴1"
 
 
 def has_numpy(python):
