@@ -212,8 +212,12 @@ calculator refuses wherever they are, also in texts and comments.")
     (aplcalc--send (get-buffer-process buffer) "")))
 
 (defun aplcalc--send (process line)
-  "Send LINE to PROCESS, and behind it the line that writes the mark."
+  "Send LINE to PROCESS, and behind it the line that writes the mark.
+Comint gave the typed line a face of its own, which hides the colours."
   (setq aplcalc--busy t)
+  (with-silent-modifications
+    (remove-text-properties comint-last-input-start comint-last-input-end '(font-lock-face nil)))
+  (font-lock-flush comint-last-input-start comint-last-input-end)
   (comint-send-string process (format "%s\n'%s'\n" line aplcalc--mark)))
 
 (defun aplcalc--take (text)
@@ -263,7 +267,9 @@ What was typed at the prompt stays there."
     (aplcalc--queue (current-buffer)
                     (if (< (point) (process-mark process))
                         (funcall comint-get-old-input)
-                      (delete-and-extract-region (process-mark process) (point-max))))))
+                      (delete-and-extract-region (process-mark process) (point-max))))
+    (when aplcalc--lines
+      (message "Lines that wait for the last answer: %d" (length aplcalc--lines)))))
 
 ;;; Files
 

@@ -151,7 +151,7 @@ class Emacs(unittest.TestCase):
         places = " ".join("(%d . %s)" % (line, quoted(text)) for line, text, _ in COLOURS)
         script = """
             (find-file (expand-file-name "a.apl" (getenv "HOME")))
-            (font-lock-mode 1) (font-lock-ensure)
+            (font-lock-ensure)
             (answer (list major-mode current-input-method (mapcar (lambda (place) (face-of (car place) (cdr place))) '(%s))))"""
         mode, method, faces = self.ask(script % places)
         self.assertEqual((mode, method), ("aplcalc-mode", "aplcalc"))
@@ -160,7 +160,8 @@ class Emacs(unittest.TestCase):
     def test_colours_of_a_session_leave_answers_out(self):
         script = """
             (aplcalc) (answered) (type "'IT''S',' 5'") (answered) (type "1+") (answered)
-            (font-lock-mode 1) (font-lock-ensure)
+            (setq-local char-property-alias-alist '((face font-lock-face)))
+            (font-lock-ensure)
             (answer (list current-input-method (face-of 1 "'IT") (face-of 2 "IT") (face-of 2 "5") (face-of 3 "+")
                           (face-of 4 "SYNTAX") (face-of 6 "∧")))"""
         wanted = ["aplcalc", "font-lock-string-face", None, None, "font-lock-function-name-face", "error", "error"]
