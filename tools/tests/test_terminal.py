@@ -55,8 +55,11 @@ class Screen:
     def wait_for_prompt(self):
         self.wait("a prompt", lambda: self.call("display-message", "-p", "#{cursor_x}") == "6\n")
 
-    def type(self, text, key="Enter"):
+    def write(self, text):
         self.call("send-keys", "-l", text)
+
+    def type(self, text, key="Enter"):
+        self.write(text)
         self.press(key)
 
     def press(self, *keys):
@@ -177,7 +180,9 @@ class Sessions(Terminal):
 
     def test_a_control_c_ends_the_session(self):
         screen = self.start()
-        screen.type("half a line", "C-c")
+        screen.write("half a line")
+        screen.wait_for("      half a line")
+        screen.press("C-c")
         self.assertEqual(screen.wait_for("status"), ["      half a line", "status 130"])
 
     def test_the_status_of_the_program_is_kept(self):
