@@ -163,6 +163,14 @@ class Sessions(Terminal):
         screen.type("0")
         self.assertEqual(screen.wait_for("41 42 43"), ["      1 2 3+40", "41 42 43"])
 
+    def test_a_history_that_can_not_be_written_is_told(self):
+        (self.folder / "file").write_text("")
+        screen = self.start(XDG_STATE_HOME=str(self.folder / "file"))
+        screen.wait_for("apl: no history is kept: the folder %s/aplcalc" % (self.folder / "file"))
+        screen.type("2+3")
+        screen.wait_for("5")
+        self.assertEqual(self.files_at_home(), [])
+
     def test_your_settings_are_read_and_kept(self):
         settings = self.home / ".inputrc"
         settings.write_text('"\\C-g": "6×7"\n', encoding="utf-8")
