@@ -27,7 +27,7 @@ class Keys(unittest.TestCase):
                 self.assertEqual(others(), page)
 
     def test_the_drawing_agrees_with_the_table(self):
-        drawn = dict(re.findall(r"(?<=│) (\S) (\S) (?=│)", PAGE))
+        drawn = dict(re.findall(r"(?<=│)(\S) (\S) (?=│)", PAGE))
         self.assertEqual(drawn, keys.keys_of_keyboard_page())
 
     def test_the_line_to_copy_has_all_symbols_once(self):
