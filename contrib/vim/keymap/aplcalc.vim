@@ -1,6 +1,6 @@
 " The symbols of aplcalc in Vim's insert mode: a backquote and the key of a keyboard of the United States on which the
 " system's layout 'apl' has the symbol.
-" Copy contrib/vim into ~/.vim, and say :set keymap=aplcalc. Two backquotes are one.
+" The filetype aplcalc switches it on; elsewhere say :set keymap=aplcalc. Two backquotes are one.
 let b:keymap_name = "apl"
 loadkeymap
 `2 ¯ " high minus
