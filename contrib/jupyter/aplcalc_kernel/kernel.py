@@ -107,6 +107,7 @@ class Cell:
         except SessionOver:
             if not self.is_first:
                 raise
+            self.kernel.calculator.end()
             self._write("stderr", NEW_SESSION)
             return self.kernel.calculator.text(self.line)
 

@@ -7,7 +7,7 @@ import signal
 import threading
 from typing import Iterator, Optional
 
-from aplcalc import Busy, Calculator, CalculatorError, SessionOver, report_of
+from aplcalc import Busy, Calculator, CalculatorError, report_of
 
 from .completion import NAME
 
@@ -28,14 +28,10 @@ class LastingSession:
         self._changes: list[str] = []
 
     def text(self, line: str) -> str:
-        """Exactly what a line writes. Where an earlier line has ended the session, that is told once, and the next line starts a new one."""
+        """Exactly what a line writes. Where an earlier line has ended the session it raises SessionOver, until end() is called."""
         if self._calculator is None:
             self._calculator = _started()
-        try:
-            text = self._calculator.text(line)
-        except SessionOver:
-            self.end()
-            raise
+        text = self._calculator.text(line)
         self._keep(line, text)
         return text
 
