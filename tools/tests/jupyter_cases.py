@@ -17,6 +17,8 @@ import unittest
 from unittest import mock
 
 from jupyter_client.manager import start_new_kernel
+from pygments.lexers import get_lexer_by_name
+from pygments.token import Error
 
 from common import PROGRAM, TOP
 
@@ -121,8 +123,9 @@ class Command(unittest.TestCase):
             for _ in range(2):
                 self.assertEqual(self.run_command("install", *words)[:2], (0, "the kernel %s is in %s\n" % (name, kernel)))
             spec = json.loads((kernel / "kernel.json").read_text(encoding="utf-8"))
-            self.assertEqual(spec["argv"], [sys.executable, "-Xfrozen_modules=off", "-m", "aplcalc_kernel", "start", "-f", "{connection_file}"])
-            self.assertEqual(spec["env"], {"PYTHONPATH": str(CLONE), "APLCALC": PROGRAM})
+            self.assertEqual(spec["argv"], [sys.executable, "-Xfrozen_modules=off", "-m", "aplcalc_kernel", "start", "-f",
+                                            "{connection_file}"])
+            self.assertEqual(spec["env"], {"PYTHONSAFEPATH": "1", "PYTHONPATH": str(CLONE), "APLCALC": PROGRAM})
             command = "uninstall" if words else "remove"
             self.assertEqual(self.run_command(command, *words), (0, "removed %s\n" % kernel, ""))
             self.assertFalse(kernel.exists())
@@ -205,6 +208,12 @@ class Cells(KernelCase):
         page = (TOP / "docs" / "NOTEBOOKS.md").read_text(encoding="utf-8")
         cell, shown = re.search(r"```\n(T←.*?\n)```\n.*?```\n(.*?)```\n", page, re.S).groups()
         self.assertEqual(self.text_of(cell), shown)
+
+    def test_the_lexer_of_pages_knows_every_symbol(self):
+        lexer = get_lexer_by_name(self.asked("kernel_info")["language_info"]["pygments_lexer"])
+        for symbol in SYMBOLS:
+            text = "'a'" if symbol.character == "'" else "A" + symbol.character
+            self.assertNotIn(Error, [kind for kind, _ in lexer.get_tokens(text)], symbol.character)
 
     def test_a_line_is_whole(self):
         for code in ("'AB", "2+", "(", ""):

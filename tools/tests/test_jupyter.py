@@ -128,6 +128,12 @@ class Completions(unittest.TestCase):
                 self.assertEqual((offered.start, offered.end), (start, len(code)))
                 self.assertEqual([offer.text for offer in offered.offers], texts.split())
 
+    def test_a_bracket_that_the_editor_closed_goes_with_its_key(self):
+        for before, after, end in (("A`[", "]", 4), ("A`(", ")+1", 4), ("(A`(", "))", 5), ("(A`(", ")", 4), ("X[A`[", "]]\n", 6),
+                                   ("X[A`[", "]\n]", 5), ("A`[", "B", 3), ("(`r", ")", 3), ("(1)\n`(", ")\n(2)", 7)):
+            with self.subTest(before + "|" + after):
+                self.assertEqual(completion.complete(before + after, len(before), list).end, end)
+
 
 class Notebooks(unittest.TestCase):
     """The files of the notebooks."""
@@ -164,7 +170,8 @@ class Command(unittest.TestCase):
     def test_wrong_words(self):
         with tempfile.TemporaryDirectory() as folder:
             for words in ([], ["setup"], ["install", "--user", "--prefix", "x"], ["install", "--name"], ["remove", "x"]):
-                done = subprocess.run([sys.executable, "-m", "aplcalc_kernel", *words], cwd=CLONE, env=environment(folder), capture_output=True)
+                done = subprocess.run([sys.executable, "-m", "aplcalc_kernel", *words], cwd=CLONE, env=environment(folder),
+                                      capture_output=True)
                 self.assertEqual((done.returncode, done.stdout), (2, b""))
 
     def test_says_which_package_is_missing(self):

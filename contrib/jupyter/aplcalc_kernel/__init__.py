@@ -12,9 +12,10 @@ __version__ = "1.0.0"
 
 
 def _find_calculator() -> None:
-    """Puts the clone's package aplcalc on the path where there is no other."""
+    """Puts the clone's package aplcalc on the path where there is no other. A mere folder of that name, such as a clone, is no package."""
     folder = pathlib.Path(__file__).resolve().parents[3] / "tools" / "python"
-    if importlib.util.find_spec("aplcalc") is None and (folder / "aplcalc").is_dir():
+    found = importlib.util.find_spec("aplcalc")
+    if (found is None or found.origin is None) and (folder / "aplcalc").is_dir():
         sys.path.append(str(folder))
 
 

@@ -32,7 +32,9 @@ def start(words: list[str]) -> int:
         raise Failure(needs(error)) from error
     IPKernelApp.launch_instance(argv=words, kernel_class=AplcalcKernel)
     # At its end ipykernel closes the output, and would wait in vain for a control thread that still flushes it.
-    IPKernelApp.instance().control_thread.join(LAST_SECONDS)
+    control = IPKernelApp.instance().control_thread
+    if control is not None and control.is_alive():
+        control.join(LAST_SECONDS)
     return 0
 
 

@@ -7,6 +7,7 @@ from typing import Callable, Iterable, NamedTuple
 
 from .symbols import BY_CHARACTER, BY_KEY, SYMBOLS, beginning
 
+CLOSING = {"(": ")", "[": "]"}
 COMMANDS = ("ORIGIN", "WIDTH", "CLEAR", "OFF")
 NAME = "[A-Za-z∆⍙][A-Za-z0-9_∆⍙]*"
 
@@ -38,7 +39,7 @@ def complete(code: str, cursor: int, names: Names) -> Completion:
     """What is offered at the cursor of a cell. names gives the names that have values."""
     line = code[:cursor].rpartition("\n")[2]
     if found := _AFTER_BACKQUOTE.search(line):
-        return Completion(cursor - len(found[0]), cursor, _of_key(found[1]))
+        return Completion(cursor - len(found[0]), _end_of_key(code, cursor, found[1]), _of_key(found[1]))
     if found := _AFTER_BACKSLASH.search(line):
         return Completion(cursor - len(found[0]), cursor, _of_symbol_name(found[1], names))
     if found := _COMMAND.search(line):
@@ -46,6 +47,16 @@ def complete(code: str, cursor: int, names: Names) -> Completion:
     if found := _NAME_AT_END.search(line):
         return Completion(cursor - len(found[1]), cursor, _beginning(found[1], names(), "name"))
     return Completion(cursor, cursor, [])
+
+
+def _end_of_key(code: str, cursor: int, key: str) -> int:
+    """Where a key ends that was typed: after the closing bracket that some editors put there by themselves for an opening one."""
+    closing = CLOSING.get(key)
+    if closing is None or code[cursor:cursor + 1] != closing:
+        return cursor
+    line = code[:cursor].rpartition("\n")[2] + code[cursor:].partition("\n")[0]
+    is_extra = line.count(closing) >= line.count(key)
+    return cursor + is_extra
 
 
 def _of_key(key: str) -> list[Offer]:

@@ -73,11 +73,15 @@ def _spec(display_name: str) -> dict[str, Any]:
 
 
 def _environment() -> dict[str, str]:
-    """What the kernel needs to find this package and the calculator again, whatever Jupyter's own folder and variables are."""
+    """What the kernel needs to find this package and the calculator again, whatever is in the folder of the notebook."""
+    environment = {"PYTHONSAFEPATH": "1"}
     folder = str(pathlib.Path(__file__).resolve().parent.parent)
     installed = [os.path.realpath(path) for path in [*site.getsitepackages(), site.getusersitepackages()]]
     path = [os.path.abspath(part) for part in os.environ.get("PYTHONPATH", "").split(os.pathsep) if part]
-    path = list(dict.fromkeys(path if folder in installed else [folder, *path]))
-    environment = {"PYTHONPATH": os.pathsep.join(path)} if path else {}
-    program = os.environ.get("APLCALC")
-    return {**environment, "APLCALC": os.path.abspath(program)} if program else environment
+    if folder not in installed:
+        path.insert(0, folder)
+    if path:
+        environment["PYTHONPATH"] = os.pathsep.join(dict.fromkeys(path))
+    if os.environ.get("APLCALC"):
+        environment["APLCALC"] = os.path.abspath(os.environ["APLCALC"])
+    return environment
