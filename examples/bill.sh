@@ -1,29 +1,33 @@
 #!/bin/sh
-# A bill: counts and prices in cents are columns of a text, and the calculator multiplies and adds them. It shows how a shell script asks
-# aplcalc and reads numbers back: a minus is '¯' there, and a report's first line ends in ERROR or is WS FULL, with status 0 all the same.
+# A bill: counts and prices in cents are a table, and the calculator multiplies and adds them. It shows how a shell script hands a table to
+# aplrun, reads values back, and learns by the status that a line was refused.
 set -eu
 
-aplcalc=${APLCALC:-$(dirname "$0")/../aplcalc}
+here=$(dirname "$0")
+PATH=$here/../tools:$PATH
 entries='coffee 3 250
 cake 2 480
 returned 1 -300'
 
-# A column of the entries as a constant.
-column() { printf '%s\n' "$entries" | awk -v n="$1" '{ printf "%s ", $n }' | sed 's/-/¯/g'; }
+folder=$(mktemp -d)
+trap 'rm -rf "$folder"' EXIT
+printf '%s\n' "$entries" | awk '{ print $2 "," $3 }' > "$folder/bill.csv"
 
-# The value of a line as it is written, with '-' for '¯'; a report goes to standard error.
-value() {
-    answer=$(printf '%s\n' ")WIDTH 130" "$1" | "$aplcalc" | sed '1d; s/¯/-/g')
-    case $answer in
-    *' ERROR'* | 'WS FULL'*) printf '%s\n' "$answer" >&2 && exit 1 ;;
-    esac
-    printf '%s\n' "$answer"
-}
+# Runs the lines over the table T.
+bill() { aplrun --table T="$folder/bill.csv" "$@"; }
 
-# Cents as euros, a number a line; words are left as they are.
-cents() { awk '/^[a-z]/ { print; next } { for (i = 1; i <= NF; i++) printf "%8.2f\n", $i / 100 }'; }
+# Cents as euros, a number a line.
+euros() { printf '%s\n' "$1" | tr , '\n' | awk '{ printf "%8.2f\n", $1 / 100 }'; }
 
-products=$(value "($(column 2))×$(column 3)")
-total=$(value "+/($(column 2))×$(column 3)")
-printf '%s\n' "$products" | cents
-printf 'total\n%s\n' "$total" | cents
+products=$(bill -e 'P←T[;1]×T[;2]' --out csv P)
+total=$(bill -e 'S←+/T[;1]×T[;2]' --out csv S)
+euros "$products"
+echo total
+euros "$total"
+
+if bill -e '+/T[;3]' 2> "$folder/told"; then
+    echo 'there is a third column'
+else
+    printf 'status %d\n' "$?"
+    cat "$folder/told"
+fi

@@ -1,15 +1,12 @@
 """A session of the calculator in a process of its own."""
 import contextlib
 import os
-import pathlib
-import secrets
 import selectors
 import shutil
 import subprocess
-import tempfile
 import threading
 import time
-from typing import IO, Iterable, Iterator, List, Optional, Union
+from typing import IO, Any, Generator, Iterable, Iterator, List, Optional, Tuple, Union
 
 from .errors import Busy, InvalidLine, ProgramEnded, ProgramMissing, SessionOver, TimedOut
 from .reports import BLANKS, WS_FULL
@@ -26,11 +23,11 @@ def find_program() -> str:
     named = os.environ.get("APLCALC")
     if named:
         return named
-    above = pathlib.Path(__file__).resolve().parents
-    beside = [above[4] / "bin" / "aplcalc", above[3] / "aplcalc"] if len(above) > 4 else []
-    for candidate in beside:
-        if candidate.is_file() and os.access(candidate, os.X_OK):
-            return str(candidate)
+    package = os.path.dirname(os.path.realpath(__file__))
+    for beside in ("../../../../bin/aplcalc", "../../../aplcalc"):
+        candidate = os.path.normpath(os.path.join(package, beside))
+        if os.path.isfile(candidate) and os.access(candidate, os.X_OK):
+            return candidate
     found = shutil.which("aplcalc")
     if found is None:
         raise ProgramMissing("aplcalc is not on the PATH, and the variable APLCALC doesn't name it")
@@ -68,7 +65,7 @@ class Session:
         words = [os.fspath(find_program() if program is None else program)]
         for option, value in options:
             words += [] if value is None else [option, str(value)]
-        self._said: IO[bytes] = tempfile.TemporaryFile()
+        self._said: IO[bytes] = open(os.memfd_create("aplcalc"), "w+b")
         try:
             self._process = subprocess.Popen(words, stdin=subprocess.PIPE, stdout=subprocess.PIPE, stderr=self._said, bufsize=0)
         except OSError as error:
@@ -86,10 +83,17 @@ class Session:
     def texts(self, lines: Iterable[str]) -> Iterator[str]:
         """What each of the lines writes, one after the other, up to a line )OFF.
 
-        The lines are sent ahead of the answers. So the session is over where you leave the iterator before its end.
+        The lines are sent ahead of the answers. So the session is over where you leave the iterator before its end, and the timeout is for
+        all of them together.
         """
-        with self._call(None) as deadline:
-            yield from map(decoded, self._answers(map(encoded, lines), deadline))
+        with self._call(None) as deadline, contextlib.closing(self._answers(map(encoded, lines), deadline)) as answers:
+            for answer in answers:
+                yield decoded(answer)
+
+    @property
+    def is_over(self) -> bool:
+        """Whether the session is known to have ended, so that each further call raises SessionOver."""
+        return self._over is not None
 
     def close(self) -> int:
         """Ends the session where it has not ended, and gives the calculator's exit status."""
@@ -121,25 +125,27 @@ class Session:
 
     def _ask(self, lines: List[str], deadline: Optional[float]) -> List[str]:
         """What each of the lines writes, in one exchange."""
-        return [decoded(answer) for answer in self._answers(iter([encoded(line) for line in lines]), deadline)]
+        with contextlib.closing(self._answers(iter([encoded(line) for line in lines]), deadline)) as answers:
+            return [decoded(answer) for answer in answers]
 
-    def _answers(self, lines: Iterator[bytes], deadline: Optional[float]) -> Iterator[bytes]:
+    def _answers(self, lines: Iterator[bytes], deadline: Optional[float]) -> Generator[bytes, None, None]:
         """What each line writes. After each one a text that nobody can foresee is sent, and its own answer tells where the line's ends."""
-        mark = secrets.token_hex(MARK_SIZE).encode()
+        mark = os.urandom(MARK_SIZE).hex().encode()
+        outgoing, incoming = _Outgoing(lines, mark), _Incoming(mark)
         try:
-            yield from self._exchange(_Outgoing(lines, mark), _Incoming(mark), deadline)
+            yield from self._exchange(outgoing, incoming, deadline)
         except BaseException:
-            self._break_off()
+            if outgoing.pending or incoming.answered < outgoing.lines:
+                self._break_off()
             raise
 
     def _exchange(self, outgoing: "_Outgoing", incoming: "_Incoming", deadline: Optional[float]) -> Iterator[bytes]:
         """Writes and reads at once, so that neither side waits for the other for ever."""
-        answered = 0
         with selectors.DefaultSelector() as selector:
             selector.register(self._stdout, selectors.EVENT_READ)
             if outgoing.fill():
                 selector.register(self._stdin, selectors.EVENT_WRITE)
-            while outgoing.pending or answered < outgoing.lines:
+            while outgoing.pending or incoming.answered < outgoing.lines:
                 for key, _ in self._ready(selector, deadline):
                     if key.fileobj is self._stdin:
                         if not self._write(outgoing):
@@ -147,14 +153,12 @@ class Session:
                     elif not incoming.read(self._stdout.fileno()):
                         yield self._last_answer(incoming)
                         return
-                for answer in incoming.answers():
-                    answered += 1
-                    yield answer
+                yield from incoming.answers()
 
-    def _ready(self, selector: selectors.BaseSelector, deadline: Optional[float]) -> list:
-        remaining = None if deadline is None else max(0.0, deadline - time.monotonic())
-        ready = selector.select(remaining)
-        if not ready:
+    def _ready(self, selector: selectors.BaseSelector, deadline: Optional[float]) -> List[Tuple[Any, int]]:
+        """The pipes that can be used; waits for one until the deadline."""
+        ready = selector.select(None if deadline is None else max(0.0, deadline - time.monotonic()))
+        if not ready and deadline is not None and time.monotonic() >= deadline:
             self._over = "the session was ended, since a call took too long"
             raise TimedOut("the calculator had not answered in time, and was ended")
         return ready
@@ -227,6 +231,7 @@ class _Incoming:
 
     def __init__(self, mark: bytes) -> None:
         self.received = bytearray()
+        self.answered = 0
         self._mark = mark
         self._searched = 0
 
@@ -248,4 +253,5 @@ class _Incoming:
             answer = bytes(self.received[:mark - len(FULL_MARK) if is_report else mark])
             del self.received[:end + 1]
             self._searched = 0
+            self.answered += 1
             yield answer
