@@ -55,12 +55,17 @@ class KernelCase(unittest.TestCase):
     def setUp(self):
         self.run_cell(")CLEAR")
 
-    def run_cell(self, code):
-        """How a cell ends, and its outputs as a notebook keeps them. While the kernel still refuses cells after an error, this waits."""
+    def run_cell(self, code, when_written=None):
+        """How a cell ends, and its outputs as a notebook keeps them. While the kernel still refuses cells after an error, this waits.
+
+        when_written is called when the cell has written something to the standard output.
+        """
         outputs = []
 
         def keep(message):
             content = message["content"]
+            if message["msg_type"] == "stream" and when_written is not None:
+                when_written()
             if message["msg_type"] == "stream" and outputs and outputs[-1].get("name") == content["name"]:
                 outputs[-1]["text"] += content["text"]
             elif message["msg_type"] in ("stream", "error"):
@@ -292,13 +297,13 @@ class Endings(KernelCase):
     def test_an_interrupt_keeps_the_names(self):
         self.run_cell(")ORIGIN 0\nA←1 2 3\nA[0]←9\nC←4")
         first = self.calculator()
-        threading.Timer(0.5, self.manager.interrupt_kernel).start()
+        interrupt = threading.Timer(0.5, self.manager.interrupt_kernel)
         begun = time.monotonic()
-        status, outputs = self.run_cell("C←5\nC←%s\nC←6" % LONG_LINE)
+        status, outputs = self.run_cell("(C←5)\nC←%s\nC←6" % LONG_LINE, interrupt.start)
         self.assertLess(time.monotonic() - begun, 10)
         self.assertEqual(status, "error")
         self.assertEqual("".join(map(text_of_output, outputs)),
-                         "INTERRUPTED\n      C←%s\nThe names have the values from before this line.\n" % LONG_LINE)
+                         "      (C←5)\n5\nINTERRUPTED\n      C←%s\nThe names have the values from before this line.\n" % LONG_LINE)
         self.assertEqual(self.text_of("A,C,⍳2"), "9 2 3 5 0 1\n")
         self.assertNotEqual(self.calculator(), first)
         self.assertRaises(ProcessLookupError, os.kill, first, 0)

@@ -24,23 +24,24 @@ sys.path.insert(0, str(CLONE))
 from aplcalc_kernel import completion, symbols  # noqa: E402
 
 
-def python_of_jupyter():
-    """The Python that can start the kernel, or None."""
-    for python in (sys.executable, SYSTEM_PYTHON):
-        if shutil.which(python) and subprocess.run([python, "-c", "import ipykernel, jupyter_client"], capture_output=True).returncode == 0:
-            return python
-    return None
-
-
-PYTHON = python_of_jupyter()
-
-
 def environment(folder):
     """Variables by which nothing outside a folder is read or written."""
     kept = {name: value for name, value in os.environ.items() if not name.startswith(("JUPYTER", "IPYTHON", "PYTHON", "XDG"))}
     return {**kept, "HOME": folder, "IPYTHONDIR": folder + "/ipython", "JUPYTER_DATA_DIR": folder + "/data",
             "JUPYTER_CONFIG_DIR": folder + "/config", "JUPYTER_RUNTIME_DIR": folder + "/runtime", "PYTHONDONTWRITEBYTECODE": "1",
             "APLCALC": PROGRAM}
+
+
+def python_of_jupyter():
+    """The Python that can start the kernel, or None."""
+    for python in filter(shutil.which, (sys.executable, SYSTEM_PYTHON)):
+        tried = subprocess.run([python, "-c", "import ipykernel, jupyter_client"], env=environment("/nonexistent"), capture_output=True)
+        if tried.returncode == 0:
+            return python
+    return None
+
+
+PYTHON = python_of_jupyter()
 
 
 def keys_of_inputrc():
