@@ -141,10 +141,18 @@ def put(text: str, stream: TextIO) -> None:
     try:
         stream.buffer.write(text.encode("utf-8", "surrogateescape"))
         stream.flush()
-    except BrokenPipeError:
-        raise
     except OSError as error:
+        discard(stream)
+        if isinstance(error, BrokenPipeError):
+            raise
         raise CalculatorError("writing failed: %s" % error.strerror) from error
+
+
+def discard(stream: TextIO) -> None:
+    """Lets what a stream still holds go nowhere, so that its end does not fail again."""
+    nowhere = os.open(os.devnull, os.O_WRONLY)
+    os.dup2(nowhere, stream.fileno())
+    os.close(nowhere)
 
 
 def excerpt(line: str, column: Optional[int]) -> str:
@@ -224,9 +232,6 @@ def main(words: Optional[Sequence[str]] = None) -> int:
     except KeyboardInterrupt:
         return INTERRUPTED
     except BrokenPipeError:
-        nowhere = os.open(os.devnull, os.O_WRONLY)
-        os.dup2(nowhere, sys.stdout.fileno())
-        os.dup2(nowhere, sys.stderr.fileno())
         return NO_READER
     except (CalculatorError, OSError) as error:
         if isinstance(error.__cause__, ProgramEnded) and error.__cause__.status == -signal.SIGINT:
