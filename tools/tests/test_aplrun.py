@@ -41,6 +41,10 @@ def aplrun(*words, text=b"", program=PROGRAM):
     return status, whole(answers), whole(told)
 
 
+def interruptible():
+    signal.signal(signal.SIGINT, signal.SIG_DFL)
+
+
 def whole(written):
     written.flush()
     return written.buffer.getvalue().decode("utf-8", "surrogateescape")
@@ -308,10 +312,11 @@ class Usage(InFolder):
 
 class Ends(InFolder):
     def started(self, *lines, **streams):
-        """The command in a process group of its own."""
+        """The command in a process group of its own, which an interrupt ends also where the tests run in the background."""
         words = [sys.executable, str(APLRUN), *(word for line in lines for word in ("-e", line))]
         given = {"stdout": subprocess.PIPE, "stderr": subprocess.PIPE, "start_new_session": True, **streams}
-        return subprocess.Popen(words, env={**os.environ, "APLCALC": PROGRAM}, **given)
+        environment = {name: value for name, value in os.environ.items() if name != "PYTHONUNBUFFERED"}
+        return subprocess.Popen(words, env={**environment, "APLCALC": PROGRAM}, preexec_fn=interruptible, **given)
 
     def test_a_reader_that_ends_early(self):
         command = self.started("1", "2000000⍴1 2 3")
@@ -320,6 +325,12 @@ class Ends(InFolder):
         told = command.stderr.read()
         command.stderr.close()
         self.assertEqual((command.wait(), told), (141, b""))
+
+    def test_a_full_device_for_reports(self):
+        with open("/dev/full", "wb") as full:
+            command = self.started("7÷2", stderr=full)
+            written, _ = command.communicate(timeout=30)
+        self.assertEqual((command.returncode, written), (1, b""))
 
     def test_a_full_device(self):
         with open("/dev/full", "wb") as full:
