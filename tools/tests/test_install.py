@@ -25,6 +25,7 @@ PLACES = {
     "tools/completions/_aplcalc": "share/zsh/site-functions/_aplcalc",
     "tools/completions/aplcalc.fish": "share/fish/vendor_completions.d/aplcalc.fish",
     "docs/MANUAL.md": "share/doc/aplcalc/docs/MANUAL.md",
+    "release/THIRD-PARTY.md": "share/doc/aplcalc/release/THIRD-PARTY.md",
     "examples/first.apl": "share/doc/aplcalc/examples/first.apl",
     "contrib/inputrc": "share/aplcalc/inputrc",
     "contrib/words": "share/aplcalc/words",

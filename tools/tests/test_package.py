@@ -14,7 +14,8 @@ from common import TOP, needs
 
 FILES = ["bin/aplcalc", "lib/aplcalc/aplcalc", "share/man/man1/aplcalc.1.gz", "share/bash-completion/completions/aplcalc",
          "share/zsh/vendor-completions/_aplcalc", "share/fish/vendor_completions.d/aplcalc.fish", "share/doc/aplcalc/copyright",
-         "share/doc/aplcalc/changelog.gz", "share/doc/aplcalc/docs/MANUAL.md", "share/doc/aplcalc/examples/first.apl"]
+         "share/doc/aplcalc/changelog.gz", "share/doc/aplcalc/docs/MANUAL.md", "share/doc/aplcalc/release/THIRD-PARTY.md",
+         "share/doc/aplcalc/examples/first.apl"]
 
 
 def output(*command, typed=None, **variables):
