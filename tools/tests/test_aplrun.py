@@ -41,10 +41,6 @@ def aplrun(*words, text=b"", program=PROGRAM):
     return status, whole(answers), whole(told)
 
 
-def interruptible():
-    signal.signal(signal.SIGINT, signal.SIG_DFL)
-
-
 def whole(written):
     written.flush()
     return written.buffer.getvalue().decode("utf-8", "surrogateescape")
@@ -312,11 +308,11 @@ class Usage(InFolder):
 
 class Ends(InFolder):
     def started(self, *lines, **streams):
-        """The command in a process group of its own, which an interrupt ends also where the tests run in the background."""
+        """The command in a process group of its own."""
         words = [sys.executable, str(APLRUN), *(word for line in lines for word in ("-e", line))]
         given = {"stdout": subprocess.PIPE, "stderr": subprocess.PIPE, "start_new_session": True, **streams}
         environment = {name: value for name, value in os.environ.items() if name != "PYTHONUNBUFFERED"}
-        return subprocess.Popen(words, env={**environment, "APLCALC": PROGRAM}, preexec_fn=interruptible, **given)
+        return subprocess.Popen(words, env={**environment, "APLCALC": PROGRAM}, **given)
 
     def test_a_reader_that_ends_early(self):
         command = self.started("1", "2000000⍴1 2 3")

@@ -296,7 +296,8 @@ class Lives(unittest.TestCase):
 
     def test_the_variable_names_the_program(self):
         command = "import aplcalc\nwith aplcalc.Calculator() as apl: print(apl('2+3'))"
-        environment = {"APLCALC": PROGRAM, "PYTHONPATH": str(TOP / "tools" / "python"), "PATH": "/usr/bin:/bin"}
+        environment = {"APLCALC": PROGRAM, "PYTHONPATH": str(TOP / "tools" / "python"), "PATH": "/usr/bin:/bin",
+                       "PYTHONDONTWRITEBYTECODE": "1"}
         run = subprocess.run([sys.executable, "-c", command], env=environment, capture_output=True, text=True)
         self.assertEqual((run.stdout, run.stderr), ("5\n", ""))
 
