@@ -10,8 +10,8 @@
 
 ;; aplcalc is a calculator for APL over whole numbers and characters.
 ;;
-;; `M-x aplcalc' starts a session: each line that you type is behind six
-;; blanks, and its answer comes below it.  A file whose name ends in .apl
+;; `M-x aplcalc' starts a session: each line that you type comes after six
+;; blanks, and its answer is below it.  A file whose name ends in .apl
 ;; opens in `aplcalc-mode', which sends its lines to the session:
 ;;
 ;;   C-c C-l   the line at point, and on to the next line
@@ -142,7 +142,7 @@ calculator refuses wherever they are, also in texts and comments.")
 
 ;;; Sessions
 
-;; Behind each line goes a line that makes the calculator write a mark, by
+;; After each line goes a line that makes the calculator write a mark, by
 ;; which the end of the answer is known.  The mark is never shown.
 
 (defconst aplcalc--prompt "      "
@@ -212,7 +212,7 @@ calculator refuses wherever they are, also in texts and comments.")
     (aplcalc--send (get-buffer-process buffer) "")))
 
 (defun aplcalc--send (process line)
-  "Send LINE to PROCESS, and behind it the line that writes the mark.
+  "Send LINE to PROCESS, and after it the line that writes the mark.
 Comint gave the typed line a face of its own, which hides the colours."
   (setq aplcalc--busy t)
   (with-silent-modifications

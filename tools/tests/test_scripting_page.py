@@ -16,7 +16,7 @@ WORDS = ("jq", "awk", "sed", "tr", "fold", "head")
 
 
 def blocks(kind):
-    """The blocks of a kind: the words behind the kind, and the text."""
+    """The blocks of a kind: the words after the kind, and the text."""
     found = [(match[1].split(), match[2]) for match in BLOCK.finditer(PAGE.read_text(encoding="utf-8"))]
     return [(words[1:], text) for words, text in found if words[:1] == [kind]]
 

@@ -1,5 +1,5 @@
-" The symbols of aplcalc in Vim's insert mode: a backquote and the key of a keyboard of the United States on which the
-" system's layout 'apl' has the symbol.
+" The symbols of aplcalc in Vim's insert mode: a backquote and a key. The key is that of the system's layout 'apl', on a keyboard
+" of the United States.
 " The filetype aplcalc switches it on; elsewhere say :set keymap=aplcalc. Two backquotes are one.
 let b:keymap_name = "apl"
 loadkeymap

@@ -37,8 +37,8 @@ def report(kind: str, line: str, column: Optional[int]) -> AplError:
 def report_of(line: str, text: str) -> Optional[AplError]:
     """The error that a text is the report of, or None where the text is no report of this line.
 
-    A report is known by all of its lines: the exact heading, the line that was sent after six blanks (its front for CHARACTER ERROR), and
-    a line of blanks and one caret. WS FULL has no caret. INCORRECT COMMAND is a report where the line is a command.
+    A report is known by all of its lines: the exact heading, the line that was sent, after six blanks, and a line of blanks and one caret.
+    CHARACTER ERROR has only the front of the line that was sent. WS FULL has no caret. INCORRECT COMMAND is a report where the line is a command.
     """
     line = without_return(line)
     kind, _, rest = text.partition("\n")

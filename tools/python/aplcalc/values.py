@@ -27,7 +27,7 @@ class Value(NamedTuple):
     ravel: Union[List[int], str]
 
     def python(self) -> Any:
-        """The array as Python has it: an int or a str of length 1 for a scalar, else a list or a str, nested by the shape.
+        """The array as Python has it. A scalar is an int or a str of length 1. Any other array is a list or a str, nested by the shape.
 
         The last axis of characters is a str. A scalar character and a vector of one are the same str. Where an axis before the last one
         is 0, the lengths after it are lost, and so is the kind.
@@ -77,7 +77,7 @@ def constant(given: Any) -> str:
 
 
 def value_of(given: Any) -> Value:
-    """The array that a value of Python's is: an int, a str, a numpy array, a Value, or lists of int or of str, nested by the shape.
+    """The array that a value of Python's is. That may be an int, a str, a numpy array, a Value, or nested lists of int or of str.
 
     A str is a vector of characters, whatever its length, and a list of strs a matrix, so these must have one length.
     """
