@@ -11,7 +11,7 @@ import threading
 import time
 import unittest
 
-from common import PROGRAM, TOP
+from common import PROGRAM, TOP, pythons_with_numpy
 
 sys.path.insert(0, str(TOP / "tools" / "python"))
 import aplcalc  # noqa: E402
@@ -19,14 +19,8 @@ from aplcalc import CHARACTERS, NUMBERS, AplError, Calculator, ConversionError, 
 from aplcalc.reports import ALPHABET, BLANKS  # noqa: E402
 
 SEED = 20240229
-SYSTEM_PYTHON = "/usr/bin/python3"
 LEAST, GREATEST = -9223372036854775808, 9223372036854775807
 LONG_WORK = "(3000 3000⍴1)+.×3000 3000⍴1"
-
-
-def has_numpy(python):
-    """Whether a Python has numpy."""
-    return os.access(python, os.X_OK) and subprocess.run([python, "-c", "import numpy"], capture_output=True).returncode == 0
 
 
 def random_shape(chance, rank, is_empty):
@@ -49,7 +43,7 @@ def random_value(chance, rank, is_empty):
     return Value(shape, NUMBERS, [chance.choice(edges) if chance.random() < 0.3 else chance.randint(-999, 999) for _ in range(count)])
 
 
-WITH_NUMPY = [python for python in (sys.executable, SYSTEM_PYTHON) if has_numpy(python)]
+WITH_NUMPY = pythons_with_numpy()
 
 
 class WithCalculator(unittest.TestCase):

@@ -8,7 +8,7 @@ import sys
 import tempfile
 import unittest
 
-from common import PROGRAM, TOP
+from common import PROGRAM, TOP, pythons_with_numpy
 
 PAGE = TOP / "docs" / "SCRIPTING.md"
 BLOCK = re.compile(r"^```(.*)\n((?:.*\n)*?)^```$", re.MULTILINE)
@@ -34,12 +34,7 @@ def typed_and_written(text):
     return examples
 
 
-def has_numpy(python):
-    """Whether a Python has numpy."""
-    return os.access(python, os.X_OK) and subprocess.run([python, "-c", "import numpy"], capture_output=True).returncode == 0
-
-
-WITH_NUMPY = [python for python in (sys.executable, "/usr/bin/python3") if has_numpy(python)]
+WITH_NUMPY = pythons_with_numpy()
 
 
 class Page(unittest.TestCase):

@@ -93,7 +93,7 @@ class Cell:
                 self._write("stdout", self._shown(text))
                 self.is_first = False
         except SessionOver:
-            pass
+            pass  # A line )OFF ended the session: the further lines are not answered.
         except ProgramEnded as error:
             return self.broken_off("NO ANSWER", str(error))
         except CalculatorError as error:

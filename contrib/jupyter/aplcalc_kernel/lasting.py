@@ -19,7 +19,7 @@ _ASSIGNED = re.compile(r"(%s) *(?:\[[^\]]*\] *)?←" % NAME)
 class LastingSession:
     """A session of the calculator, which starts when a line needs it.
 
-    The calculator has no interrupt: who breaks off a line has to end it. So the lines that can have changed the workspace are kept, and
+    The calculator has no interrupt: to break off a line is to end the calculator. So the lines that can have changed the workspace are kept, and
     restore() has them answered again by a new calculator. What a line answers depends on the lines before it alone.
     """
 
