@@ -17,3 +17,5 @@ mod reports;
 mod rows;
 #[cfg(test)]
 mod sizes;
+#[cfg(test)]
+mod transcripts;
