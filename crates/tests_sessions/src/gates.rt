@@ -4,6 +4,7 @@ ghost use Rattle.apl_pool.specs.declared.kernel.TheConstants.{MOST_PLACES};
 ghost use Rattle.tests_sessions.specs.declared.gates.TheConstants.{HALF};
 
 use super::pools::Numbers;
+use crate::doors::{Door, Meeting};
 use crate::transcripts::{Table, lines_of};
 use apl_pool::{Every, Fault, Gate, Kernel, MOST_PLACES, Pool, Schedule, Summary};
 use apl_print::MemorySink;
@@ -13,45 +14,6 @@ use std::alloc::{AllocError, Global};
 use std::sync::atomic::{AtomicU64, Ordering};
 use std::test::Fail;
 use std::thread::Threads;
-
-/// Each of two workers waits at each of its pieces until the other one has come as often.
-#[derive(Drop)]
-struct Meeting {
-    come: [AtomicU64; 2],
-    met: AtomicU64,
-}
-
-impl Meeting {
-    fn new() -> Meeting {
-        Meeting {
-            come: [AtomicU64::new(0), AtomicU64::new(0)],
-            met: AtomicU64::new(0),
-        }
-    }
-
-    /// How often a worker has met the other one.
-    fn met(&self) -> u64 {
-        self.met.load(Ordering::SeqCst)
-    }
-}
-
-impl Gate for Meeting {
-    fn pass(&self, worker: u8, _piece: u32) {
-        let [first, second] = &self.come;
-        let (here, there) = if worker == 0 {
-            (first, second)
-        } else {
-            (second, first)
-        };
-        let before = here.fetch_add(1, Ordering::SeqCst);
-        for _ in 0..2_000_000_000u64 {
-            if there.load(Ordering::SeqCst) > before {
-                self.met.fetch_add(1, Ordering::SeqCst);
-                return;
-            }
-        }
-    }
-}
 
 /// The number 1 at each place.
 #[derive(Drop)]
@@ -529,7 +491,7 @@ fn meets<R: Threads + Sync>(
     text: &str,
 ) -> bool {
     let meeting = Meeting::new();
-    let pool = Pool::with(2, schedule, Every(piece), &meeting);
+    let pool = Pool::with(2, schedule, Every(piece), Door::Meeting(&meeting));
     let mut source = MemorySource::new(session.as_bytes(), BLOCK, None);
     let mut sink = MemorySink::new(alloc, BLOCK, None);
     let outcome = run(rt, alloc, &pool, &mut source, &mut sink);

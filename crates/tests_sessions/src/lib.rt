@@ -4,6 +4,8 @@
 #[cfg(test)]
 mod devices;
 #[cfg(test)]
+mod doors;
+#[cfg(test)]
 mod failures;
 #[cfg(test)]
 mod gates;

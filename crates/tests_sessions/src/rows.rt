@@ -4,8 +4,9 @@ mod scans;
 mod structures;
 mod tables;
 
+use crate::doors::Door;
 use crate::transcripts::{Table, Transcript, transcripts_of};
-use apl_pool::{Every, Open, Pool, Schedule};
+use apl_pool::{Every, Pool, Schedule};
 use apl_print::MemorySink;
 use apl_session::{MemorySource, run};
 use reductions::{DIGITS, FOLDED, PRODUCTS};
@@ -24,7 +25,7 @@ use tables::{CARETS, COMMANDS, LINES, NUMERALS, OPERANDS, SCALARS, TEXTS, UNLIST
 fn writes<R: Threads + Sync>(
     rt: &R,
     alloc: Global,
-    pool: &Pool<Every, Open>,
+    pool: &Pool<Every, Door>,
     session: &[u8],
     most: usize,
     text: &[u8],
@@ -56,14 +57,14 @@ fn check<R: Abort + Threads + Sync>(rt: &R, alloc: Global, tables: &[Table]) -> 
 }
 
 fn check_on_each<R: Abort + Threads + Sync>(rt: &R, alloc: Global, transcripts: &[Transcript]) {
-    let pool = Pool::new(3, Every(2), Open);
+    let pool = Pool::new(3, Every(2), Door::Open);
     for most in SIZES {
         check_on(rt, alloc, &pool, most, transcripts);
     }
     for workers in WORKERS {
         for piece in PIECES {
             for schedule in [Schedule::Claims, Schedule::Deques] {
-                let pool = Pool::with(workers, schedule, Every(piece), Open);
+                let pool = Pool::with(workers, schedule, Every(piece), Door::Open);
                 check_on(rt, alloc, &pool, ALL, transcripts);
             }
         }
@@ -74,7 +75,7 @@ fn check_on_each<R: Abort + Threads + Sync>(rt: &R, alloc: Global, transcripts: 
 fn check_on<R: Abort + Threads + Sync>(
     rt: &R,
     alloc: Global,
-    pool: &Pool<Every, Open>,
+    pool: &Pool<Every, Door>,
     most: usize,
     transcripts: &[Transcript],
 ) {
@@ -148,7 +149,7 @@ fn lines(rt: HostRuntime) -> Result<(), Fail> {
 
 #[test]
 fn bytes_that_are_no_text(rt: HostRuntime) {
-    let pool = Pool::new(2, Every(1), Open);
+    let pool = Pool::new(2, Every(1), Door::Open);
     let sessions: [(&[u8], &str); 4] = [
         (b"A\xff\n", "CHARACTER ERROR\n      A\n       ∧\n"),
         (b"1+\xe2\x8d\n", "CHARACTER ERROR\n      1+\n        ∧\n"),
@@ -181,7 +182,7 @@ const MANY: usize = 10_000;
 
 /// Checks what a long session writes.
 fn check_long<R: Abort + Threads + Sync>(rt: &R, alloc: Global, session: &[u8], text: &[u8]) {
-    let pool = Pool::new(4, Every(4096), Open);
+    let pool = Pool::new(4, Every(4096), Door::Open);
     for most in SIZES {
         assert!(rt;
             writes(rt, alloc, &pool, session, most, text),
