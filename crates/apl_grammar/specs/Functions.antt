@@ -7,10 +7,6 @@ use Rattle.apl_tokens.specs.Symbols.{class_of}
 use Rattle.apl_grammar.specs.declared.program.Form.{Form}
 use Rattle.apl_grammar.specs.declared.program.Form.TheVariants.{Plain, Reduce, Inner, Outer}
 
--- whether scans are in the grammar
-abbrev pub has_scan : Bool
-has_scan = true
-
 -- a dyadic scalar function, which may be reduced by and stand in a product
 abbrev pub is_dyadic_scalar : Class → Bool
 is_dyadic_scalar (Scalar f) = has_dyadic f
@@ -44,7 +40,7 @@ takes_axis _ = false
 
 abbrev pub reduces : Class → Bool
 reduces Slash = true
-reduces Backslash = has_scan
+reduces Backslash = true
 reduces _ = false
 
 -- which function may be monadic, without or with an axis

@@ -144,9 +144,9 @@ pub enum Class {
     Rotation,
     /// Ravel and catenation: monadic, and dyadic also with an axis.
     Catenation,
-    /// Compression: dyadic, also with an axis. Behind a dyadic scalar function it makes a reduction.
+    /// Replication: dyadic, also with an axis. After a dyadic scalar function it makes a reduction.
     Slash,
-    /// Expansion: dyadic, also with an axis. Scans are not in the grammar yet.
+    /// Expansion: dyadic, also with an axis. After a dyadic scalar function it makes a scan.
     Backslash,
 }
 

@@ -1,4 +1,6 @@
 //! The scalar functions of elements, at worked values.
+use crate::notation::{number_of, rows_of, scalar_of};
+use crate::tables::Table;
 use apl_array::Elem;
 use apl_pool::Fault;
 use apl_scalar::function_types::{
@@ -6,168 +8,263 @@ use apl_scalar::function_types::{
     Minus, Nand, Nor, NotEqual, Or, Plus, Star, Stile, Tilde, Times,
 };
 use apl_scalar::{Prim, apply1, apply2, identity};
+use std::alloc::Global;
+use std::test::Fail;
 
-const LEAST: i64 = i64::MIN;
+/// Functions of one number.
+const MONADIC: &str = "\
+    + ¯9223372036854775808 → ¯9223372036854775808
+    - 7 → ¯7
+    - ¯9223372036854775808 → LIMIT ERROR
+    × ¯7 → ¯1
+    × 0 → 0
+    × 7 → 1
+    ÷ 1 → 1
+    ÷ ¯1 → ¯1
+    ÷ 2 → DOMAIN ERROR
+    ÷ 0 → DOMAIN ERROR
+    | ¯7 → 7
+    | ¯9223372036854775808 → LIMIT ERROR
+    ! ¯1 → DOMAIN ERROR
+    ! 0 → 1
+    ! 20 → 2432902008176640000
+    ! 21 → LIMIT ERROR
+    ! 9223372036854775807 → LIMIT ERROR
+    ⌊ 5 → 5
+    ⌈ ¯5 → ¯5
+    ~ 0 → 1
+    ~ 1 → 0
+    ~ 2 → DOMAIN ERROR
+    ";
 
-const MOST: i64 = i64::MAX;
+/// Functions of two numbers.
+const DYADIC: &str = "\
+    9223372036854775807 + 1 → LIMIT ERROR
+    0 - ¯9223372036854775808 → LIMIT ERROR
+    ¯1 - ¯9223372036854775808 → 9223372036854775807
+    ¯4611686018427387904 × 2 → ¯9223372036854775808
+    0 ÷ 0 → 1
+    7 ÷ 2 → DOMAIN ERROR
+    7 ÷ 0 → DOMAIN ERROR
+    ¯9223372036854775808 ÷ ¯1 → LIMIT ERROR
+    ¯9223372036854775808 ÷ 0 → DOMAIN ERROR
+    0 ÷ 5 → 0
+    ¯6 ÷ 3 → ¯2
+    3 | ¯7 → 2
+    3 | 7 → 1
+    ¯3 | 7 → ¯2
+    ¯3 | ¯7 → ¯1
+    0 | ¯5 → ¯5
+    5 | ¯9223372036854775808 → 2
+    ¯9223372036854775808 | 9223372036854775807 → ¯1
+    9223372036854775807 | ¯9223372036854775808 → 9223372036854775806
+    ¯1 | ¯9223372036854775808 → 0
+    0 | ¯9223372036854775808 → ¯9223372036854775808
+    ¯2 * 63 → ¯9223372036854775808
+    2 * 63 → LIMIT ERROR
+    2 * 62 → 4611686018427387904
+    2 * ¯1 → DOMAIN ERROR
+    0 * 0 → 1
+    0 * ¯1 → DOMAIN ERROR
+    ¯1 * ¯3 → ¯1
+    0 * 9223372036854775807 → 0
+    ¯1 * ¯9223372036854775808 → 1
+    ¯1 * 9223372036854775807 → ¯1
+    2 * 9223372036854775807 → LIMIT ERROR
+    2 ! 5 → 10
+    33 ! 66 → 7219428434016265740
+    33 ! 67 → LIMIT ERROR
+    0 ! 0 → 1
+    5 ! 3 → 0
+    ¯1 ! 3 → DOMAIN ERROR
+    3 ! ¯1 → DOMAIN ERROR
+    9223372036854775806 ! 9223372036854775807 → 9223372036854775807
+    4611686018427387904 ! 9223372036854775807 → LIMIT ERROR
+    2 ⌊ ¯3 → ¯3
+    2 ⌈ ¯3 → 2
+    1 ∧ 1 → 1
+    0 ∧ 2 → DOMAIN ERROR
+    1 ∨ 5 → DOMAIN ERROR
+    0 ∨ 1 → 1
+    ¯1 ⍲ 0 → DOMAIN ERROR
+    1 ⍲ 1 → 0
+    0 ⍱ 0 → 1
+    1 < 2 → 1
+    2 ≤ 2 → 1
+    2 = 3 → 0
+    2 ≥ 3 → 0
+    3 > 2 → 1
+    3 ≠ 2 → 1
+    ";
+
+/// Functions of two numbers by their types, at an ordinary value and at another one.
+const TYPED: &str = "\
+    2 + 3 → 5
+    9223372036854775807 + 1 → LIMIT ERROR
+    2 - 3 → ¯1
+    ¯9223372036854775808 - 1 → LIMIT ERROR
+    ¯4 × 3 → ¯12
+    ¯9223372036854775808 × ¯1 → LIMIT ERROR
+    12 ÷ ¯3 → ¯4
+    7 ÷ 2 → DOMAIN ERROR
+    3 | ¯7 → 2
+    0 | ¯5 → ¯5
+    ¯2 * 3 → ¯8
+    2 * 63 → LIMIT ERROR
+    2 ! 5 → 10
+    ¯1 ! 3 → DOMAIN ERROR
+    2 ⌊ ¯3 → ¯3
+    2 ⌈ ¯3 → 2
+    1 ∧ 1 → 1
+    0 ∧ 2 → DOMAIN ERROR
+    0 ∨ 1 → 1
+    1 ∨ 5 → DOMAIN ERROR
+    1 ⍲ 1 → 0
+    2 ⍲ 1 → DOMAIN ERROR
+    0 ⍱ 0 → 1
+    ¯1 ⍱ 0 → DOMAIN ERROR
+    1 < 2 → 1
+    2 < 2 → 0
+    2 ≤ 2 → 1
+    3 ≤ 2 → 0
+    ¯9223372036854775808 = ¯9223372036854775808 → 1
+    2 = 3 → 0
+    2 ≥ 2 → 1
+    2 ≥ 3 → 0
+    3 > 2 → 1
+    2 > 2 → 0
+    3 ≠ 2 → 1
+    2 ≠ 2 → 0
+    1 ~ 0 → DOMAIN ERROR
+    ";
+
+/// Functions, and their identities.
+const IDENTITIES: &str = "\
+    + → 0
+    - → 0
+    × → 1
+    ÷ → 1
+    | → 0
+    * → 1
+    ! → 1
+    ⌊ → 9223372036854775807
+    ⌈ → ¯9223372036854775808
+    ∧ → 1
+    ∨ → 0
+    ⍲ → none
+    ⍱ → none
+    < → 0
+    ≤ → 1
+    = → 1
+    ≥ → 1
+    > → 0
+    ≠ → 0
+    ";
+
+/// The lines of a table, as many as it says.
+fn lines_of(alloc: Global, (table, count): Table) -> Result<Vec<&'static str>, Fail> {
+    let lines = rows_of(alloc, table)?;
+    if lines.len() != count {
+        return Err(Fail::new("a table has another number of rows"));
+    }
+    Ok(lines)
+}
+
+/// The number, or the fault of a report.
+fn outcome_of(text: &str) -> Option<Result<i64, Fault>> {
+    if text == "LIMIT ERROR" {
+        return Some(Err(Fault::Limit));
+    }
+    if text == "DOMAIN ERROR" {
+        return Some(Err(Fault::Domain));
+    }
+    Some(Ok(number_of(text)?))
+}
+
+/// The function that a symbol stands for.
+fn function_of(symbol: &str) -> Option<Prim> {
+    scalar_of(symbol.chars().next()?)
+}
+
+/// The function and the number of a row `F Y → ANSWER`, and its answer.
+fn monadic_of(row: &str) -> Option<(Prim, i64, Result<i64, Fault>)> {
+    let (call, answer) = row.split_once(" → ")?;
+    let (f, y) = call.split_once(' ')?;
+    Some((function_of(f)?, number_of(y)?, outcome_of(answer)?))
+}
+
+/// The numbers and the function of a row `X F Y → ANSWER`, and its answer.
+fn dyadic_of(row: &str) -> Option<(i64, Prim, i64, Result<i64, Fault>)> {
+    let (x, rest) = row.split_once(' ')?;
+    let (f, y, answer) = monadic_of(rest)?;
+    Some((number_of(x)?, f, y, answer))
+}
 
 #[test]
-fn monadic_functions(rt: HostRuntime) {
-    for (f, x, wanted) in [
-        (Prim::Plus, LEAST, Ok(LEAST)),
-        (Prim::Minus, 7, Ok(-7)),
-        (Prim::Minus, LEAST, Err(Fault::Limit)),
-        (Prim::Times, -7, Ok(-1)),
-        (Prim::Times, 0, Ok(0)),
-        (Prim::Times, 7, Ok(1)),
-        (Prim::Divide, 1, Ok(1)),
-        (Prim::Divide, -1, Ok(-1)),
-        (Prim::Divide, 2, Err(Fault::Domain)),
-        (Prim::Divide, 0, Err(Fault::Domain)),
-        (Prim::Stile, -7, Ok(7)),
-        (Prim::Stile, LEAST, Err(Fault::Limit)),
-        (Prim::Bang, -1, Err(Fault::Domain)),
-        (Prim::Bang, 0, Ok(1)),
-        (Prim::Bang, 20, Ok(2432902008176640000)),
-        (Prim::Bang, 21, Err(Fault::Limit)),
-        (Prim::Bang, MOST, Err(Fault::Limit)),
-        (Prim::Floor, 5, Ok(5)),
-        (Prim::Ceiling, -5, Ok(-5)),
-        (Prim::Tilde, 0, Ok(1)),
-        (Prim::Tilde, 1, Ok(0)),
-        (Prim::Tilde, 2, Err(Fault::Domain)),
-    ] {
+fn monadic_functions(rt: HostRuntime) -> Result<(), Fail> {
+    for row in lines_of(rt.alloc(), (MONADIC, 22))? {
+        let Some((f, x, wanted)) = monadic_of(row) else {
+            return Err(Fail::new(format_args!("not a row: {row}")));
+        };
         assert!(rt; f.is_monadic());
         let answers = (apply1(f, Elem::Int(x)), apply1(f, Elem::Chr('A')));
         assert!(rt;
             answers == (wanted.map(Elem::Int), Err(Fault::Domain)),
-            "{f:?} {x}"
+            "{row}"
         );
     }
+    Ok(())
 }
 
 #[test]
-fn dyadic_functions(rt: HostRuntime) {
-    for (x, f, y, wanted) in [
-        (MOST, Prim::Plus, 1, Err(Fault::Limit)),
-        (0, Prim::Minus, LEAST, Err(Fault::Limit)),
-        (-1, Prim::Minus, LEAST, Ok(MOST)),
-        (-4611686018427387904, Prim::Times, 2, Ok(LEAST)),
-        (0, Prim::Divide, 0, Ok(1)),
-        (7, Prim::Divide, 2, Err(Fault::Domain)),
-        (7, Prim::Divide, 0, Err(Fault::Domain)),
-        (LEAST, Prim::Divide, -1, Err(Fault::Limit)),
-        (LEAST, Prim::Divide, 0, Err(Fault::Domain)),
-        (0, Prim::Divide, 5, Ok(0)),
-        (-6, Prim::Divide, 3, Ok(-2)),
-        (3, Prim::Stile, -7, Ok(2)),
-        (3, Prim::Stile, 7, Ok(1)),
-        (-3, Prim::Stile, 7, Ok(-2)),
-        (-3, Prim::Stile, -7, Ok(-1)),
-        (0, Prim::Stile, -5, Ok(-5)),
-        (5, Prim::Stile, LEAST, Ok(2)),
-        (LEAST, Prim::Stile, MOST, Ok(-1)),
-        (MOST, Prim::Stile, LEAST, Ok(MOST - 1)),
-        (-1, Prim::Stile, LEAST, Ok(0)),
-        (0, Prim::Stile, LEAST, Ok(LEAST)),
-        (-2, Prim::Star, 63, Ok(LEAST)),
-        (2, Prim::Star, 63, Err(Fault::Limit)),
-        (2, Prim::Star, 62, Ok(4611686018427387904)),
-        (2, Prim::Star, -1, Err(Fault::Domain)),
-        (0, Prim::Star, 0, Ok(1)),
-        (0, Prim::Star, -1, Err(Fault::Domain)),
-        (-1, Prim::Star, -3, Ok(-1)),
-        (0, Prim::Star, MOST, Ok(0)),
-        (-1, Prim::Star, LEAST, Ok(1)),
-        (-1, Prim::Star, MOST, Ok(-1)),
-        (2, Prim::Star, MOST, Err(Fault::Limit)),
-        (2, Prim::Bang, 5, Ok(10)),
-        (33, Prim::Bang, 66, Ok(7219428434016265740)),
-        (33, Prim::Bang, 67, Err(Fault::Limit)),
-        (0, Prim::Bang, 0, Ok(1)),
-        (5, Prim::Bang, 3, Ok(0)),
-        (-1, Prim::Bang, 3, Err(Fault::Domain)),
-        (3, Prim::Bang, -1, Err(Fault::Domain)),
-        (MOST - 1, Prim::Bang, MOST, Ok(MOST)),
-        (4611686018427387904, Prim::Bang, MOST, Err(Fault::Limit)),
-        (2, Prim::Floor, -3, Ok(-3)),
-        (2, Prim::Ceiling, -3, Ok(2)),
-        (1, Prim::And, 1, Ok(1)),
-        (0, Prim::And, 2, Err(Fault::Domain)),
-        (1, Prim::Or, 5, Err(Fault::Domain)),
-        (0, Prim::Or, 1, Ok(1)),
-        (-1, Prim::Nand, 0, Err(Fault::Domain)),
-        (1, Prim::Nand, 1, Ok(0)),
-        (0, Prim::Nor, 0, Ok(1)),
-        (1, Prim::Less, 2, Ok(1)),
-        (2, Prim::LessOrEqual, 2, Ok(1)),
-        (2, Prim::Equal, 3, Ok(0)),
-        (2, Prim::GreaterOrEqual, 3, Ok(0)),
-        (3, Prim::Greater, 2, Ok(1)),
-        (3, Prim::NotEqual, 2, Ok(1)),
-    ] {
+fn dyadic_functions(rt: HostRuntime) -> Result<(), Fail> {
+    for row in lines_of(rt.alloc(), (DYADIC, 56))? {
+        let Some((x, f, y, wanted)) = dyadic_of(row) else {
+            return Err(Fail::new(format_args!("not a row: {row}")));
+        };
         assert!(rt; f.is_dyadic());
         let answer = apply2(f, Elem::Int(x), Elem::Int(y));
-        assert!(rt; answer == wanted.map(Elem::Int), "{x} {f:?} {y}");
+        assert!(rt; answer == wanted.map(Elem::Int), "{row}");
+        assert!(rt; by_type(f, x, y) == wanted, "{row}");
+    }
+    Ok(())
+}
+
+/// What a function of two numbers answers by its type.
+fn by_type(f: Prim, x: i64, y: i64) -> Result<i64, Fault> {
+    match f {
+        Prim::Plus => Plus::apply(x, y),
+        Prim::Minus => Minus::apply(x, y),
+        Prim::Times => Times::apply(x, y),
+        Prim::Divide => Divide::apply(x, y),
+        Prim::Stile => Stile::apply(x, y),
+        Prim::Star => Star::apply(x, y),
+        Prim::Bang => Bang::apply(x, y),
+        Prim::Floor => Floor::apply(x, y),
+        Prim::Ceiling => Ceiling::apply(x, y),
+        Prim::And => And::apply(x, y),
+        Prim::Or => Or::apply(x, y),
+        Prim::Nand => Nand::apply(x, y),
+        Prim::Nor => Nor::apply(x, y),
+        Prim::Less => Less::apply(x, y),
+        Prim::LessOrEqual => LessOrEqual::apply(x, y),
+        Prim::Equal => Equal::apply(x, y),
+        Prim::GreaterOrEqual => GreaterOrEqual::apply(x, y),
+        Prim::Greater => Greater::apply(x, y),
+        Prim::NotEqual => NotEqual::apply(x, y),
+        Prim::Tilde => Tilde::apply(x, y),
     }
 }
 
-/// Each function by its type.
 #[test]
-fn function_types(rt: HostRuntime) {
-    for (name, answer, wanted) in [
-        ("+", Plus::apply(2, 3), Ok(5)),
-        ("+ past the most", Plus::apply(MOST, 1), Err(Fault::Limit)),
-        ("-", Minus::apply(2, 3), Ok(-1)),
-        (
-            "- past the least",
-            Minus::apply(LEAST, 1),
-            Err(Fault::Limit),
-        ),
-        ("×", Times::apply(-4, 3), Ok(-12)),
-        (
-            "× past the most",
-            Times::apply(LEAST, -1),
-            Err(Fault::Limit),
-        ),
-        ("÷", Divide::apply(12, -3), Ok(-4)),
-        (
-            "÷ with a remainder",
-            Divide::apply(7, 2),
-            Err(Fault::Domain),
-        ),
-        ("|", Stile::apply(3, -7), Ok(2)),
-        ("| of 0", Stile::apply(0, -5), Ok(-5)),
-        ("*", Star::apply(-2, 3), Ok(-8)),
-        ("* past the most", Star::apply(2, 63), Err(Fault::Limit)),
-        ("!", Bang::apply(2, 5), Ok(10)),
-        ("! of -1", Bang::apply(-1, 3), Err(Fault::Domain)),
-        ("⌊", Floor::apply(2, -3), Ok(-3)),
-        ("⌈", Ceiling::apply(2, -3), Ok(2)),
-        ("∧", And::apply(1, 1), Ok(1)),
-        ("∧ of 2", And::apply(0, 2), Err(Fault::Domain)),
-        ("∨", Or::apply(0, 1), Ok(1)),
-        ("∨ of 5", Or::apply(1, 5), Err(Fault::Domain)),
-        ("⍲", Nand::apply(1, 1), Ok(0)),
-        ("⍲ of 2", Nand::apply(2, 1), Err(Fault::Domain)),
-        ("⍱", Nor::apply(0, 0), Ok(1)),
-        ("⍱ of -1", Nor::apply(-1, 0), Err(Fault::Domain)),
-        ("<", Less::apply(1, 2), Ok(1)),
-        ("< of equals", Less::apply(2, 2), Ok(0)),
-        ("≤", LessOrEqual::apply(2, 2), Ok(1)),
-        ("≤ downwards", LessOrEqual::apply(3, 2), Ok(0)),
-        ("=", Equal::apply(LEAST, LEAST), Ok(1)),
-        ("= of others", Equal::apply(2, 3), Ok(0)),
-        ("≥", GreaterOrEqual::apply(2, 2), Ok(1)),
-        ("≥ upwards", GreaterOrEqual::apply(2, 3), Ok(0)),
-        (">", Greater::apply(3, 2), Ok(1)),
-        ("> of equals", Greater::apply(2, 2), Ok(0)),
-        ("≠", NotEqual::apply(3, 2), Ok(1)),
-        ("≠ of equals", NotEqual::apply(2, 2), Ok(0)),
-        ("~ of two", Tilde::apply(1, 0), Err(Fault::Domain)),
-    ] {
-        assert!(rt; answer == wanted, "{name}");
+fn function_types(rt: HostRuntime) -> Result<(), Fail> {
+    for row in lines_of(rt.alloc(), (TYPED, 37))? {
+        let Some((x, f, y, wanted)) = dyadic_of(row) else {
+            return Err(Fail::new(format_args!("not a row: {row}")));
+        };
+        assert!(rt; by_type(f, x, y) == wanted, "{row}");
     }
+    Ok(())
 }
 
 #[test]
@@ -195,29 +292,17 @@ fn characters(rt: HostRuntime) {
 }
 
 #[test]
-fn identities(rt: HostRuntime) {
-    for (f, wanted) in [
-        (Prim::Plus, Some(0)),
-        (Prim::Minus, Some(0)),
-        (Prim::Times, Some(1)),
-        (Prim::Divide, Some(1)),
-        (Prim::Stile, Some(0)),
-        (Prim::Star, Some(1)),
-        (Prim::Bang, Some(1)),
-        (Prim::Floor, Some(MOST)),
-        (Prim::Ceiling, Some(LEAST)),
-        (Prim::And, Some(1)),
-        (Prim::Or, Some(0)),
-        (Prim::Nand, None),
-        (Prim::Nor, None),
-        (Prim::Less, Some(0)),
-        (Prim::LessOrEqual, Some(1)),
-        (Prim::Equal, Some(1)),
-        (Prim::GreaterOrEqual, Some(1)),
-        (Prim::Greater, Some(0)),
-        (Prim::NotEqual, Some(0)),
-    ] {
-        assert!(rt; f.is_dyadic());
-        assert!(rt; identity(f) == wanted, "{f:?}");
+fn identities(rt: HostRuntime) -> Result<(), Fail> {
+    for row in lines_of(rt.alloc(), (IDENTITIES, 19))? {
+        let Some((symbol, text)) = row.split_once(" → ") else {
+            return Err(Fail::new(format_args!("not a row: {row}")));
+        };
+        let Some(f) = function_of(symbol) else {
+            return Err(Fail::new(format_args!("not a function: {row}")));
+        };
+        let wanted = number_of(text);
+        assert!(rt; f.is_dyadic() && (wanted.is_some() || text == "none"));
+        assert!(rt; identity(f) == wanted, "{row}");
     }
+    Ok(())
 }

@@ -17,6 +17,8 @@ mod filled;
 #[cfg(test)]
 mod notation;
 #[cfg(test)]
+mod pieces;
+#[cfg(test)]
 mod printed;
 #[cfg(test)]
 mod rooms;

@@ -1,6 +1,7 @@
 //! The scalar functions of arrays of several shapes, by several workers.
+use crate::pieces::Pieces;
 use crate::tables::check;
-use apl_pool::{Every, Open, Pool};
+use apl_pool::{Open, Pool};
 use apl_scalar::{answer_is_each_outcome, answers_are_in_range, answers_are_within_limits};
 use std::test::Fail;
 
@@ -41,14 +42,14 @@ const TWO_ARGUMENTS: &str = "\
 /// By two workers and pieces of one.
 #[test]
 fn one_argument(rt: HostRuntime) -> Result<(), Fail> {
-    let pool = Pool::new(2, Every(1), Open);
+    let pool = Pool::new(2, Pieces::Every(1), Open);
     check(&rt, rt.alloc(), &pool, (ONE_ARGUMENT, 5))
 }
 
 /// By three workers and pieces of one.
 #[test]
 fn two_arguments(rt: HostRuntime) -> Result<(), Fail> {
-    let pool = Pool::new(3, Every(1), Open);
+    let pool = Pool::new(3, Pieces::Every(1), Open);
     check(&rt, rt.alloc(), &pool, (TWO_ARGUMENTS, 20))?;
     answer_is_each_outcome();
     answers_are_in_range();
@@ -66,7 +67,7 @@ const FAULTY: &str = "\
 fn the_least_place_decides(rt: HostRuntime) -> Result<(), Fail> {
     for workers in [1, 2, 3, 64u8] {
         for piece in [0, 1, 2, 3, 4096, usize::MAX] {
-            let pool = Pool::new(workers, Every(piece), Open);
+            let pool = Pool::new(workers, Pieces::Every(piece), Open);
             check(&rt, rt.alloc(), &pool, (FAULTY, 2))?;
         }
     }

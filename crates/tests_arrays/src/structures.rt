@@ -7,8 +7,9 @@ mod refusals;
 mod small;
 
 use crate::notation::array_of;
+use crate::pieces::Pieces;
 use crate::tables::{Table, check};
-use apl_pool::{Every, Open, Pool};
+use apl_pool::{Open, Pool};
 use apl_reduce::{partial_results_decide, reduced_answers_are_within_limits};
 use apl_scalar::OpFault;
 use apl_struct::{axis_number, one_grade, structural_answers_are_within_limits};
@@ -24,7 +25,7 @@ fn check_small<R: Abort + Threads + Sync>(
     tables: &[Table],
 ) -> Result<(), Fail> {
     for (workers, piece) in [(1u8, 4096), (2, 11), (3, 1), (64, 2)] {
-        let pool = Pool::new(workers, Every(piece), Open);
+        let pool = Pool::new(workers, Pieces::Every(piece), Open);
         for table in tables {
             check(rt, alloc, &pool, *table)?;
         }
@@ -39,7 +40,7 @@ fn check_large<R: Abort + Threads + Sync>(
     tables: &[Table],
 ) -> Result<(), Fail> {
     for (workers, piece) in [(1u8, usize::MAX), (3, 4096), (64, 1000)] {
-        let pool = Pool::new(workers, Every(piece), Open);
+        let pool = Pool::new(workers, Pieces::Every(piece), Open);
         for table in tables {
             check(rt, alloc, &pool, *table)?;
         }
@@ -136,7 +137,7 @@ fn large_arrays(rt: HostRuntime) -> Result<(), Fail> {
 
 #[test]
 fn larger_arrays(rt: HostRuntime) -> Result<(), Fail> {
-    let pool = Pool::new(3, Every(65536), Open);
+    let pool = Pool::new(3, Pieces::Every(65536), Open);
     check(&rt, rt.alloc(), &pool, (large::MANY, 47))
 }
 

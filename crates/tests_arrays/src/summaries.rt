@@ -4,8 +4,9 @@ ghost use Rattle.apl_array.specs.Valences.{has_dyadic};
 ghost use Rattle.apl_pool.specs.declared.kernel.TheConstants.{MOST_PLACES};
 ghost use Rattle.apl_summary.specs.Functions.{has_summary};
 
+use crate::pieces::Pieces;
 use apl_array::{Array, Axis, Elem, Shape};
-use apl_pool::{Cut, Fault, MOST_PLACES, Open, Pool, Rows, Schedule, Stop, Summary};
+use apl_pool::{Fault, MOST_PLACES, Open, Pool, Rows, Schedule, Stop, Summary};
 use apl_reduce::reduce;
 use apl_scalar::function_types::{And, Less};
 use apl_scalar::{OpFault, Prim, apply2};
@@ -117,18 +118,6 @@ fn consecutive_sums(rt: HostRuntime) -> Result<(), Fail> {
     }
     assert!(rt; tells(ones.as_slice(), 3000, false));
     Ok(())
-}
-
-/// A piece ends behind each place whose bit is set.
-#[derive(Clone, Copy, Drop)]
-struct Masked(u64);
-
-impl Cut for Masked {
-    fn first(&self, start: usize, rest: usize) -> usize {
-        let passed = u32::try_from(start).unwrap_or(u64::BITS);
-        let ends = self.0.checked_shr(passed).unwrap_or(0);
-        rest.min(ends.trailing_zeros() as usize + 1)
-    }
 }
 
 /// Numbers near the ends of the range, near the ends of its half, and near 0.
@@ -282,7 +271,7 @@ fn every_nesting_agrees<R: Threads + Sync>(
     }
     let mut agree = true;
     for mask in 0..1u64 << (items.len() - 2) {
-        let pool = Pool::new(1, Masked(mask), Open);
+        let pool = Pool::new(1, Pieces::Masked(mask), Open);
         agree &= is_folded(
             fold_rows(rt, alloc, &pool, f, &AllButLast { items }),
             wanted,
@@ -304,7 +293,7 @@ fn every_share_agrees<R: Threads + Sync>(
 {
     let mut agree = true;
     for mask in 0..1u64 << (array.shape().count().clamp(2, 8) - 2) {
-        let pool = Pool::with(3, schedule, Masked(mask), Open);
+        let pool = Pool::with(3, schedule, Pieces::Masked(mask), Open);
         agree &= is_one_pass(reduce(rt, alloc, &pool, f, array, Axis::Last), wanted);
     }
     agree

@@ -1,8 +1,9 @@
 //! What the calls of a table answer.
 use crate::calls::{Call, Dyadic, Monadic, Row, row_of};
 use crate::notation::rows_of;
+use crate::pieces::Pieces;
 use apl_array::{Array, Origin};
-use apl_pool::{Every, Open, Pool};
+use apl_pool::{Open, Pool};
 use apl_reduce::{decode, encode, inner, outer, reduce};
 use apl_scalar::{OpFault, dyadic, monadic};
 use apl_struct::{
@@ -20,7 +21,7 @@ pub(crate) type Table = (&'static str, usize);
 fn one_argument<R: Threads + Sync>(
     rt: &R,
     alloc: Global,
-    pool: &Pool<Every, Open>,
+    pool: &Pool<Pieces, Open>,
     function: Monadic,
     b: &Array,
 ) -> Result<Result<Array, OpFault>, Fail> {
@@ -43,7 +44,7 @@ fn one_argument<R: Threads + Sync>(
 fn two_arguments<R: Threads + Sync>(
     rt: &R,
     alloc: Global,
-    pool: &Pool<Every, Open>,
+    pool: &Pool<Pieces, Open>,
     a: &Array,
     function: Dyadic,
     b: &Array,
@@ -76,7 +77,7 @@ fn two_arguments<R: Threads + Sync>(
 fn slotted<R: Threads + Sync>(
     rt: &R,
     alloc: Global,
-    pool: &Pool<Every, Open>,
+    pool: &Pool<Pieces, Open>,
     (a, arrays, origin): (&Array, &Vec<Option<Array>>, Origin),
     b: Option<&Array>,
 ) -> Result<Result<Array, OpFault>, Fail> {
@@ -91,7 +92,7 @@ fn slotted<R: Threads + Sync>(
 fn answer_of<R: Threads + Sync>(
     rt: &R,
     alloc: Global,
-    pool: &Pool<Every, Open>,
+    pool: &Pool<Pieces, Open>,
     call: &Call,
 ) -> Result<Result<Array, OpFault>, Fail> {
     match call {
@@ -121,7 +122,7 @@ pub(crate) fn is_answer(answer: Result<Array, OpFault>, wanted: Result<Array, Op
 pub(crate) fn check<R: Abort + Threads + Sync>(
     rt: &R,
     alloc: Global,
-    pool: &Pool<Every, Open>,
+    pool: &Pool<Pieces, Open>,
     (table, count): Table,
 ) -> Result<(), Fail> {
     let rows = rows_of(alloc, table)?;

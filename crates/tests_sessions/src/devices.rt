@@ -1,5 +1,6 @@
 //! Sources and sinks: in memory, and over readers and writers that fail at one call.
-use apl_pool::{Every, Open, Pool};
+use crate::doors::Door;
+use apl_pool::{Every, Pool};
 use apl_print::{Countdown, MemorySink, Out, Sink, SinkFault, put_all};
 use apl_session::{In, MemorySource, Source, SourceFault, run};
 use std::cell::Cell;
@@ -236,7 +237,7 @@ fn each_answer_is_written_before_the_next_line_is_read(rt: HostRuntime) -> Resul
     for _ in 0..1000 {
         session.push_str("1\n2\n3\n")?;
     }
-    let pool = Pool::new(2, Every(1), Open);
+    let pool = Pool::new(2, Every(1), Door::Open);
     let mut source = In::new(turns(session.as_bytes()));
     let mut sink = Out::new(turns(b""));
     let outcome = run(&rt, rt.alloc(), &pool, &mut source, &mut sink);
@@ -246,7 +247,7 @@ fn each_answer_is_written_before_the_next_line_is_read(rt: HostRuntime) -> Resul
 
 #[test]
 fn a_reader_and_a_writer(rt: HostRuntime) -> Result<(), Fail> {
-    let pool = Pool::new(1, Every(4096), Open);
+    let pool = Pool::new(1, Every(4096), Door::Open);
     let mut written = Vec::new(rt.alloc());
     let mut source = In::new(b"12\r\n\n34".as_slice());
     let mut sink = Out::new(&mut written);

@@ -1,5 +1,6 @@
 //! Runs whose sources or sinks fail, and how they end.
-use apl_pool::{Every, Open, Pool};
+use crate::doors::Door;
+use apl_pool::{Every, Pool};
 use apl_print::MemorySink;
 use apl_session::{BLOCK, MemorySource, Next, RunFault, Session, ending, one_run, run, some_run};
 use std::alloc::Global;
@@ -15,7 +16,7 @@ fn written<R: Threads + Sync>(
     most: usize,
     read_fails: Option<u64>,
 ) -> (Result<(), RunFault>, MemorySink) {
-    let pool = Pool::new(1, Every(4096), Open);
+    let pool = Pool::new(1, Every(4096), Door::Open);
     let mut source = MemorySource::new(text, most.max(1), read_fails);
     let mut sink = MemorySink::new(alloc, most.max(1), None);
     let outcome = run(rt, alloc, &pool, &mut source, &mut sink);
@@ -79,7 +80,7 @@ fn answers_whole_lines_before_a_failed_read(rt: HostRuntime) {
 #[test]
 fn a_source_that_fails(rt: HostRuntime) {
     for workers in [1, 64] {
-        let pool = Pool::new(workers, Every(1), Open);
+        let pool = Pool::new(workers, Every(1), Door::Open);
         let mut source = MemorySource::new(b"1+1\n2+", 6, Some(2));
         let mut sink = MemorySink::new(rt.alloc(), 7, None);
         let outcome = run(&rt, rt.alloc(), &pool, &mut source, &mut sink);
@@ -91,7 +92,7 @@ fn a_source_that_fails(rt: HostRuntime) {
 fn a_sink_that_fails_at_each_call_in_turn(rt: HostRuntime) {
     let text = "6\nLENGTH ERROR\n      1 2+1 2 3\n         ∧\n".as_bytes();
     for workers in [1, 64] {
-        let pool = Pool::new(workers, Every(1), Open);
+        let pool = Pool::new(workers, Every(1), Door::Open);
         for most in [1, 7] {
             let session = "A+A←3\n1 2+1 2 3\n".as_bytes();
             fail_in_turn(&rt, rt.alloc(), &pool, session, most, text);
@@ -103,7 +104,7 @@ fn a_sink_that_fails_at_each_call_in_turn(rt: HostRuntime) {
 fn fail_in_turn<R: Abort + Threads + Sync>(
     rt: &R,
     alloc: Global,
-    pool: &Pool<Every, Open>,
+    pool: &Pool<Every, Door>,
     session: &[u8],
     most: usize,
     text: &[u8],
@@ -130,7 +131,7 @@ fn fail_in_turn<R: Abort + Threads + Sync>(
 fn a_session_is_as_after_a_line_whose_write_fails(rt: HostRuntime) {
     let alloc = rt.alloc();
     for workers in [1, 64] {
-        let pool = Pool::new(workers, Every(1), Open);
+        let pool = Pool::new(workers, Every(1), Door::Open);
         let mut session = Session::new(alloc);
         let mut failing = MemorySink::new(alloc, 7, Some(1));
         let failed = session.line(&rt, alloc, &pool, "A+A←3".as_bytes(), &mut failing);

@@ -4,6 +4,8 @@ ghost use Rattle.apl_pool.specs.declared.kernel.TheConstants.{MOST_PLACES};
 ghost use Rattle.tests_sessions.specs.declared.gates.TheConstants.{HALF};
 
 use super::pools::Numbers;
+use crate::doors::{Door, Meeting};
+use crate::transcripts::{Table, lines_of};
 use apl_pool::{Every, Fault, Gate, Kernel, MOST_PLACES, Pool, Schedule, Summary};
 use apl_print::MemorySink;
 use apl_session::{BLOCK, MemorySource, run};
@@ -12,45 +14,6 @@ use std::alloc::{AllocError, Global};
 use std::sync::atomic::{AtomicU64, Ordering};
 use std::test::Fail;
 use std::thread::Threads;
-
-/// Each of two workers waits at each of its pieces until the other one has come as often.
-#[derive(Drop)]
-struct Meeting {
-    come: [AtomicU64; 2],
-    met: AtomicU64,
-}
-
-impl Meeting {
-    fn new() -> Meeting {
-        Meeting {
-            come: [AtomicU64::new(0), AtomicU64::new(0)],
-            met: AtomicU64::new(0),
-        }
-    }
-
-    /// How often a worker has met the other one.
-    fn met(&self) -> u64 {
-        self.met.load(Ordering::SeqCst)
-    }
-}
-
-impl Gate for Meeting {
-    fn pass(&self, worker: u8, _piece: u32) {
-        let [first, second] = &self.come;
-        let (here, there) = if worker == 0 {
-            (first, second)
-        } else {
-            (second, first)
-        };
-        let before = here.fetch_add(1, Ordering::SeqCst);
-        for _ in 0..2_000_000_000u64 {
-            if there.load(Ordering::SeqCst) > before {
-                self.met.fetch_add(1, Ordering::SeqCst);
-                return;
-            }
-        }
-    }
-}
 
 /// The number 1 at each place.
 #[derive(Drop)]
@@ -222,299 +185,299 @@ fn gate_deal(rt: HostRuntime) -> Result<(), Fail> {
 }
 
 /// Functions of the elements of `A`, which are all 1, and what they are for two of them.
-const FUNCTIONS: [(&str, &str); 28] = [
-    ("+A", "1 1\n"),
-    ("-A", "¯1 ¯1\n"),
-    ("×A", "1 1\n"),
-    ("÷A", "1 1\n"),
-    ("|A", "1 1\n"),
-    ("!A", "1 1\n"),
-    ("⌊A", "1 1\n"),
-    ("⌈A", "1 1\n"),
-    ("~A", "0 0\n"),
-    ("A+A", "2 2\n"),
-    ("A-A", "0 0\n"),
-    ("A×A", "1 1\n"),
-    ("A÷A", "1 1\n"),
-    ("A|A", "0 0\n"),
-    ("A*A", "1 1\n"),
-    ("A!A", "1 1\n"),
-    ("A⌊A", "1 1\n"),
-    ("A⌈A", "1 1\n"),
-    ("A∧A", "1 1\n"),
-    ("A∨A", "1 1\n"),
-    ("A⍲A", "0 0\n"),
-    ("A⍱A", "0 0\n"),
-    ("A<A", "0 0\n"),
-    ("A≤A", "1 1\n"),
-    ("A=A", "1 1\n"),
-    ("A≥A", "1 1\n"),
-    ("A>A", "0 0\n"),
-    ("A≠A", "0 0\n"),
-];
+const FUNCTIONS: &str = r"
+    +A → 1 1⏎
+    -A → ¯1 ¯1⏎
+    ×A → 1 1⏎
+    ÷A → 1 1⏎
+    |A → 1 1⏎
+    !A → 1 1⏎
+    ⌊A → 1 1⏎
+    ⌈A → 1 1⏎
+    ~A → 0 0⏎
+    A+A → 2 2⏎
+    A-A → 0 0⏎
+    A×A → 1 1⏎
+    A÷A → 1 1⏎
+    A|A → 0 0⏎
+    A*A → 1 1⏎
+    A!A → 1 1⏎
+    A⌊A → 1 1⏎
+    A⌈A → 1 1⏎
+    A∧A → 1 1⏎
+    A∨A → 1 1⏎
+    A⍲A → 0 0⏎
+    A⍱A → 0 0⏎
+    A<A → 0 0⏎
+    A≤A → 1 1⏎
+    A=A → 1 1⏎
+    A≥A → 1 1⏎
+    A>A → 0 0⏎
+    A≠A → 0 0⏎
+    ";
 
 /// What the structural functions get: numbers of axis lengths, no elements, and one row of all elements of `A`.
 const ARGUMENTS: &str = "Z←T⍴''\nM←S⍴A\n";
 
 /// Structural functions of `A`, whose elements are all 1, of its count `N`, of the shape `S` of `M`, which is its elements as
 /// a row, and of `Z` without a row. Each has as many elements as `A`; here is what it is for two of them.
-const STRUCTURES: [(&str, &str); 52] = [
-    ("S⍴A", "1 1\n"),
-    ("N⍴3", "3 3\n"),
-    (",M", "1 1\n"),
-    ("⍳N", "1 2\n"),
-    ("⌽A", "1 1\n"),
-    ("⌽M", "1 1\n"),
-    ("⌽[1]M", "1 1\n"),
-    ("⊖A", "1 1\n"),
-    ("⊖M", "1 1\n"),
-    ("⊖[2]M", "1 1\n"),
-    ("⍉A", "1 1\n"),
-    ("⍉M", "1\n1\n"),
-    ("⍋A", "1 2\n"),
-    ("⍒A", "1 2\n"),
-    ("A,''", "1 1\n"),
-    ("'',A", "1 1\n"),
-    ("M,[1]Z", "1 1\n"),
-    ("Z,[1]A", "1 1\n"),
-    ("A⍳A", "1 1\n"),
-    ("A⍳M", "1 1\n"),
-    ("A∊A", "1 1\n"),
-    ("M∊3", "0 0\n"),
-    ("N↑A", "1 1\n"),
-    ("N↑''", "  \n"),
-    ("S↑M", "1 1\n"),
-    ("0↓A", "1 1\n"),
-    ("0 0↓M", "1 1\n"),
-    ("1⌽A", "1 1\n"),
-    ("1⌽[1]M", "1 1\n"),
-    ("A⊖M", "1 1\n"),
-    ("1⊖[2]M", "1 1\n"),
-    ("1⍉A", "1 1\n"),
-    ("2 1⍉M", "1\n1\n"),
-    ("A/A", "1 1\n"),
-    ("A/3", "3 3\n"),
-    ("1/[1]M", "1 1\n"),
-    ("1⌿M", "1 1\n"),
-    ("A⌿[2]M", "1 1\n"),
-    ("A\\A", "1 1\n"),
-    ("1\\[1]M", "1 1\n"),
-    ("1⍀M", "1 1\n"),
-    ("A⍀[2]M", "1 1\n"),
-    ("A[A]", "1 1\n"),
-    ("A[]", "1 1\n"),
-    ("M[1;]", "1 1\n"),
-    ("M[;A]", "1 1\n"),
-    ("M[;]", "1 1\n"),
-    ("(M)[A;1]", "1 1\n"),
-    ("A[1]←1", ""),
-    ("A[A]←A", ""),
-    ("M[1;]←A", ""),
-    ("M[;]←1", ""),
-];
+const STRUCTURES: &str = r"
+    S⍴A → 1 1⏎
+    N⍴3 → 3 3⏎
+    ,M → 1 1⏎
+    ⍳N → 1 2⏎
+    ⌽A → 1 1⏎
+    ⌽M → 1 1⏎
+    ⌽[1]M → 1 1⏎
+    ⊖A → 1 1⏎
+    ⊖M → 1 1⏎
+    ⊖[2]M → 1 1⏎
+    ⍉A → 1 1⏎
+    ⍉M → 1⏎1⏎
+    ⍋A → 1 2⏎
+    ⍒A → 1 2⏎
+    A,'' → 1 1⏎
+    '',A → 1 1⏎
+    M,[1]Z → 1 1⏎
+    Z,[1]A → 1 1⏎
+    A⍳A → 1 1⏎
+    A⍳M → 1 1⏎
+    A∊A → 1 1⏎
+    M∊3 → 0 0⏎
+    N↑A → 1 1⏎
+    N↑'' →   ⏎
+    S↑M → 1 1⏎
+    0↓A → 1 1⏎
+    0 0↓M → 1 1⏎
+    1⌽A → 1 1⏎
+    1⌽[1]M → 1 1⏎
+    A⊖M → 1 1⏎
+    1⊖[2]M → 1 1⏎
+    1⍉A → 1 1⏎
+    2 1⍉M → 1⏎1⏎
+    A/A → 1 1⏎
+    A/3 → 3 3⏎
+    1/[1]M → 1 1⏎
+    1⌿M → 1 1⏎
+    A⌿[2]M → 1 1⏎
+    A\A → 1 1⏎
+    1\[1]M → 1 1⏎
+    1⍀M → 1 1⏎
+    A⍀[2]M → 1 1⏎
+    A[A] → 1 1⏎
+    A[] → 1 1⏎
+    M[1;] → 1 1⏎
+    M[;A] → 1 1⏎
+    M[;] → 1 1⏎
+    (M)[A;1] → 1 1⏎
+    A[1]←1 →
+    A[A]←A →
+    M[1;]←A →
+    M[;]←1 →
+    ";
 
 /// What the reductions get: so many items for each element of `A`, as rows and as columns.
 const ITEMS: &str = "C←V⍴A\nD←W⍴A\n";
 
 /// Reductions and products of `A`, whose elements are all 1, by each function. Each has as many elements as `A`; here is what it
 /// is for two of them and three items, as many as `R` has.
-const REDUCTIONS: [(&str, &str); 116] = [
-    ("+/D", "3 3\n"),
-    ("+⌿C", "3 3\n"),
-    ("+/[1]C", "3 3\n"),
-    ("+⌿[2]D", "3 3\n"),
-    ("A∘.+1", "2 2\n"),
-    ("D+.×R", "3 3\n"),
-    ("-/D", "1 1\n"),
-    ("-⌿C", "1 1\n"),
-    ("-/[1]C", "1 1\n"),
-    ("-⌿[2]D", "1 1\n"),
-    ("A∘.-1", "0 0\n"),
-    ("D-.×R", "1 1\n"),
-    ("×/D", "1 1\n"),
-    ("×⌿C", "1 1\n"),
-    ("×/[1]C", "1 1\n"),
-    ("×⌿[2]D", "1 1\n"),
-    ("A∘.×1", "1 1\n"),
-    ("D×.×R", "1 1\n"),
-    ("÷/D", "1 1\n"),
-    ("÷⌿C", "1 1\n"),
-    ("÷/[1]C", "1 1\n"),
-    ("÷⌿[2]D", "1 1\n"),
-    ("A∘.÷1", "1 1\n"),
-    ("D÷.×R", "1 1\n"),
-    ("|/D", "0 0\n"),
-    ("|⌿C", "0 0\n"),
-    ("|/[1]C", "0 0\n"),
-    ("|⌿[2]D", "0 0\n"),
-    ("A∘.|1", "0 0\n"),
-    ("D|.×R", "0 0\n"),
-    ("*/D", "1 1\n"),
-    ("*⌿C", "1 1\n"),
-    ("*/[1]C", "1 1\n"),
-    ("*⌿[2]D", "1 1\n"),
-    ("A∘.*1", "1 1\n"),
-    ("D*.×R", "1 1\n"),
-    ("!/D", "1 1\n"),
-    ("!⌿C", "1 1\n"),
-    ("!/[1]C", "1 1\n"),
-    ("!⌿[2]D", "1 1\n"),
-    ("A∘.!1", "1 1\n"),
-    ("D!.×R", "1 1\n"),
-    ("⌊/D", "1 1\n"),
-    ("⌊⌿C", "1 1\n"),
-    ("⌊/[1]C", "1 1\n"),
-    ("⌊⌿[2]D", "1 1\n"),
-    ("A∘.⌊1", "1 1\n"),
-    ("D⌊.×R", "1 1\n"),
-    ("⌈/D", "1 1\n"),
-    ("⌈⌿C", "1 1\n"),
-    ("⌈/[1]C", "1 1\n"),
-    ("⌈⌿[2]D", "1 1\n"),
-    ("A∘.⌈1", "1 1\n"),
-    ("D⌈.×R", "1 1\n"),
-    ("∧/D", "1 1\n"),
-    ("∧⌿C", "1 1\n"),
-    ("∧/[1]C", "1 1\n"),
-    ("∧⌿[2]D", "1 1\n"),
-    ("A∘.∧1", "1 1\n"),
-    ("D∧.×R", "1 1\n"),
-    ("∨/D", "1 1\n"),
-    ("∨⌿C", "1 1\n"),
-    ("∨/[1]C", "1 1\n"),
-    ("∨⌿[2]D", "1 1\n"),
-    ("A∘.∨1", "1 1\n"),
-    ("D∨.×R", "1 1\n"),
-    ("⍲/D", "1 1\n"),
-    ("⍲⌿C", "1 1\n"),
-    ("⍲/[1]C", "1 1\n"),
-    ("⍲⌿[2]D", "1 1\n"),
-    ("A∘.⍲1", "0 0\n"),
-    ("D⍲.×R", "1 1\n"),
-    ("⍱/D", "0 0\n"),
-    ("⍱⌿C", "0 0\n"),
-    ("⍱/[1]C", "0 0\n"),
-    ("⍱⌿[2]D", "0 0\n"),
-    ("A∘.⍱1", "0 0\n"),
-    ("D⍱.×R", "0 0\n"),
-    ("</D", "0 0\n"),
-    ("<⌿C", "0 0\n"),
-    ("</[1]C", "0 0\n"),
-    ("<⌿[2]D", "0 0\n"),
-    ("A∘.<1", "0 0\n"),
-    ("D<.×R", "0 0\n"),
-    ("≤/D", "1 1\n"),
-    ("≤⌿C", "1 1\n"),
-    ("≤/[1]C", "1 1\n"),
-    ("≤⌿[2]D", "1 1\n"),
-    ("A∘.≤1", "1 1\n"),
-    ("D≤.×R", "1 1\n"),
-    ("=/D", "1 1\n"),
-    ("=⌿C", "1 1\n"),
-    ("=/[1]C", "1 1\n"),
-    ("=⌿[2]D", "1 1\n"),
-    ("A∘.=1", "1 1\n"),
-    ("D=.×R", "1 1\n"),
-    ("≥/D", "1 1\n"),
-    ("≥⌿C", "1 1\n"),
-    ("≥/[1]C", "1 1\n"),
-    ("≥⌿[2]D", "1 1\n"),
-    ("A∘.≥1", "1 1\n"),
-    ("D≥.×R", "1 1\n"),
-    (">/D", "1 1\n"),
-    (">⌿C", "1 1\n"),
-    (">/[1]C", "1 1\n"),
-    (">⌿[2]D", "1 1\n"),
-    ("A∘.>1", "0 0\n"),
-    ("D>.×R", "1 1\n"),
-    ("≠/D", "1 1\n"),
-    ("≠⌿C", "1 1\n"),
-    ("≠/[1]C", "1 1\n"),
-    ("≠⌿[2]D", "1 1\n"),
-    ("A∘.≠1", "0 0\n"),
-    ("D≠.×R", "1 1\n"),
-    ("2⊤A", "1 1\n"),
-    ("R+.×C", "3 3\n"),
-];
+const REDUCTIONS: &str = r"
+    +/D → 3 3⏎
+    +⌿C → 3 3⏎
+    +/[1]C → 3 3⏎
+    +⌿[2]D → 3 3⏎
+    A∘.+1 → 2 2⏎
+    D+.×R → 3 3⏎
+    -/D → 1 1⏎
+    -⌿C → 1 1⏎
+    -/[1]C → 1 1⏎
+    -⌿[2]D → 1 1⏎
+    A∘.-1 → 0 0⏎
+    D-.×R → 1 1⏎
+    ×/D → 1 1⏎
+    ×⌿C → 1 1⏎
+    ×/[1]C → 1 1⏎
+    ×⌿[2]D → 1 1⏎
+    A∘.×1 → 1 1⏎
+    D×.×R → 1 1⏎
+    ÷/D → 1 1⏎
+    ÷⌿C → 1 1⏎
+    ÷/[1]C → 1 1⏎
+    ÷⌿[2]D → 1 1⏎
+    A∘.÷1 → 1 1⏎
+    D÷.×R → 1 1⏎
+    |/D → 0 0⏎
+    |⌿C → 0 0⏎
+    |/[1]C → 0 0⏎
+    |⌿[2]D → 0 0⏎
+    A∘.|1 → 0 0⏎
+    D|.×R → 0 0⏎
+    */D → 1 1⏎
+    *⌿C → 1 1⏎
+    */[1]C → 1 1⏎
+    *⌿[2]D → 1 1⏎
+    A∘.*1 → 1 1⏎
+    D*.×R → 1 1⏎
+    !/D → 1 1⏎
+    !⌿C → 1 1⏎
+    !/[1]C → 1 1⏎
+    !⌿[2]D → 1 1⏎
+    A∘.!1 → 1 1⏎
+    D!.×R → 1 1⏎
+    ⌊/D → 1 1⏎
+    ⌊⌿C → 1 1⏎
+    ⌊/[1]C → 1 1⏎
+    ⌊⌿[2]D → 1 1⏎
+    A∘.⌊1 → 1 1⏎
+    D⌊.×R → 1 1⏎
+    ⌈/D → 1 1⏎
+    ⌈⌿C → 1 1⏎
+    ⌈/[1]C → 1 1⏎
+    ⌈⌿[2]D → 1 1⏎
+    A∘.⌈1 → 1 1⏎
+    D⌈.×R → 1 1⏎
+    ∧/D → 1 1⏎
+    ∧⌿C → 1 1⏎
+    ∧/[1]C → 1 1⏎
+    ∧⌿[2]D → 1 1⏎
+    A∘.∧1 → 1 1⏎
+    D∧.×R → 1 1⏎
+    ∨/D → 1 1⏎
+    ∨⌿C → 1 1⏎
+    ∨/[1]C → 1 1⏎
+    ∨⌿[2]D → 1 1⏎
+    A∘.∨1 → 1 1⏎
+    D∨.×R → 1 1⏎
+    ⍲/D → 1 1⏎
+    ⍲⌿C → 1 1⏎
+    ⍲/[1]C → 1 1⏎
+    ⍲⌿[2]D → 1 1⏎
+    A∘.⍲1 → 0 0⏎
+    D⍲.×R → 1 1⏎
+    ⍱/D → 0 0⏎
+    ⍱⌿C → 0 0⏎
+    ⍱/[1]C → 0 0⏎
+    ⍱⌿[2]D → 0 0⏎
+    A∘.⍱1 → 0 0⏎
+    D⍱.×R → 0 0⏎
+    </D → 0 0⏎
+    <⌿C → 0 0⏎
+    </[1]C → 0 0⏎
+    <⌿[2]D → 0 0⏎
+    A∘.<1 → 0 0⏎
+    D<.×R → 0 0⏎
+    ≤/D → 1 1⏎
+    ≤⌿C → 1 1⏎
+    ≤/[1]C → 1 1⏎
+    ≤⌿[2]D → 1 1⏎
+    A∘.≤1 → 1 1⏎
+    D≤.×R → 1 1⏎
+    =/D → 1 1⏎
+    =⌿C → 1 1⏎
+    =/[1]C → 1 1⏎
+    =⌿[2]D → 1 1⏎
+    A∘.=1 → 1 1⏎
+    D=.×R → 1 1⏎
+    ≥/D → 1 1⏎
+    ≥⌿C → 1 1⏎
+    ≥/[1]C → 1 1⏎
+    ≥⌿[2]D → 1 1⏎
+    A∘.≥1 → 1 1⏎
+    D≥.×R → 1 1⏎
+    >/D → 1 1⏎
+    >⌿C → 1 1⏎
+    >/[1]C → 1 1⏎
+    >⌿[2]D → 1 1⏎
+    A∘.>1 → 0 0⏎
+    D>.×R → 1 1⏎
+    ≠/D → 1 1⏎
+    ≠⌿C → 1 1⏎
+    ≠/[1]C → 1 1⏎
+    ≠⌿[2]D → 1 1⏎
+    A∘.≠1 → 0 0⏎
+    D≠.×R → 1 1⏎
+    2⊤A → 1 1⏎
+    R+.×C → 3 3⏎
+    ";
 
 /// The functions whose folds are cut along the axis, of `F`, whose elements are all 1: one result; here is what it is for three items.
-const CUT_FOLDS: [(&str, &str); 75] = [
-    ("+/F", "3\n"),
-    ("+⌿F", "3\n"),
-    ("+/[1]F", "3\n"),
-    ("+⌿[1]F", "3\n"),
-    ("F+.×F", "3\n"),
-    ("-/F", "1\n"),
-    ("-⌿F", "1\n"),
-    ("-/[1]F", "1\n"),
-    ("-⌿[1]F", "1\n"),
-    ("F-.×F", "1\n"),
-    ("×/F", "1\n"),
-    ("×⌿F", "1\n"),
-    ("×/[1]F", "1\n"),
-    ("×⌿[1]F", "1\n"),
-    ("F×.×F", "1\n"),
-    ("⌊/F", "1\n"),
-    ("⌊⌿F", "1\n"),
-    ("⌊/[1]F", "1\n"),
-    ("⌊⌿[1]F", "1\n"),
-    ("F⌊.×F", "1\n"),
-    ("⌈/F", "1\n"),
-    ("⌈⌿F", "1\n"),
-    ("⌈/[1]F", "1\n"),
-    ("⌈⌿[1]F", "1\n"),
-    ("F⌈.×F", "1\n"),
-    ("∧/F", "1\n"),
-    ("∧⌿F", "1\n"),
-    ("∧/[1]F", "1\n"),
-    ("∧⌿[1]F", "1\n"),
-    ("F∧.×F", "1\n"),
-    ("∨/F", "1\n"),
-    ("∨⌿F", "1\n"),
-    ("∨/[1]F", "1\n"),
-    ("∨⌿[1]F", "1\n"),
-    ("F∨.×F", "1\n"),
-    ("⍲/F", "1\n"),
-    ("⍲⌿F", "1\n"),
-    ("⍲/[1]F", "1\n"),
-    ("⍲⌿[1]F", "1\n"),
-    ("F⍲.×F", "1\n"),
-    ("⍱/F", "0\n"),
-    ("⍱⌿F", "0\n"),
-    ("⍱/[1]F", "0\n"),
-    ("⍱⌿[1]F", "0\n"),
-    ("F⍱.×F", "0\n"),
-    ("</F", "0\n"),
-    ("<⌿F", "0\n"),
-    ("</[1]F", "0\n"),
-    ("<⌿[1]F", "0\n"),
-    ("F<.×F", "0\n"),
-    ("≤/F", "1\n"),
-    ("≤⌿F", "1\n"),
-    ("≤/[1]F", "1\n"),
-    ("≤⌿[1]F", "1\n"),
-    ("F≤.×F", "1\n"),
-    ("=/F", "1\n"),
-    ("=⌿F", "1\n"),
-    ("=/[1]F", "1\n"),
-    ("=⌿[1]F", "1\n"),
-    ("F=.×F", "1\n"),
-    ("≥/F", "1\n"),
-    ("≥⌿F", "1\n"),
-    ("≥/[1]F", "1\n"),
-    ("≥⌿[1]F", "1\n"),
-    ("F≥.×F", "1\n"),
-    (">/F", "1\n"),
-    (">⌿F", "1\n"),
-    (">/[1]F", "1\n"),
-    (">⌿[1]F", "1\n"),
-    ("F>.×F", "1\n"),
-    ("≠/F", "1\n"),
-    ("≠⌿F", "1\n"),
-    ("≠/[1]F", "1\n"),
-    ("≠⌿[1]F", "1\n"),
-    ("F≠.×F", "1\n"),
-];
+const CUT_FOLDS: &str = r"
+    +/F → 3⏎
+    +⌿F → 3⏎
+    +/[1]F → 3⏎
+    +⌿[1]F → 3⏎
+    F+.×F → 3⏎
+    -/F → 1⏎
+    -⌿F → 1⏎
+    -/[1]F → 1⏎
+    -⌿[1]F → 1⏎
+    F-.×F → 1⏎
+    ×/F → 1⏎
+    ×⌿F → 1⏎
+    ×/[1]F → 1⏎
+    ×⌿[1]F → 1⏎
+    F×.×F → 1⏎
+    ⌊/F → 1⏎
+    ⌊⌿F → 1⏎
+    ⌊/[1]F → 1⏎
+    ⌊⌿[1]F → 1⏎
+    F⌊.×F → 1⏎
+    ⌈/F → 1⏎
+    ⌈⌿F → 1⏎
+    ⌈/[1]F → 1⏎
+    ⌈⌿[1]F → 1⏎
+    F⌈.×F → 1⏎
+    ∧/F → 1⏎
+    ∧⌿F → 1⏎
+    ∧/[1]F → 1⏎
+    ∧⌿[1]F → 1⏎
+    F∧.×F → 1⏎
+    ∨/F → 1⏎
+    ∨⌿F → 1⏎
+    ∨/[1]F → 1⏎
+    ∨⌿[1]F → 1⏎
+    F∨.×F → 1⏎
+    ⍲/F → 1⏎
+    ⍲⌿F → 1⏎
+    ⍲/[1]F → 1⏎
+    ⍲⌿[1]F → 1⏎
+    F⍲.×F → 1⏎
+    ⍱/F → 0⏎
+    ⍱⌿F → 0⏎
+    ⍱/[1]F → 0⏎
+    ⍱⌿[1]F → 0⏎
+    F⍱.×F → 0⏎
+    </F → 0⏎
+    <⌿F → 0⏎
+    </[1]F → 0⏎
+    <⌿[1]F → 0⏎
+    F<.×F → 0⏎
+    ≤/F → 1⏎
+    ≤⌿F → 1⏎
+    ≤/[1]F → 1⏎
+    ≤⌿[1]F → 1⏎
+    F≤.×F → 1⏎
+    =/F → 1⏎
+    =⌿F → 1⏎
+    =/[1]F → 1⏎
+    =⌿[1]F → 1⏎
+    F=.×F → 1⏎
+    ≥/F → 1⏎
+    ≥⌿F → 1⏎
+    ≥/[1]F → 1⏎
+    ≥⌿[1]F → 1⏎
+    F≥.×F → 1⏎
+    >/F → 1⏎
+    >⌿F → 1⏎
+    >/[1]F → 1⏎
+    >⌿[1]F → 1⏎
+    F>.×F → 1⏎
+    ≠/F → 1⏎
+    ≠⌿F → 1⏎
+    ≠/[1]F → 1⏎
+    ≠⌿[1]F → 1⏎
+    F≠.×F → 1⏎
+    ";
 
 /// Answers a session by two workers and pieces of this length. Says whether it wrote the text, and both pieces met
 /// at each of so many functions.
@@ -528,7 +491,7 @@ fn meets<R: Threads + Sync>(
     text: &str,
 ) -> bool {
     let meeting = Meeting::new();
-    let pool = Pool::with(2, schedule, Every(piece), &meeting);
+    let pool = Pool::with(2, schedule, Every(piece), Door::Meeting(&meeting));
     let mut source = MemorySource::new(session.as_bytes(), BLOCK, None);
     let mut sink = MemorySink::new(alloc, BLOCK, None);
     let outcome = run(rt, alloc, &pool, &mut source, &mut sink);
@@ -552,17 +515,29 @@ fn ones(alloc: Global, count: usize) -> Result<String, AllocError> {
     Ok(line)
 }
 
+/// Adds the lines of a table to a session, what they write to its text, and each line with its value in `B` to another session.
+fn push_lines(
+    alloc: Global,
+    table: Table,
+    session: &mut String,
+    texts: &mut String,
+    assigned: &mut String,
+) -> Result<(), Fail> {
+    for (line, text) in lines_of(alloc, table)? {
+        write!(session, "{line}\n")?;
+        texts.push_str(text.as_str())?;
+        write!(assigned, "B←{line}\n")?;
+    }
+    Ok(())
+}
+
 #[test]
 fn each_scalar_function_uses_the_pool(rt: HostRuntime) -> Result<(), Fail> {
     let alloc = rt.alloc();
     let mut two = String::from_str(alloc, "A←1 1\n")?;
     let mut texts = String::new(alloc);
     let mut some = ones(alloc, 2048)?;
-    for (function, text) in &FUNCTIONS {
-        write!(two, "{function}\n")?;
-        texts.push_str(text)?;
-        write!(some, "B←{function}\n")?;
-    }
+    push_lines(alloc, (FUNCTIONS, 28), &mut two, &mut texts, &mut some)?;
     let mut many = ones(alloc, 2 * HALF)?;
     many.push_str("B←~A\nB←A+A\n")?;
     for schedule in [Schedule::Claims, Schedule::Deques] {
@@ -582,11 +557,7 @@ fn each_structural_function_uses_the_pool(rt: HostRuntime) -> Result<(), Fail> {
     let mut some = ones(alloc, 2048)?;
     some.push_str("N←2048\nS←1 2048\nT←0 2048\n")?;
     some.push_str(ARGUMENTS)?;
-    for (function, text) in &STRUCTURES {
-        write!(two, "{function}\n")?;
-        texts.push_str(text)?;
-        write!(some, "B←{function}\n")?;
-    }
+    push_lines(alloc, (STRUCTURES, 52), &mut two, &mut texts, &mut some)?;
     two.push_str("⍴M\n")?;
     texts.push_str("1 2\n")?;
     let mut many = ones(alloc, 2 * HALF)?;
@@ -608,11 +579,7 @@ fn each_reduction_uses_the_pool(rt: HostRuntime) -> Result<(), Fail> {
     let mut some = ones(alloc, 2048)?;
     some.push_str("V←2 2048\nW←2048 2\nR←1 1\n")?;
     some.push_str(ITEMS)?;
-    for (function, text) in &REDUCTIONS {
-        write!(two, "{function}\n")?;
-        texts.push_str(text)?;
-        write!(some, "B←{function}\n")?;
-    }
+    push_lines(alloc, (REDUCTIONS, 116), &mut two, &mut texts, &mut some)?;
     two.push_str("-\\A\n")?;
     texts.push_str("1 0\n")?;
     let mut many = ones(alloc, 2 * HALF)?;
@@ -643,11 +610,7 @@ fn each_cut_fold_uses_the_pool(rt: HostRuntime) -> Result<(), Fail> {
     let mut texts = String::new(alloc);
     let mut some = String::new(alloc);
     push_items(&mut some, 2049)?;
-    for (function, text) in &CUT_FOLDS {
-        write!(three, "{function}\n")?;
-        texts.push_str(text)?;
-        write!(some, "B←{function}\n")?;
-    }
+    push_lines(alloc, (CUT_FOLDS, 75), &mut three, &mut texts, &mut some)?;
     for schedule in [Schedule::Claims, Schedule::Deques] {
         assert!(rt; meets(&rt, alloc, schedule, 1, three.as_str(), 75, texts.as_str()));
         assert!(rt; meets(&rt, alloc, schedule, 1024, some.as_str(), 75, ""));

@@ -4,6 +4,8 @@
 #[cfg(test)]
 mod devices;
 #[cfg(test)]
+mod doors;
+#[cfg(test)]
 mod failures;
 #[cfg(test)]
 mod gates;
@@ -17,3 +19,5 @@ mod reports;
 mod rows;
 #[cfg(test)]
 mod sizes;
+#[cfg(test)]
+mod transcripts;

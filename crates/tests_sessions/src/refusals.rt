@@ -1,5 +1,6 @@
 //! Calls that take memory, each by itself. With enough of it each answers as here. `faults/run` refuses each growth of memory of these
 //! tests in turn: then a call says so, and nothing else.
+use super::doors::Door;
 use super::gates::AllOnes;
 use super::pools::Numbers;
 use apl_array::{Array, Shape};
@@ -110,7 +111,7 @@ fn refused_read(rt: HostRuntime) -> Result<(), Fail> {
 #[test]
 fn never_refused_line(rt: HostRuntime) {
     let alloc = rt.alloc();
-    let pool = Pool::new(64, Every(1), Open);
+    let pool = Pool::new(64, Every(1), Door::Open);
     let mut room = [0; 64];
     let mut sink = Out::new(room.as_mut_slice());
     let mut session = Session::new(alloc);

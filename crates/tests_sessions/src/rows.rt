@@ -4,7 +4,9 @@ mod scans;
 mod structures;
 mod tables;
 
-use apl_pool::{Every, Open, Pool, Schedule};
+use crate::doors::Door;
+use crate::transcripts::{Table, Transcript, transcripts_of};
+use apl_pool::{Every, Pool, Schedule};
 use apl_print::MemorySink;
 use apl_session::{MemorySource, run};
 use reductions::{DIGITS, FOLDED, PRODUCTS};
@@ -23,7 +25,7 @@ use tables::{CARETS, COMMANDS, LINES, NUMERALS, OPERANDS, SCALARS, TEXTS, UNLIST
 fn writes<R: Threads + Sync>(
     rt: &R,
     alloc: Global,
-    pool: &Pool<Every, Open>,
+    pool: &Pool<Every, Door>,
     session: &[u8],
     most: usize,
     text: &[u8],
@@ -45,91 +47,109 @@ const WORKERS: [u8; 4] = [1, 2, 3, 64];
 /// What a cut answers to how many elements a piece has. One of none and one of more than there are cut too.
 const PIECES: [usize; 6] = [1, 2, 3, 4096, 0, usize::MAX];
 
-/// Checks what each session of a table writes, by takes and puts of each size, and on each pool under both schedules.
-fn check<R: Abort + Threads + Sync>(rt: &R, alloc: Global, sessions: &[(&str, &str)]) {
-    let pool = Pool::new(3, Every(2), Open);
+/// Checks what each session of the tables writes, by takes and puts of each size, and on each pool under both schedules.
+fn check<R: Abort + Threads + Sync>(rt: &R, alloc: Global, tables: &[Table]) -> Result<(), Fail> {
+    for table in tables {
+        let transcripts = transcripts_of(alloc, *table)?;
+        check_on_each(rt, alloc, &transcripts);
+    }
+    Ok(())
+}
+
+fn check_on_each<R: Abort + Threads + Sync>(rt: &R, alloc: Global, transcripts: &[Transcript]) {
+    let pool = Pool::new(3, Every(2), Door::Open);
     for most in SIZES {
-        check_on(rt, alloc, &pool, most, sessions);
+        check_on(rt, alloc, &pool, most, transcripts);
     }
     for workers in WORKERS {
         for piece in PIECES {
             for schedule in [Schedule::Claims, Schedule::Deques] {
-                let pool = Pool::with(workers, schedule, Every(piece), Open);
-                check_on(rt, alloc, &pool, ALL, sessions);
+                let pool = Pool::with(workers, schedule, Every(piece), Door::Open);
+                check_on(rt, alloc, &pool, ALL, transcripts);
             }
         }
     }
 }
 
-/// Checks what each session of a table writes on a pool, by takes and puts of at most so many bytes.
+/// Checks what sessions write on a pool, by takes and puts of at most so many bytes.
 fn check_on<R: Abort + Threads + Sync>(
     rt: &R,
     alloc: Global,
-    pool: &Pool<Every, Open>,
+    pool: &Pool<Every, Door>,
     most: usize,
-    sessions: &[(&str, &str)],
+    transcripts: &[Transcript],
 ) {
-    for (session, text) in sessions {
+    for Transcript { session, text } in transcripts {
         let is_written = writes(rt, alloc, pool, session.as_bytes(), most, text.as_bytes());
         assert!(rt; is_written, "{session}");
     }
 }
 
 #[test]
-fn statements(rt: HostRuntime) {
-    for sessions in [VALUES.as_slice(), &SCALARS, &OPERANDS] {
-        check(&rt, rt.alloc(), sessions);
-    }
+fn statements(rt: HostRuntime) -> Result<(), Fail> {
+    let tables = [(VALUES, 20), (SCALARS, 34), (OPERANDS, 15)];
+    check(&rt, rt.alloc(), &tables)
 }
 
 #[test]
-fn structural_functions(rt: HostRuntime) {
-    for sessions in [WORKED, EXTENDED, AXES, BUILT, JOINED, TAKEN, MOVED, CHOSEN] {
-        check(&rt, rt.alloc(), sessions);
-    }
+fn structural_functions(rt: HostRuntime) -> Result<(), Fail> {
+    let tables = [
+        (WORKED, 34),
+        (EXTENDED, 9),
+        (AXES, 18),
+        (BUILT, 14),
+        (JOINED, 15),
+        (TAKEN, 15),
+        (MOVED, 22),
+        (CHOSEN, 12),
+    ];
+    check(&rt, rt.alloc(), &tables)
 }
 
 #[test]
-fn replication(rt: HostRuntime) {
-    check(&rt, rt.alloc(), REPLICATED);
+fn replication(rt: HostRuntime) -> Result<(), Fail> {
+    check(&rt, rt.alloc(), &[(REPLICATED, 31)])
 }
 
 #[test]
-fn searches_indexes_and_limits(rt: HostRuntime) {
-    for sessions in [FOUND, INDEXED, PRINTED, LIMITS, MANY_AXES] {
-        check(&rt, rt.alloc(), sessions);
-    }
+fn searches_indexes_and_limits(rt: HostRuntime) -> Result<(), Fail> {
+    let tables = [
+        (FOUND, 8),
+        (INDEXED, 20),
+        (PRINTED, 5),
+        (LIMITS, 5),
+        (MANY_AXES, 10),
+    ];
+    check(&rt, rt.alloc(), &tables)
 }
 
 #[test]
-fn reductions_and_products(rt: HostRuntime) {
-    for sessions in [FOLDED, PRODUCTS, DIGITS] {
-        check(&rt, rt.alloc(), sessions);
-    }
+fn reductions_and_products(rt: HostRuntime) -> Result<(), Fail> {
+    let tables = [(FOLDED, 43), (PRODUCTS, 36), (DIGITS, 34)];
+    check(&rt, rt.alloc(), &tables)
 }
 
 #[test]
-fn scans_of_each_kind(rt: HostRuntime) {
-    check(&rt, rt.alloc(), SCANS);
+fn scans_of_each_kind(rt: HostRuntime) -> Result<(), Fail> {
+    check(&rt, rt.alloc(), &[(SCANS, 42)])
 }
 
 #[test]
-fn lines(rt: HostRuntime) {
-    for sessions in [
-        LINES.as_slice(),
-        &NUMERALS,
-        &TEXTS,
-        &CARETS,
-        &COMMANDS,
-        &UNLISTED,
-    ] {
-        check(&rt, rt.alloc(), sessions);
-    }
+fn lines(rt: HostRuntime) -> Result<(), Fail> {
+    let tables = [
+        (LINES, 9),
+        (NUMERALS, 13),
+        (TEXTS, 11),
+        (CARETS, 50),
+        (COMMANDS, 22),
+        (UNLISTED, 9),
+    ];
+    check(&rt, rt.alloc(), &tables)
 }
 
 #[test]
 fn bytes_that_are_no_text(rt: HostRuntime) {
-    let pool = Pool::new(2, Every(1), Open);
+    let pool = Pool::new(2, Every(1), Door::Open);
     let sessions: [(&[u8], &str); 4] = [
         (b"A\xff\n", "CHARACTER ERROR\n      A\n       ∧\n"),
         (b"1+\xe2\x8d\n", "CHARACTER ERROR\n      1+\n        ∧\n"),
@@ -162,7 +182,7 @@ const MANY: usize = 10_000;
 
 /// Checks what a long session writes.
 fn check_long<R: Abort + Threads + Sync>(rt: &R, alloc: Global, session: &[u8], text: &[u8]) {
-    let pool = Pool::new(4, Every(4096), Open);
+    let pool = Pool::new(4, Every(4096), Door::Open);
     for most in SIZES {
         assert!(rt;
             writes(rt, alloc, &pool, session, most, text),

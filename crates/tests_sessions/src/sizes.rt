@@ -1,5 +1,6 @@
 //! Long texts and arrays with many elements. None of them is refused.
-use apl_pool::{Every, Open, Pool};
+use crate::doors::Door;
+use apl_pool::{Every, Pool};
 use apl_print::MemorySink;
 use apl_session::{BLOCK, MemorySource, run};
 use std::test::Fail;
@@ -15,7 +16,7 @@ fn many_elements(rt: HostRuntime) -> Result<(), Fail> {
         }
         session.push_str("'\nB←A='x'\nC←B+1\nD←C+C\nB←~B\n")?;
         for workers in [1, 4] {
-            let pool = Pool::new(workers, Every(4096), Open);
+            let pool = Pool::new(workers, Every(4096), Door::Open);
             let mut source = MemorySource::new(session.as_bytes(), BLOCK, None);
             let mut sink = MemorySink::new(alloc, BLOCK, None);
             let outcome = run(&rt, alloc, &pool, &mut source, &mut sink);

@@ -1,343 +1,1042 @@
 //! Sessions and what they write.
 
 /// Functions, names and assignments.
-pub(super) const VALUES: [(&str, &str); 20] = [
-    ("10-4-3\n", "9\n"),
-    ("2+3 4 5\n", "5 6 7\n"),
-    ("10-4-3\n2+3 4 5\n", "9\n5 6 7\n"),
-    ("A+A←3\nA\nA←4\n(A←5)\n", "6\n3\n5\n"),
-    ("A+A←3\nA\n", "6\n3\n"),
-    ("¯5-3\n", "¯8\n"),
-    ("1 2+1 2 3\n", "LENGTH ERROR\n      1 2+1 2 3\n         ∧\n"),
-    ("B\n", "VALUE ERROR\n      B\n      ∧\n"),
-    (
-        "9223372036854775807+1\n",
-        "LIMIT ERROR\n      9223372036854775807+1\n                         ∧\n",
-    ),
-    ("'A'+1\n", "DOMAIN ERROR\n      'A'+1\n         ∧\n"),
-    ("1 2+3 4\n", "4 6\n"),
-    ("''+1\n", "\n"),
-    ("''+1 2\n", "LENGTH ERROR\n      ''+1 2\n        ∧\n"),
-    (
-        "'AB'+1 2 3\n",
-        "LENGTH ERROR\n      'AB'+1 2 3\n          ∧\n",
-    ),
-    ("1-'A'\n", "DOMAIN ERROR\n      1-'A'\n       ∧\n"),
-    (
-        "B←5+÷0×C←4\nC\nB\n",
-        "DOMAIN ERROR\n      B←5+÷0×C←4\n          ∧\n4\nVALUE ERROR\n      B\n      ∧\n",
-    ),
-    ("(B)+B←2\n", "4\n"),
-    ("(10-4)-3\n", "3\n"),
-    ("2 3×5 7\n", "10 21\n"),
-    (
-        "A+A←3\nA\n(A←4)\nA←4 5\nB←Q+C←7\nC\nB\n",
-        "6\n3\n4\nVALUE ERROR\n      B←Q+C←7\n        ∧\n7\nVALUE ERROR\n      B\n      ∧\n",
-    ),
-];
+pub(super) const VALUES: &str = r"
+    :10-4-3
+    |9
+
+    :2+3 4 5
+    |5 6 7
+
+    :10-4-3
+    |9
+    :2+3 4 5
+    |5 6 7
+
+    :A+A←3
+    |6
+    :A
+    |3
+    :A←4
+    :(A←5)
+    |5
+
+    :A+A←3
+    |6
+    :A
+    |3
+
+    :¯5-3
+    |¯8
+
+    :1 2+1 2 3
+    |LENGTH ERROR
+    |      1 2+1 2 3
+    |         ∧
+
+    :B
+    |VALUE ERROR
+    |      B
+    |      ∧
+
+    :9223372036854775807+1
+    |LIMIT ERROR
+    |      9223372036854775807+1
+    |                         ∧
+
+    :'A'+1
+    |DOMAIN ERROR
+    |      'A'+1
+    |         ∧
+
+    :1 2+3 4
+    |4 6
+
+    :''+1
+    |
+
+    :''+1 2
+    |LENGTH ERROR
+    |      ''+1 2
+    |        ∧
+
+    :'AB'+1 2 3
+    |LENGTH ERROR
+    |      'AB'+1 2 3
+    |          ∧
+
+    :1-'A'
+    |DOMAIN ERROR
+    |      1-'A'
+    |       ∧
+
+    :B←5+÷0×C←4
+    |DOMAIN ERROR
+    |      B←5+÷0×C←4
+    |          ∧
+    :C
+    |4
+    :B
+    |VALUE ERROR
+    |      B
+    |      ∧
+
+    :(B)+B←2
+    |4
+
+    :(10-4)-3
+    |3
+
+    :2 3×5 7
+    |10 21
+
+    :A+A←3
+    |6
+    :A
+    |3
+    :(A←4)
+    |4
+    :A←4 5
+    :B←Q+C←7
+    |VALUE ERROR
+    |      B←Q+C←7
+    |        ∧
+    :C
+    |7
+    :B
+    |VALUE ERROR
+    |      B
+    |      ∧
+    ";
 
 /// The scalar functions.
-pub(super) const SCALARS: [(&str, &str); 34] = [
-    (
-        "1 ¯9223372036854775808÷0 ¯1\n¯9223372036854775808 1÷¯1 0\n",
-        "DOMAIN ERROR\n      1 ¯9223372036854775808÷0 ¯1\n                            ∧\nLIMIT ERROR\n      ¯9223372036854775808 1÷¯1 0\n                            ∧\n",
-    ),
-    (
-        "0÷0\n7÷2\n3|¯7 7\n¯3|7\n0|¯5\n",
-        "1\nDOMAIN ERROR\n      7÷2\n       ∧\n2 1\n¯2\n¯5\n",
-    ),
-    (
-        "!20\n!21\n2!5\n¯2*63\n2*63\n2*¯1\n",
-        "2432902008176640000\nLIMIT ERROR\n      !21\n      ∧\n10\n¯9223372036854775808\nLIMIT ERROR\n      2*63\n       ∧\nDOMAIN ERROR\n      2*¯1\n       ∧\n",
-    ),
-    ("~0 1 1\n", "1 0 0\n"),
-    ("×¯7 0 7\n", "¯1 0 1\n"),
-    ("÷2\n", "DOMAIN ERROR\n      ÷2\n      ∧\n"),
-    (
-        "-¯9223372036854775808\n",
-        "LIMIT ERROR\n      -¯9223372036854775808\n      ∧\n",
-    ),
-    ("5|¯9223372036854775808\n", "2\n"),
-    ("1='A'\n", "0\n"),
-    ("'AB'='AC'\n", "1 0\n"),
-    ("33!66\n", "7219428434016265740\n"),
-    ("33!67\n", "LIMIT ERROR\n      33!67\n        ∧\n"),
-    (
-        "2*9223372036854775807\n",
-        "LIMIT ERROR\n      2*9223372036854775807\n       ∧\n",
-    ),
-    ("¯1*9223372036854775807\n", "¯1\n"),
-    (
-        "!9223372036854775807\n",
-        "LIMIT ERROR\n      !9223372036854775807\n      ∧\n",
-    ),
-    (
-        "9223372036854775806!9223372036854775807\n",
-        "9223372036854775807\n",
-    ),
-    (
-        "4611686018427387904!9223372036854775807\n",
-        "LIMIT ERROR\n      4611686018427387904!9223372036854775807\n                         ∧\n",
-    ),
-    ("+'A'\n", "DOMAIN ERROR\n      +'A'\n      ∧\n"),
-    ("⌊'AB'\n", "DOMAIN ERROR\n      ⌊'AB'\n      ∧\n"),
-    ("'A'<'B'\n", "DOMAIN ERROR\n      'A'<'B'\n         ∧\n"),
-    ("0∧2\n", "DOMAIN ERROR\n      0∧2\n       ∧\n"),
-    ("1∨5\n", "DOMAIN ERROR\n      1∨5\n       ∧\n"),
-    ("¯1⍲0\n", "DOMAIN ERROR\n      ¯1⍲0\n        ∧\n"),
-    (
-        "0*0\n0*¯1\n¯1*¯3\n0*9223372036854775807\n¯1*¯9223372036854775808\n2*62\n",
-        "1\nDOMAIN ERROR\n      0*¯1\n       ∧\n¯1\n0\n1\n4611686018427387904\n",
-    ),
-    (
-        "0!0\n5!3\n¯1!3\n3!¯1\n",
-        "1\n0\nDOMAIN ERROR\n      ¯1!3\n        ∧\nDOMAIN ERROR\n      3!¯1\n       ∧\n",
-    ),
-    (
-        "¯9223372036854775808÷¯1\n¯9223372036854775808÷0\n0÷5\n",
-        "LIMIT ERROR\n      ¯9223372036854775808÷¯1\n                          ∧\nDOMAIN ERROR\n      ¯9223372036854775808÷0\n                          ∧\n0\n",
-    ),
-    (
-        "¯9223372036854775808|9223372036854775807\n9223372036854775807|¯9223372036854775808\n¯1|¯9223372036854775808\n0|¯9223372036854775808\n¯3|¯7\n",
-        "¯1\n9223372036854775806\n0\n¯9223372036854775808\n¯1\n",
-    ),
-    (
-        "!¯1\n!21\n!0\n",
-        "DOMAIN ERROR\n      !¯1\n      ∧\nLIMIT ERROR\n      !21\n      ∧\n1\n",
-    ),
-    (
-        "0-¯9223372036854775808\n¯1-¯9223372036854775808\n|¯9223372036854775808\n",
-        "LIMIT ERROR\n      0-¯9223372036854775808\n       ∧\n9223372036854775807\nLIMIT ERROR\n      |¯9223372036854775808\n      ∧\n",
-    ),
-    ("+3\n", "3\n"),
-    ("-3 0\n", "¯3 0\n"),
-    ("1 2 3⌊2\n1 2 3⌈2\n", "1 2 2\n2 2 3\n"),
-    (
-        "0 0 1 1∧0 1 0 1\n0 0 1 1∨0 1 0 1\n0 0 1 1⍲0 1 0 1\n0 0 1 1⍱0 1 0 1\n",
-        "0 0 0 1\n0 1 1 1\n1 1 1 0\n1 0 0 0\n",
-    ),
-    (
-        "1 2 3<2\n1 2 3≤2\n1 2 3=2\n1 2 3≥2\n1 2 3>2\n1 2 3≠2\n",
-        "1 0 0\n1 1 0\n0 1 0\n0 1 1\n0 0 1\n1 0 1\n",
-    ),
-];
+pub(super) const SCALARS: &str = r"
+    :1 ¯9223372036854775808÷0 ¯1
+    |DOMAIN ERROR
+    |      1 ¯9223372036854775808÷0 ¯1
+    |                            ∧
+    :¯9223372036854775808 1÷¯1 0
+    |LIMIT ERROR
+    |      ¯9223372036854775808 1÷¯1 0
+    |                            ∧
+
+    :0÷0
+    |1
+    :7÷2
+    |DOMAIN ERROR
+    |      7÷2
+    |       ∧
+    :3|¯7 7
+    |2 1
+    :¯3|7
+    |¯2
+    :0|¯5
+    |¯5
+
+    :!20
+    |2432902008176640000
+    :!21
+    |LIMIT ERROR
+    |      !21
+    |      ∧
+    :2!5
+    |10
+    :¯2*63
+    |¯9223372036854775808
+    :2*63
+    |LIMIT ERROR
+    |      2*63
+    |       ∧
+    :2*¯1
+    |DOMAIN ERROR
+    |      2*¯1
+    |       ∧
+
+    :~0 1 1
+    |1 0 0
+
+    :×¯7 0 7
+    |¯1 0 1
+
+    :÷2
+    |DOMAIN ERROR
+    |      ÷2
+    |      ∧
+
+    :-¯9223372036854775808
+    |LIMIT ERROR
+    |      -¯9223372036854775808
+    |      ∧
+
+    :5|¯9223372036854775808
+    |2
+
+    :1='A'
+    |0
+
+    :'AB'='AC'
+    |1 0
+
+    :33!66
+    |7219428434016265740
+
+    :33!67
+    |LIMIT ERROR
+    |      33!67
+    |        ∧
+
+    :2*9223372036854775807
+    |LIMIT ERROR
+    |      2*9223372036854775807
+    |       ∧
+
+    :¯1*9223372036854775807
+    |¯1
+
+    :!9223372036854775807
+    |LIMIT ERROR
+    |      !9223372036854775807
+    |      ∧
+
+    :9223372036854775806!9223372036854775807
+    |9223372036854775807
+
+    :4611686018427387904!9223372036854775807
+    |LIMIT ERROR
+    |      4611686018427387904!9223372036854775807
+    |                         ∧
+
+    :+'A'
+    |DOMAIN ERROR
+    |      +'A'
+    |      ∧
+
+    :⌊'AB'
+    |DOMAIN ERROR
+    |      ⌊'AB'
+    |      ∧
+
+    :'A'<'B'
+    |DOMAIN ERROR
+    |      'A'<'B'
+    |         ∧
+
+    :0∧2
+    |DOMAIN ERROR
+    |      0∧2
+    |       ∧
+
+    :1∨5
+    |DOMAIN ERROR
+    |      1∨5
+    |       ∧
+
+    :¯1⍲0
+    |DOMAIN ERROR
+    |      ¯1⍲0
+    |        ∧
+
+    :0*0
+    |1
+    :0*¯1
+    |DOMAIN ERROR
+    |      0*¯1
+    |       ∧
+    :¯1*¯3
+    |¯1
+    :0*9223372036854775807
+    |0
+    :¯1*¯9223372036854775808
+    |1
+    :2*62
+    |4611686018427387904
+
+    :0!0
+    |1
+    :5!3
+    |0
+    :¯1!3
+    |DOMAIN ERROR
+    |      ¯1!3
+    |        ∧
+    :3!¯1
+    |DOMAIN ERROR
+    |      3!¯1
+    |       ∧
+
+    :¯9223372036854775808÷¯1
+    |LIMIT ERROR
+    |      ¯9223372036854775808÷¯1
+    |                          ∧
+    :¯9223372036854775808÷0
+    |DOMAIN ERROR
+    |      ¯9223372036854775808÷0
+    |                          ∧
+    :0÷5
+    |0
+
+    :¯9223372036854775808|9223372036854775807
+    |¯1
+    :9223372036854775807|¯9223372036854775808
+    |9223372036854775806
+    :¯1|¯9223372036854775808
+    |0
+    :0|¯9223372036854775808
+    |¯9223372036854775808
+    :¯3|¯7
+    |¯1
+
+    :!¯1
+    |DOMAIN ERROR
+    |      !¯1
+    |      ∧
+    :!21
+    |LIMIT ERROR
+    |      !21
+    |      ∧
+    :!0
+    |1
+
+    :0-¯9223372036854775808
+    |LIMIT ERROR
+    |      0-¯9223372036854775808
+    |       ∧
+    :¯1-¯9223372036854775808
+    |9223372036854775807
+    :|¯9223372036854775808
+    |LIMIT ERROR
+    |      |¯9223372036854775808
+    |      ∧
+
+    :+3
+    |3
+
+    :-3 0
+    |¯3 0
+
+    :1 2 3⌊2
+    |1 2 2
+    :1 2 3⌈2
+    |2 2 3
+
+    :0 0 1 1∧0 1 0 1
+    |0 0 0 1
+    :0 0 1 1∨0 1 0 1
+    |0 1 1 1
+    :0 0 1 1⍲0 1 0 1
+    |1 1 1 0
+    :0 0 1 1⍱0 1 0 1
+    |1 0 0 0
+
+    :1 2 3<2
+    |1 0 0
+    :1 2 3≤2
+    |1 1 0
+    :1 2 3=2
+    |0 1 0
+    :1 2 3≥2
+    |0 1 1
+    :1 2 3>2
+    |0 0 1
+    :1 2 3≠2
+    |1 0 1
+    ";
 
 /// Ends of lines, blank lines and comments.
-pub(super) const LINES: [(&str, &str); 9] = [
-    ("", ""),
-    ("\n", ""),
-    ("⍝ A\n", ""),
-    ("1\r\n", "1\n"),
-    ("1+1\n2+", "2\nSYNTAX ERROR\n      2+\n       ∧\n"),
-    ("1\r", "1\n"),
-    ("\r", ""),
-    ("1", "1\n"),
-    (
-        "  1 2+1 2 3 ⍝ x \n",
-        "LENGTH ERROR\n        1 2+1 2 3 ⍝ x \n           ∧\n",
-    ),
-];
+pub(super) const LINES: &str = "
+    .
+
+    :
+
+    :⍝ A
+
+    :1\r
+    |1
+
+    :1+1
+    |2
+    .2+
+    |SYNTAX ERROR
+    |      2+
+    |       ∧
+
+    .1\r
+    |1
+
+    .\r
+
+    .1
+    |1
+
+    :  1 2+1 2 3 ⍝ x ⏎
+    |LENGTH ERROR
+    |        1 2+1 2 3 ⍝ x ⏎
+    |           ∧
+    ";
 
 /// Numerals and the range.
-pub(super) const NUMERALS: [(&str, &str); 13] = [
-    (
-        "99999999999999999999 '\n",
-        "LIMIT ERROR\n      99999999999999999999 '\n      ∧\n",
-    ),
-    ("1 2 ¯\n", "SYNTAX ERROR\n      1 2 ¯\n          ∧\n"),
-    ("¯¯1\n", "SYNTAX ERROR\n      ¯¯1\n      ∧\n"),
-    ("1¯\n", "SYNTAX ERROR\n      1¯\n       ∧\n"),
-    (
-        "1 2 9223372036854775808\n",
-        "LIMIT ERROR\n      1 2 9223372036854775808\n          ∧\n",
-    ),
-    (
-        "1 ¯9223372036854775809\n",
-        "LIMIT ERROR\n      1 ¯9223372036854775809\n        ∧\n",
-    ),
-    ("¯9223372036854775808\n", "¯9223372036854775808\n"),
-    ("000000000000000000000000000007 ¯0\n", "7 0\n"),
-    ("++ 1_\n", "SYNTAX ERROR\n      ++ 1_\n          ∧\n"),
-    (
-        "1 9223372036854775808 ¯\n",
-        "LIMIT ERROR\n      1 9223372036854775808 ¯\n        ∧\n",
-    ),
-    (
-        "9223372036854775808\n",
-        "LIMIT ERROR\n      9223372036854775808\n      ∧\n",
-    ),
-    (
-        "99999999999999999999\n",
-        "LIMIT ERROR\n      99999999999999999999\n      ∧\n",
-    ),
-    (
-        "¯ 9223372036854775808\n",
-        "SYNTAX ERROR\n      ¯ 9223372036854775808\n      ∧\n",
-    ),
-];
+pub(super) const NUMERALS: &str = r"
+    :99999999999999999999 '
+    |LIMIT ERROR
+    |      99999999999999999999 '
+    |      ∧
+
+    :1 2 ¯
+    |SYNTAX ERROR
+    |      1 2 ¯
+    |          ∧
+
+    :¯¯1
+    |SYNTAX ERROR
+    |      ¯¯1
+    |      ∧
+
+    :1¯
+    |SYNTAX ERROR
+    |      1¯
+    |       ∧
+
+    :1 2 9223372036854775808
+    |LIMIT ERROR
+    |      1 2 9223372036854775808
+    |          ∧
+
+    :1 ¯9223372036854775809
+    |LIMIT ERROR
+    |      1 ¯9223372036854775809
+    |        ∧
+
+    :¯9223372036854775808
+    |¯9223372036854775808
+
+    :000000000000000000000000000007 ¯0
+    |7 0
+
+    :++ 1_
+    |SYNTAX ERROR
+    |      ++ 1_
+    |          ∧
+
+    :1 9223372036854775808 ¯
+    |LIMIT ERROR
+    |      1 9223372036854775808 ¯
+    |        ∧
+
+    :9223372036854775808
+    |LIMIT ERROR
+    |      9223372036854775808
+    |      ∧
+
+    :99999999999999999999
+    |LIMIT ERROR
+    |      99999999999999999999
+    |      ∧
+
+    :¯ 9223372036854775808
+    |SYNTAX ERROR
+    |      ¯ 9223372036854775808
+    |      ∧
+    ";
 
 /// Text constants.
-pub(super) const TEXTS: [(&str, &str); 11] = [
-    ("'AB'\n", "AB\n"),
-    ("A←'AB'⍝ N\n", ""),
-    ("'''\n", "SYNTAX ERROR\n      '''\n      ∧\n"),
-    ("'A''\n", "SYNTAX ERROR\n      'A''\n      ∧\n"),
-    ("1,'AB ⍝\n", "SYNTAX ERROR\n      1,'AB ⍝\n        ∧\n"),
-    ("'⍝'\n", "⍝\n"),
-    ("'A' 'B'\n", "SYNTAX ERROR\n      'A' 'B'\n      ∧\n"),
-    ("''''''\n", "''\n"),
-    ("' '\n", " \n"),
-    ("''\n", "\n"),
-    ("''''\n", "'\n"),
-];
+pub(super) const TEXTS: &str = r"
+    :'AB'
+    |AB
+
+    :A←'AB'⍝ N
+
+    :'''
+    |SYNTAX ERROR
+    |      '''
+    |      ∧
+
+    :'A''
+    |SYNTAX ERROR
+    |      'A''
+    |      ∧
+
+    :1,'AB ⍝
+    |SYNTAX ERROR
+    |      1,'AB ⍝
+    |        ∧
+
+    :'⍝'
+    |⍝
+
+    :'A' 'B'
+    |SYNTAX ERROR
+    |      'A' 'B'
+    |      ∧
+
+    :''''''
+    |''
+
+    :' '
+    | ⏎
+
+    :''
+    |
+
+    :''''
+    |'
+    ";
 
 /// Lines that are no statement, each with its caret.
-pub(super) const CARETS: [(&str, &str); 50] = [
-    ("3+\n", "SYNTAX ERROR\n      3+\n       ∧\n"),
-    ("_A\n", "SYNTAX ERROR\n      _A\n      ∧\n"),
-    ("#\n", "SYNTAX ERROR\n      #\n      ∧\n"),
-    (
-        "' 99999999999999999999\n",
-        "SYNTAX ERROR\n      ' 99999999999999999999\n      ∧\n",
-    ),
-    ("1;2\n", "SYNTAX ERROR\n      1;2\n       ∧\n"),
-    ("A+\\B\n", "SYNTAX ERROR\n      A+\\B\n      ∧\n"),
-    ("1¯2\n", "SYNTAX ERROR\n      1¯2\n      ∧\n"),
-    ("1 2¯3 4\n", "SYNTAX ERROR\n      1 2¯3 4\n      ∧\n"),
-    ("2+1¯2\n", "SYNTAX ERROR\n      2+1¯2\n        ∧\n"),
-    ("1A\n", "SYNTAX ERROR\n      1A\n      ∧\n"),
-    ("A¯1\n", "SYNTAX ERROR\n      A¯1\n      ∧\n"),
-    ("1^2\n", "SYNTAX ERROR\n      1^2\n       ∧\n"),
-    ("1.5\n", "SYNTAX ERROR\n      1.5\n       ∧\n"),
-    ("A←3 {\n", "SYNTAX ERROR\n      A←3 {\n          ∧\n"),
-    ("\"A\"\n", "SYNTAX ERROR\n      \"A\"\n      ∧\n"),
-    ("?6\n", "SYNTAX ERROR\n      ?6\n      ∧\n"),
-    ("∘\n", "SYNTAX ERROR\n      ∘\n      ∧\n"),
-    ("  1)\n", "SYNTAX ERROR\n        1)\n        ∧\n"),
-    (" ←3\n", "SYNTAX ERROR\n       ←3\n       ∧\n"),
-    ("A←\n", "SYNTAX ERROR\n      A←\n       ∧\n"),
-    ("A[1\n", "SYNTAX ERROR\n      A[1\n       ∧\n"),
-    ("[1]\n", "SYNTAX ERROR\n      [1]\n      ∧\n"),
-    ("()\n", "SYNTAX ERROR\n      ()\n      ∧\n"),
-    ("A[1;2\n", "SYNTAX ERROR\n      A[1;2\n         ∧\n"),
-    ("1 2;3\n", "SYNTAX ERROR\n      1 2;3\n         ∧\n"),
-    ("(A)←3\n", "SYNTAX ERROR\n      (A)←3\n        ∧\n"),
-    ("(A)[1]←3\n", "SYNTAX ERROR\n      (A)[1]←3\n        ∧\n"),
-    ("A[1][2]←3\n", "SYNTAX ERROR\n      A[1][2]←3\n         ∧\n"),
-    ("A∘+B\n", "SYNTAX ERROR\n      A∘+B\n       ∧\n"),
-    ("A+.B\n", "SYNTAX ERROR\n      A+.B\n        ∧\n"),
-    ("A∘.⍴B\n", "SYNTAX ERROR\n      A∘.⍴B\n        ∧\n"),
-    ("∘.+B\n", "SYNTAX ERROR\n      ∘.+B\n      ∧\n"),
-    ("A+[1]B\n", "SYNTAX ERROR\n      A+[1]B\n       ∧\n"),
-    (",[1]B\n", "SYNTAX ERROR\n      ,[1]B\n      ∧\n"),
-    ("⍋[1]B\n", "SYNTAX ERROR\n      ⍋[1]B\n      ∧\n"),
-    ("~/B\n", "SYNTAX ERROR\n      ~/B\n      ∧\n"),
-    ("⍴/B\n", "SYNTAX ERROR\n      ⍴/B\n      ∧\n"),
-    ("/B\n", "SYNTAX ERROR\n      /B\n      ∧\n"),
-    ("A⌽[1;2]B\n", "SYNTAX ERROR\n      A⌽[1;2]B\n          ∧\n"),
-    ("A⌽[]B\n", "SYNTAX ERROR\n      A⌽[]B\n        ∧\n"),
-    ("1+2)\n", "SYNTAX ERROR\n      1+2)\n      ∧\n"),
-    ("(1)2\n", "SYNTAX ERROR\n      (1)2\n        ∧\n"),
-    ("A B\n", "SYNTAX ERROR\n      A B\n      ∧\n"),
-    ("A+.×/B\n", "SYNTAX ERROR\n      A+.×/B\n        ∧\n"),
-    ("'A'←3\n", "SYNTAX ERROR\n      'A'←3\n      ∧\n"),
-    ("A[(1]\n", "SYNTAX ERROR\n      A[(1]\n        ∧\n"),
-    (
-        "3+\n(1+2\n1)\n2+<3\n3←4\nA+/B\n1 ¯ 2\n'AB\n",
-        "SYNTAX ERROR\n      3+\n       ∧\nSYNTAX ERROR\n      (1+2\n      ∧\nSYNTAX ERROR\n      1)\n      ∧\nSYNTAX ERROR\n      2+<3\n       ∧\nSYNTAX ERROR\n      3←4\n      ∧\nSYNTAX ERROR\n      A+/B\n      ∧\nSYNTAX ERROR\n      1 ¯ 2\n        ∧\nSYNTAX ERROR\n      'AB\n      ∧\n",
-    ),
-    ("+\\\n", "SYNTAX ERROR\n      +\\\n       ∧\n"),
-    ("1  ;3\n", "SYNTAX ERROR\n      1  ;3\n         ∧\n"),
-    ("1  ←3\n", "SYNTAX ERROR\n      1  ←3\n      ∧\n"),
-];
+pub(super) const CARETS: &str = r#"
+    :3+
+    |SYNTAX ERROR
+    |      3+
+    |       ∧
+
+    :_A
+    |SYNTAX ERROR
+    |      _A
+    |      ∧
+
+    :#
+    |SYNTAX ERROR
+    |      #
+    |      ∧
+
+    :' 99999999999999999999
+    |SYNTAX ERROR
+    |      ' 99999999999999999999
+    |      ∧
+
+    :1;2
+    |SYNTAX ERROR
+    |      1;2
+    |       ∧
+
+    :A+\B
+    |SYNTAX ERROR
+    |      A+\B
+    |      ∧
+
+    :1¯2
+    |SYNTAX ERROR
+    |      1¯2
+    |      ∧
+
+    :1 2¯3 4
+    |SYNTAX ERROR
+    |      1 2¯3 4
+    |      ∧
+
+    :2+1¯2
+    |SYNTAX ERROR
+    |      2+1¯2
+    |        ∧
+
+    :1A
+    |SYNTAX ERROR
+    |      1A
+    |      ∧
+
+    :A¯1
+    |SYNTAX ERROR
+    |      A¯1
+    |      ∧
+
+    :1^2
+    |SYNTAX ERROR
+    |      1^2
+    |       ∧
+
+    :1.5
+    |SYNTAX ERROR
+    |      1.5
+    |       ∧
+
+    :A←3 {
+    |SYNTAX ERROR
+    |      A←3 {
+    |          ∧
+
+    :"A"
+    |SYNTAX ERROR
+    |      "A"
+    |      ∧
+
+    :?6
+    |SYNTAX ERROR
+    |      ?6
+    |      ∧
+
+    :∘
+    |SYNTAX ERROR
+    |      ∘
+    |      ∧
+
+    :  1)
+    |SYNTAX ERROR
+    |        1)
+    |        ∧
+
+    : ←3
+    |SYNTAX ERROR
+    |       ←3
+    |       ∧
+
+    :A←
+    |SYNTAX ERROR
+    |      A←
+    |       ∧
+
+    :A[1
+    |SYNTAX ERROR
+    |      A[1
+    |       ∧
+
+    :[1]
+    |SYNTAX ERROR
+    |      [1]
+    |      ∧
+
+    :()
+    |SYNTAX ERROR
+    |      ()
+    |      ∧
+
+    :A[1;2
+    |SYNTAX ERROR
+    |      A[1;2
+    |         ∧
+
+    :1 2;3
+    |SYNTAX ERROR
+    |      1 2;3
+    |         ∧
+
+    :(A)←3
+    |SYNTAX ERROR
+    |      (A)←3
+    |        ∧
+
+    :(A)[1]←3
+    |SYNTAX ERROR
+    |      (A)[1]←3
+    |        ∧
+
+    :A[1][2]←3
+    |SYNTAX ERROR
+    |      A[1][2]←3
+    |         ∧
+
+    :A∘+B
+    |SYNTAX ERROR
+    |      A∘+B
+    |       ∧
+
+    :A+.B
+    |SYNTAX ERROR
+    |      A+.B
+    |        ∧
+
+    :A∘.⍴B
+    |SYNTAX ERROR
+    |      A∘.⍴B
+    |        ∧
+
+    :∘.+B
+    |SYNTAX ERROR
+    |      ∘.+B
+    |      ∧
+
+    :A+[1]B
+    |SYNTAX ERROR
+    |      A+[1]B
+    |       ∧
+
+    :,[1]B
+    |SYNTAX ERROR
+    |      ,[1]B
+    |      ∧
+
+    :⍋[1]B
+    |SYNTAX ERROR
+    |      ⍋[1]B
+    |      ∧
+
+    :~/B
+    |SYNTAX ERROR
+    |      ~/B
+    |      ∧
+
+    :⍴/B
+    |SYNTAX ERROR
+    |      ⍴/B
+    |      ∧
+
+    :/B
+    |SYNTAX ERROR
+    |      /B
+    |      ∧
+
+    :A⌽[1;2]B
+    |SYNTAX ERROR
+    |      A⌽[1;2]B
+    |          ∧
+
+    :A⌽[]B
+    |SYNTAX ERROR
+    |      A⌽[]B
+    |        ∧
+
+    :1+2)
+    |SYNTAX ERROR
+    |      1+2)
+    |      ∧
+
+    :(1)2
+    |SYNTAX ERROR
+    |      (1)2
+    |        ∧
+
+    :A B
+    |SYNTAX ERROR
+    |      A B
+    |      ∧
+
+    :A+.×/B
+    |SYNTAX ERROR
+    |      A+.×/B
+    |        ∧
+
+    :'A'←3
+    |SYNTAX ERROR
+    |      'A'←3
+    |      ∧
+
+    :A[(1]
+    |SYNTAX ERROR
+    |      A[(1]
+    |        ∧
+
+    :3+
+    |SYNTAX ERROR
+    |      3+
+    |       ∧
+    :(1+2
+    |SYNTAX ERROR
+    |      (1+2
+    |      ∧
+    :1)
+    |SYNTAX ERROR
+    |      1)
+    |      ∧
+    :2+<3
+    |SYNTAX ERROR
+    |      2+<3
+    |       ∧
+    :3←4
+    |SYNTAX ERROR
+    |      3←4
+    |      ∧
+    :A+/B
+    |SYNTAX ERROR
+    |      A+/B
+    |      ∧
+    :1 ¯ 2
+    |SYNTAX ERROR
+    |      1 ¯ 2
+    |        ∧
+    :'AB
+    |SYNTAX ERROR
+    |      'AB
+    |      ∧
+
+    :+\
+    |SYNTAX ERROR
+    |      +\
+    |       ∧
+
+    :1  ;3
+    |SYNTAX ERROR
+    |      1  ;3
+    |         ∧
+
+    :1  ←3
+    |SYNTAX ERROR
+    |      1  ←3
+    |      ∧
+    "#;
 
 /// Operands have values before a function is looked at, and before its axis is judged.
-pub(super) const OPERANDS: [(&str, &str); 15] = [
-    ("⍴3\n", "\n"),
-    ("1 2[1]\n", "1\n"),
-    ("Q[B]←2\n", "VALUE ERROR\n      Q[B]←2\n        ∧\n"),
-    ("Q[1]←B\n", "VALUE ERROR\n      Q[1]←B\n           ∧\n"),
-    ("⍴B\n", "VALUE ERROR\n      ⍴B\n       ∧\n"),
-    ("C⍴A←3\nA\n", "VALUE ERROR\n      C⍴A←3\n      ∧\n3\n"),
-    ("⌽[9]1 2\n", "INDEX ERROR\n      ⌽[9]1 2\n      ∧\n"),
-    ("⌽[B]1 2\n", "VALUE ERROR\n      ⌽[B]1 2\n        ∧\n"),
-    ("B[1]\n", "VALUE ERROR\n      B[1]\n      ∧\n"),
-    ("1÷B\n", "VALUE ERROR\n      1÷B\n        ∧\n"),
-    ("A←4 5\nA[;]\n", "RANK ERROR\n      A[;]\n       ∧\n"),
-    ("B⍴A←3\nA\n", "VALUE ERROR\n      B⍴A←3\n      ∧\n3\n"),
-    ("Q[D;D←2]\nD\n", "VALUE ERROR\n      Q[D;D←2]\n      ∧\n2\n"),
-    (
-        "Q[C←7]←B\nC\n",
-        "VALUE ERROR\n      Q[C←7]←B\n             ∧\nVALUE ERROR\n      C\n      ∧\n",
-    ),
-    (
-        "A⌽[C←1]B←1 2\nB\nC\n",
-        "VALUE ERROR\n      A⌽[C←1]B←1 2\n      ∧\n1 2\n1\n",
-    ),
-];
+pub(super) const OPERANDS: &str = r"
+    :⍴3
+    |
+
+    :1 2[1]
+    |1
+
+    :Q[B]←2
+    |VALUE ERROR
+    |      Q[B]←2
+    |        ∧
+
+    :Q[1]←B
+    |VALUE ERROR
+    |      Q[1]←B
+    |           ∧
+
+    :⍴B
+    |VALUE ERROR
+    |      ⍴B
+    |       ∧
+
+    :C⍴A←3
+    |VALUE ERROR
+    |      C⍴A←3
+    |      ∧
+    :A
+    |3
+
+    :⌽[9]1 2
+    |INDEX ERROR
+    |      ⌽[9]1 2
+    |      ∧
+
+    :⌽[B]1 2
+    |VALUE ERROR
+    |      ⌽[B]1 2
+    |        ∧
+
+    :B[1]
+    |VALUE ERROR
+    |      B[1]
+    |      ∧
+
+    :1÷B
+    |VALUE ERROR
+    |      1÷B
+    |        ∧
+
+    :A←4 5
+    :A[;]
+    |RANK ERROR
+    |      A[;]
+    |       ∧
+
+    :B⍴A←3
+    |VALUE ERROR
+    |      B⍴A←3
+    |      ∧
+    :A
+    |3
+
+    :Q[D;D←2]
+    |VALUE ERROR
+    |      Q[D;D←2]
+    |      ∧
+    :D
+    |2
+
+    :Q[C←7]←B
+    |VALUE ERROR
+    |      Q[C←7]←B
+    |             ∧
+    :C
+    |VALUE ERROR
+    |      C
+    |      ∧
+
+    :A⌽[C←1]B←1 2
+    |VALUE ERROR
+    |      A⌽[C←1]B←1 2
+    |      ∧
+    :B
+    |1 2
+    :C
+    |1
+    ";
 
 /// Commands.
-pub(super) const COMMANDS: [(&str, &str); 22] = [
-    (")ORIGIN 00\n )ORIGIN 1\n", "WAS 1\nWAS 0\n"),
-    (
-        ")ORIGIN\n)WIDTH 29\n) CLEAR\n)CLEAR 1\n",
-        "INCORRECT COMMAND\nINCORRECT COMMAND\nINCORRECT COMMAND\nINCORRECT COMMAND\n",
-    ),
-    (")○\n", "CHARACTER ERROR\n      )\n       ∧\n"),
-    (")CLEAR ⍝ x\n", "INCORRECT COMMAND\n"),
-    (")CLEAR⍝\n", "INCORRECT COMMAND\n"),
-    (")ORIGIN  01 \n", "WAS 1\n"),
-    (")ORIGIN0\n", "INCORRECT COMMAND\n"),
-    (")ORIGIN 1 1\n", "INCORRECT COMMAND\n"),
-    (")\n", "INCORRECT COMMAND\n"),
-    (")OFF 1\n1\n", "INCORRECT COMMAND\n1\n"),
-    (
-        ")WIDTH 0000000000000000000000000130\n)WIDTH 130\n",
-        "WAS 120\nWAS 130\n",
-    ),
-    (
-        ")WIDTH 9999999999999999999999999999999999999999\n",
-        "INCORRECT COMMAND\n",
-    ),
-    (")WIDTH ¯60\n", "INCORRECT COMMAND\n"),
-    ("  )CLEAR'\n", "INCORRECT COMMAND\n"),
-    (")'\n", "INCORRECT COMMAND\n"),
-    (")¯\n", "INCORRECT COMMAND\n"),
-    (")OFF\n#\n", ""),
-    (
-        "A←3\n)ORIGIN 0\n)WIDTH 60\n)CLEAR\nA\n)ORIGIN 1\n)WIDTH 120\n",
-        "WAS 1\nWAS 120\nCLEAR WS\nVALUE ERROR\n      A\n      ∧\nWAS 1\nWAS 120\n",
-    ),
-    (
-        ")WIDTH 30\n1 2 3 4 5 6 7 8 9 10 11 12 13 14 15 16 17 18 19 20\n",
-        "WAS 120\n1 2 3 4 5 6 7 8 9 10 11 12 13\n      14 15 16 17 18 19 20\n",
-    ),
-    (
-        ")ORIGIN 0\n)ORIGIN 0\n)ORIGIN 2\n)width 60\n)CLEAR\n)OFF\n1\n",
-        "WAS 1\nWAS 0\nINCORRECT COMMAND\nINCORRECT COMMAND\nCLEAR WS\n",
-    ),
-    (
-        ") \n)A←3\n)CLEAR'\n)CLEARS\n)OF\n)off\n)ORIGIN \n)ORIGIN 256\n)ORIGIN 1A\n)ORIGIN ¯1\n)origin 1\n)WIDTH\n)WIDTH 131\n)WIDTH 286\n)WIDTH60\n",
-        "INCORRECT COMMAND\nINCORRECT COMMAND\nINCORRECT COMMAND\nINCORRECT COMMAND\nINCORRECT COMMAND\nINCORRECT COMMAND\nINCORRECT COMMAND\nINCORRECT COMMAND\nINCORRECT COMMAND\nINCORRECT COMMAND\nINCORRECT COMMAND\nINCORRECT COMMAND\nINCORRECT COMMAND\nINCORRECT COMMAND\nINCORRECT COMMAND\n",
-    ),
-    (
-        ")WIDTH 30\n1 2 3 4 5 6 7 8 9 10 11 12 13 14\n",
-        "WAS 120\n1 2 3 4 5 6 7 8 9 10 11 12 13\n      14\n",
-    ),
-];
+pub(super) const COMMANDS: &str = r"
+    :)ORIGIN 00
+    |WAS 1
+    : )ORIGIN 1
+    |WAS 0
+
+    :)ORIGIN
+    |INCORRECT COMMAND
+    :)WIDTH 29
+    |INCORRECT COMMAND
+    :) CLEAR
+    |INCORRECT COMMAND
+    :)CLEAR 1
+    |INCORRECT COMMAND
+
+    :)○
+    |CHARACTER ERROR
+    |      )
+    |       ∧
+
+    :)CLEAR ⍝ x
+    |INCORRECT COMMAND
+
+    :)CLEAR⍝
+    |INCORRECT COMMAND
+
+    :)ORIGIN  01 ⏎
+    |WAS 1
+
+    :)ORIGIN0
+    |INCORRECT COMMAND
+
+    :)ORIGIN 1 1
+    |INCORRECT COMMAND
+
+    :)
+    |INCORRECT COMMAND
+
+    :)OFF 1
+    |INCORRECT COMMAND
+    :1
+    |1
+
+    :)WIDTH 0000000000000000000000000130
+    |WAS 120
+    :)WIDTH 130
+    |WAS 130
+
+    :)WIDTH 9999999999999999999999999999999999999999
+    |INCORRECT COMMAND
+
+    :)WIDTH ¯60
+    |INCORRECT COMMAND
+
+    :  )CLEAR'
+    |INCORRECT COMMAND
+
+    :)'
+    |INCORRECT COMMAND
+
+    :)¯
+    |INCORRECT COMMAND
+
+    :)OFF
+    :#
+
+    :A←3
+    :)ORIGIN 0
+    |WAS 1
+    :)WIDTH 60
+    |WAS 120
+    :)CLEAR
+    |CLEAR WS
+    :A
+    |VALUE ERROR
+    |      A
+    |      ∧
+    :)ORIGIN 1
+    |WAS 1
+    :)WIDTH 120
+    |WAS 120
+
+    :)WIDTH 30
+    |WAS 120
+    :1 2 3 4 5 6 7 8 9 10 11 12 13 14 15 16 17 18 19 20
+    |1 2 3 4 5 6 7 8 9 10 11 12 13
+    |      14 15 16 17 18 19 20
+
+    :)ORIGIN 0
+    |WAS 1
+    :)ORIGIN 0
+    |WAS 0
+    :)ORIGIN 2
+    |INCORRECT COMMAND
+    :)width 60
+    |INCORRECT COMMAND
+    :)CLEAR
+    |CLEAR WS
+    :)OFF
+    :1
+
+    :) ⏎
+    |INCORRECT COMMAND
+    :)A←3
+    |INCORRECT COMMAND
+    :)CLEAR'
+    |INCORRECT COMMAND
+    :)CLEARS
+    |INCORRECT COMMAND
+    :)OF
+    |INCORRECT COMMAND
+    :)off
+    |INCORRECT COMMAND
+    :)ORIGIN ⏎
+    |INCORRECT COMMAND
+    :)ORIGIN 256
+    |INCORRECT COMMAND
+    :)ORIGIN 1A
+    |INCORRECT COMMAND
+    :)ORIGIN ¯1
+    |INCORRECT COMMAND
+    :)origin 1
+    |INCORRECT COMMAND
+    :)WIDTH
+    |INCORRECT COMMAND
+    :)WIDTH 131
+    |INCORRECT COMMAND
+    :)WIDTH 286
+    |INCORRECT COMMAND
+    :)WIDTH60
+    |INCORRECT COMMAND
+
+    :)WIDTH 30
+    |WAS 120
+    :1 2 3 4 5 6 7 8 9 10 11 12 13 14
+    |1 2 3 4 5 6 7 8 9 10 11 12 13
+    |      14
+    ";
 
 /// An unlisted symbol is judged before all else.
-pub(super) const UNLISTED: [(&str, &str); 9] = [
-    ("\u{feff}\n", "CHARACTER ERROR\n      \n      ∧\n"),
-    ("1\t2\n", "CHARACTER ERROR\n      1\n       ∧\n"),
-    ("1\r\r\n", "CHARACTER ERROR\n      1\n       ∧\n"),
-    ("1 ⍝ ○\n", "CHARACTER ERROR\n      1 ⍝ \n          ∧\n"),
-    ("'○'\n", "CHARACTER ERROR\n      '\n       ∧\n"),
-    ("# ○\n", "CHARACTER ERROR\n      # \n        ∧\n"),
-    ("'⍴×'○\n", "CHARACTER ERROR\n      '⍴×'\n          ∧\n"),
-    ("2○3\n", "CHARACTER ERROR\n      2\n       ∧\n"),
-    (
-        "2○3\n2+3 4 5\n",
-        "CHARACTER ERROR\n      2\n       ∧\n5 6 7\n",
-    ),
-];
+pub(super) const UNLISTED: &str = "
+    :\u{feff}
+    |CHARACTER ERROR
+    |      ⏎
+    |      ∧
+
+    :1\t2
+    |CHARACTER ERROR
+    |      1
+    |       ∧
+
+    :1\r\r
+    |CHARACTER ERROR
+    |      1
+    |       ∧
+
+    :1 ⍝ ○
+    |CHARACTER ERROR
+    |      1 ⍝ ⏎
+    |          ∧
+
+    :'○'
+    |CHARACTER ERROR
+    |      '
+    |       ∧
+
+    :# ○
+    |CHARACTER ERROR
+    |      # ⏎
+    |        ∧
+
+    :'⍴×'○
+    |CHARACTER ERROR
+    |      '⍴×'
+    |          ∧
+
+    :2○3
+    |CHARACTER ERROR
+    |      2
+    |       ∧
+
+    :2○3
+    |CHARACTER ERROR
+    |      2
+    |       ∧
+    :2+3 4 5
+    |5 6 7
+    ";
