@@ -1,4 +1,5 @@
 //! Tokens of lines, as text: each token with its column, or the stop.
+use crate::tables::{Table, rows_of};
 use apl_array::ScalarFunction;
 use apl_tokens::{
     Class, Constant, Glyph, Lexeme, Token, blanks_before, constants_are_within_limits, front,
@@ -61,61 +62,46 @@ fn described(alloc: Global, line: &[u8]) -> Result<String, AllocError> {
 }
 
 /// Lines and their tokens. A constant is told by its elements and its rank.
-const LINES: [(&str, &str); 15] = [
-    ("", ""),
-    ("   ", ""),
-    ("  A_1 ← ¯5", "2:A_1;6:Arrow;8: -5 rank 0;"),
-    ("1¯2", "0: 1 rank 0;1: -2 rank 0;"),
-    ("1 2¯3 4", "0: 1 2 rank 1;3: -3 4 rank 1;"),
-    ("1A", "0: 1 rank 0;1:A;"),
-    ("A¯1", "0:A;1: -1 rank 0;"),
-    ("000000000000000000000000000007 ¯0", "0: 7 0 rank 1;"),
-    (
-        "¯9223372036854775808 9223372036854775807",
-        "0: -9223372036854775808 9223372036854775807 rank 1;",
-    ),
-    ("'⍝'", "0: ⍝ rank 0;"),
-    ("''''''", "0: '' rank 1;"),
-    ("'' ⍝ 'A", "0:  rank 1;"),
-    ("'A' 'BC'", "0: A rank 0;4: BC rank 1;"),
-    ("1.5", "0: 1 rank 0;1:Dot;2: 5 rank 0;"),
-    ("∆1∘⍙", "0:∆1;2:Jot;3:⍙;"),
-];
+const LINES: &str = r"
+    : →
+    :    →
+    :  A_1 ← ¯5 → 2:A_1;6:Arrow;8: -5 rank 0;
+    :1¯2 → 0: 1 rank 0;1: -2 rank 0;
+    :1 2¯3 4 → 0: 1 2 rank 1;3: -3 4 rank 1;
+    :1A → 0: 1 rank 0;1:A;
+    :A¯1 → 0:A;1: -1 rank 0;
+    :000000000000000000000000000007 ¯0 → 0: 7 0 rank 1;
+    :¯9223372036854775808 9223372036854775807 → 0: -9223372036854775808 9223372036854775807 rank 1;
+    :'⍝' → 0: ⍝ rank 0;
+    :'''''' → 0: '' rank 1;
+    :'' ⍝ 'A → 0:  rank 1;
+    :'A' 'BC' → 0: A rank 0;4: BC rank 1;
+    :1.5 → 0: 1 rank 0;1:Dot;2: 5 rank 0;
+    :∆1∘⍙ → 0:∆1;2:Jot;3:⍙;
+    ";
 
 /// Lines with functions, each of which is told by its glyph's name.
-const GLYPHS: [(&str, &str); 6] = [
-    ("2+3 4 5", "0: 2 rank 0;1:Plus;2: 3 4 5 rank 1;"),
-    ("a×B-c", "0:a;1:Times;2:B;3:Minus;4:c;"),
-    (
-        "+-×÷|*!⌊⌈∧∨⍲⍱",
-        "0:Plus;1:Minus;2:Times;3:Divide;4:Stile;5:Star;6:Bang;7:Floor;8:Ceiling;9:And;10:Or;11:Nand;12:Nor;",
-    ),
-    (
-        "<≤=≥>≠~⍴,⍳∊↑↓",
-        "0:Less;1:LessOrEqual;2:Equal;3:GreaterOrEqual;4:Greater;5:NotEqual;6:Tilde;7:Rho;8:Comma;9:Iota;10:Epsilon;11:UpArrow;12:DownArrow;",
-    ),
-    (
-        "⌽⊖⍉⍋⍒/⌿\\⍀⊥⊤",
-        "0:CircleStile;1:CircleBar;2:Transpose;3:GradeUp;4:GradeDown;5:Slash;6:SlashBar;7:Backslash;8:BackslashBar;9:UpTack;10:DownTack;",
-    ),
-    (
-        ".∘←()[];",
-        "0:Dot;1:Jot;2:Arrow;3:OpenParen;4:CloseParen;5:OpenBracket;6:CloseBracket;7:Semicolon;",
-    ),
-];
+const GLYPHS: &str = r"
+    :2+3 4 5 → 0: 2 rank 0;1:Plus;2: 3 4 5 rank 1;
+    :a×B-c → 0:a;1:Times;2:B;3:Minus;4:c;
+    :+-×÷|*!⌊⌈∧∨⍲⍱ → 0:Plus;1:Minus;2:Times;3:Divide;4:Stile;5:Star;6:Bang;7:Floor;8:Ceiling;9:And;10:Or;11:Nand;12:Nor;
+    :<≤=≥>≠~⍴,⍳∊↑↓ → 0:Less;1:LessOrEqual;2:Equal;3:GreaterOrEqual;4:Greater;5:NotEqual;6:Tilde;7:Rho;8:Comma;9:Iota;10:Epsilon;11:UpArrow;12:DownArrow;
+    :⌽⊖⍉⍋⍒/⌿\⍀⊥⊤ → 0:CircleStile;1:CircleBar;2:Transpose;3:GradeUp;4:GradeDown;5:Slash;6:SlashBar;7:Backslash;8:BackslashBar;9:UpTack;10:DownTack;
+    :.∘←()[]; → 0:Dot;1:Jot;2:Arrow;3:OpenParen;4:CloseParen;5:OpenBracket;6:CloseBracket;7:Semicolon;
+    ";
 
-fn check(rt: &impl Abort, alloc: Global, rows: &[(&str, &str)]) -> Result<(), Fail> {
-    for (line, wanted) in rows {
+fn check(rt: &impl Abort, alloc: Global, table: Table) -> Result<(), Fail> {
+    for (line, wanted) in rows_of(alloc, table)? {
         let got = described(alloc, line.as_bytes())?;
-        assert!(rt; got.as_str() == *wanted, "at {line}");
+        assert!(rt; got.as_str() == wanted, "at {line}");
     }
     Ok(())
 }
 
 #[test]
 fn tokens_of_lines(rt: HostRuntime) -> Result<(), Fail> {
-    check(&rt, rt.alloc(), &LINES)?;
-    check(&rt, rt.alloc(), &GLYPHS)
+    check(&rt, rt.alloc(), (LINES, 15))?;
+    check(&rt, rt.alloc(), (GLYPHS, 6))
 }
 
 #[test]

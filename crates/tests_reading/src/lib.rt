@@ -13,3 +13,5 @@ mod programs;
 mod recogniser;
 #[cfg(test)]
 mod short_lines;
+#[cfg(test)]
+mod tables;

@@ -1,5 +1,5 @@
 //! What lines read as. Carets, numerals and further commands stand with the sessions.
-use apl_array::Origin;
+use crate::tables::{Table, rows_of};
 use apl_syntax::{Command, Line, ReadStop, one_reading, read, some_reading};
 use std::alloc::{AllocError, Global};
 use std::process::Abort;
@@ -27,45 +27,61 @@ pub(super) fn syntax(column: usize) -> Answer {
     Answer::Stop(ReadStop::Syntax { column })
 }
 
-fn check(rt: &impl Abort, alloc: Global, rows: &[(&str, Answer)]) {
-    for (line, wanted) in rows {
-        assert!(rt; read_as(alloc, line.as_bytes()) == *wanted, "at {line}");
+/// Lines, and what they read as.
+const READ: &str = r"
+    : → Blank
+    :   → Blank
+    :⍝ → Blank
+    :  ⍝ )OFF → Blank
+    :'⍝' → Statement
+    :'''''' → Statement
+    :000000000000000000000000000007 ¯0 → Statement
+    :¯9223372036854775808 → Statement
+    :A[1;]←+/[1]B∘.×C,[2]⍉D ⍝ A) → Statement
+    :)ORIGIN 0 → Command(Origin(Zero))
+    :)ORIGIN 00 → Command(Origin(Zero))
+    :)ORIGIN  01  → Command(Origin(One))
+    :  )ORIGIN 0000000000000000000000001 → Command(Origin(One))
+    :)WIDTH 30 → Command(Width(30))
+    :)WIDTH 60 → Command(Width(60))
+    :)WIDTH 0000000000000000000000000130 → Command(Width(130))
+    :)CLEAR → Command(Clear)
+    :  )CLEAR   → Command(Clear)
+    :)OFF → Command(Off)
+    ⍝ each of the 45 symbols is a token, so the fault is one of the grammar, at the last of them
+    :+-×÷|*!⌊⌈∧∨⍲⍱<≤=≥>≠~⍴,⍳∊↑↓⌽⊖⍉⍋⍒/⌿\⍀⊥⊤.∘←()[]; → Stop(Syntax { column: 44 })
+    ";
+
+/// Lines with symbols that are not listed.
+const UNLISTED: &str = "
+    :2○3 → Stop(Character { bytes: 1, column: 1 })
+    :1 ⍝ ○ → Stop(Character { bytes: 6, column: 4 })
+    :'○' → Stop(Character { bytes: 1, column: 1 })
+    :# ○ → Stop(Character { bytes: 2, column: 2 })
+    :'⍴×'○ → Stop(Character { bytes: 7, column: 4 })
+    :¯¯○ → Stop(Character { bytes: 4, column: 2 })
+    :)○ → Stop(Character { bytes: 1, column: 1 })
+    :\u{feff}1 → Stop(Character { bytes: 0, column: 0 })
+    :1\t2 → Stop(Character { bytes: 1, column: 1 })
+    :1\t → Stop(Character { bytes: 1, column: 1 })
+    :1\r → Stop(Character { bytes: 1, column: 1 })
+    :1+\r → Stop(Character { bytes: 2, column: 2 })
+    :\x7F → Stop(Character { bytes: 0, column: 0 })
+    ";
+
+/// Checks what the lines of a table read as, in the words of `Debug`.
+fn check(rt: &impl Abort, alloc: Global, table: Table) -> Result<(), Fail> {
+    for (line, wanted) in rows_of(alloc, table)? {
+        let answer = read_as(alloc, line.as_bytes());
+        let got = format!(in alloc; "{answer:?}")?;
+        assert!(rt; got.as_str() == wanted, "at {line}");
     }
+    Ok(())
 }
 
 #[test]
-fn lines_without_a_fault(rt: HostRuntime) {
-    let (origin_0, origin_1) = (
-        Answer::Command(Command::Origin(Origin::Zero)),
-        Answer::Command(Command::Origin(Origin::One)),
-    );
-    let rows = [
-        ("", Answer::Blank),
-        ("  ", Answer::Blank),
-        ("⍝", Answer::Blank),
-        ("  ⍝ )OFF", Answer::Blank),
-        ("'⍝'", Answer::Statement),
-        ("''''''", Answer::Statement),
-        ("000000000000000000000000000007 ¯0", Answer::Statement),
-        ("¯9223372036854775808", Answer::Statement),
-        ("A[1;]←+/[1]B∘.×C,[2]⍉D ⍝ A)", Answer::Statement),
-        (")ORIGIN 0", origin_0),
-        (")ORIGIN 00", origin_0),
-        (")ORIGIN  01 ", origin_1),
-        ("  )ORIGIN 0000000000000000000000001", origin_1),
-        (")WIDTH 30", Answer::Command(Command::Width(30))),
-        (")WIDTH 60", Answer::Command(Command::Width(60))),
-        (
-            ")WIDTH 0000000000000000000000000130",
-            Answer::Command(Command::Width(130)),
-        ),
-        (")CLEAR", Answer::Command(Command::Clear)),
-        ("  )CLEAR  ", Answer::Command(Command::Clear)),
-        (")OFF", Answer::Command(Command::Off)),
-        // each of the 45 symbols is a token, so the fault is one of the grammar, at the last of them
-        ("+-×÷|*!⌊⌈∧∨⍲⍱<≤=≥>≠~⍴,⍳∊↑↓⌽⊖⍉⍋⍒/⌿\\⍀⊥⊤.∘←()[];", syntax(44)),
-    ];
-    check(&rt, rt.alloc(), &rows);
+fn lines_without_a_fault(rt: HostRuntime) -> Result<(), Fail> {
+    check(&rt, rt.alloc(), (READ, 20))?;
     let operations = match read(rt.alloc(), "A+A←3".as_bytes()) {
         Ok(Line::Statement(program)) => program.operations().len(),
         _ => 0,
@@ -73,31 +89,20 @@ fn lines_without_a_fault(rt: HostRuntime) {
     assert!(rt; operations == 4);
     one_reading();
     some_reading();
+    Ok(())
 }
 
 #[test]
 fn symbols_that_are_not_listed(rt: HostRuntime) -> Result<(), Fail> {
     let alloc = rt.alloc();
-    let rows: [(&[u8], usize, usize); 17] = [
-        ("2○3".as_bytes(), 1, 1),
-        ("1 ⍝ ○".as_bytes(), 6, 4),
-        ("'○'".as_bytes(), 1, 1),
-        ("# ○".as_bytes(), 2, 2),
-        ("'⍴×'○".as_bytes(), 7, 4),
-        ("¯¯○".as_bytes(), 4, 2),
-        (")○".as_bytes(), 1, 1),
+    check(&rt, alloc, (UNLISTED, 13))?;
+    let no_text: [(&[u8], usize, usize); 4] = [
         (b"A\xff", 1, 1),
         (b"1+\xe2\x8d", 2, 2),
         (b"\xc0\x80", 0, 0),
         (b"\xed\xa0\x80", 0, 0),
-        (b"\xef\xbb\xbf1", 0, 0),
-        (b"1\t2", 1, 1),
-        (b"1\t", 1, 1),
-        (b"1\r", 1, 1),
-        (b"1+\r", 2, 2),
-        (b"\x7F", 0, 0),
     ];
-    for (line, bytes, column) in rows {
+    for (line, bytes, column) in no_text {
         let wanted = Answer::Stop(ReadStop::Character { bytes, column });
         assert!(rt; read_as(alloc, line) == wanted);
     }

@@ -1,4 +1,5 @@
 //! Operations of statements, in the order of evaluation.
+use crate::tables::rows_of;
 use apl_grammar::{
     Form, Operation, Program, one_caret, one_reading, one_tree, program_of, tree_or_caret,
 };
@@ -33,43 +34,36 @@ fn column_of(operation: &Operation) -> Option<usize> {
 }
 
 /// The columns of the program's operations, in the order of evaluation.
-fn columns_of(alloc: Global, line: &str) -> Result<Vec<Option<usize>>, Fail> {
+fn columns_of(alloc: Global, line: &str) -> Result<String, Fail> {
     let program = program(alloc, line)?;
-    let mut columns = Vec::new(alloc);
+    let mut columns = String::new(alloc);
     for operation in program.operations() {
-        columns.push(column_of(operation))?;
+        match column_of(operation) {
+            Some(column) => write!(columns, " {column}")?,
+            None => columns.push_str(" -")?,
+        }
     }
     Ok(columns)
 }
 
+/// Statements, and the columns of their operations in the order of evaluation.
+const ORDERED: &str = "
+    ⍝ the expression, the axis, the operand, the function
+    :A,[1]+B → 6 5 3 0 1
+    ⍝ the slots, the array, the index, and then the function
+    :A[1]+B → 5 2 0 1 4
+    ⍝ the slots from the last to the first
+    :A[1;;2] → 5 - 2 0 1
+    ⍝ the expression, the slots, the name
+    :A[1;]←2 → 6 - 2 5
+    :(A∘.×B)+.×C←+/D → 14 13 10 5 1 3 0 8
+    ";
+
 #[test]
 fn order_of_evaluation(rt: HostRuntime) -> Result<(), Fail> {
-    let rows: [(&str, &[Option<usize>]); 5] = [
-        // the expression, the axis, the operand, the function
-        ("A,[1]+B", &[Some(6), Some(5), Some(3), Some(0), Some(1)]),
-        // the slots, the array, the index, and then the function
-        ("A[1]+B", &[Some(5), Some(2), Some(0), Some(1), Some(4)]),
-        // the slots from the last to the first
-        ("A[1;;2]", &[Some(5), None, Some(2), Some(0), Some(1)]),
-        // the expression, the slots, the name
-        ("A[1;]←2", &[Some(6), None, Some(2), Some(5)]),
-        (
-            "(A∘.×B)+.×C←+/D",
-            &[
-                Some(14),
-                Some(13),
-                Some(10),
-                Some(5),
-                Some(1),
-                Some(3),
-                Some(0),
-                Some(8),
-            ],
-        ),
-    ];
-    for (line, wanted) in rows {
+    for (line, wanted) in rows_of(rt.alloc(), (ORDERED, 5))? {
         let columns = columns_of(rt.alloc(), line)?;
-        assert!(rt; columns.as_slice() == wanted, "of {line}");
+        assert!(rt; columns.trim_start() == wanted, "of {line}");
     }
     Ok(())
 }
