@@ -1,8 +1,8 @@
 -- One more value, one more stretch of values, and the first fault among them.
 use Rattle.std.proofs.Common.{◌≡◌, ℕ, ◌+◌, ◌-◌, ◌<◌, ◌≤◌, List, [], ◌∷◌, ◌++◌, length, get_or, take, drop, Result, Ok, Err, refl, sym, ap, ◌∙◌, subst, ⊎_elim, arith, length-append, length-drop}
-use Rattle.std.specs.Prelude.{IsOk, OnOk, IfOk, IfErr}
+use Rattle.std.specs.Prelude.{IsOk, OnOk, IfErr}
 use borrow.Rule.Slice.PartMut.{put_mid, post_of}
-use Rattle.std.proofs.lemmas.List.{length_push, get_or_push, get_or_append_left, get_or-append_right, get_or-take, length-take-le}
+use Rattle.std.proofs.lemmas.List.{get_or_append_left, get_or-append_right, get_or-take, length-take-le}
 use Rattle.std.proofs.lemmas.Bool.{cases_lt}
 use Rattle.std.proofs.lemmas.Result.{IfErr-weaker}
 use Rattle.apl_pool.specs.declared.kernel.Fault.{Fault}
@@ -11,7 +11,7 @@ use Rattle.apl_pool.specs.declared.kernel.Stop.TheVariants.{Fault as FaultAt, Me
 use Rattle.apl_pool.specs.Pool.{AreValues, IsStopOf}
 use Rattle.std.specs.declared.vec.Vec.{Vec}
 use Rattle.apl_pool.specs.Parts.{AreValuesFrom, IsStopFrom, IsPart}
-use Rattle.apl_pool.specs.Runs.{AppendsValues, AreWritten}
+use Rattle.apl_pool.specs.Runs.{AreWritten}
 
 some_element : {T : Type 0} → (xs : List T) → 0 < length xs → T
 some_element [] h = absurd (omega arith)
@@ -32,60 +32,6 @@ module _ {T : Type 0} (outcome : ℕ → Result T Fault) where
   ok_from_equal : (k : ℕ) (x : T) → outcome k ≡ Ok x → IsOk (outcome k)
   ok_from_equal k x e = let P : Result T Fault → Type 0 = λ r. IsOk r in subst P (sym e) refl
 
-  pub AppendsValues_none : (from : ℕ) (old : List T) → AppendsValues outcome from from old old
-  AppendsValues_none from old = record { len = refl; kept = λ k d h. refl; each = λ k d h. absurd (omega arith) }
-
-  pub AppendsValues_more : (from to : ℕ) (old new : List T) (x : T) → from ≤ to → AppendsValues outcome from to old new
-      → outcome to ≡ Ok x → AppendsValues outcome from (to + 1) old (new ++ x ∷ [])
-  AppendsValues_more from to old new x order so_far is = record {
-    len = omega (arith, length_push new x, so_far.len);
-    kept = λ k d h.
-        let inside : k < length new = omega (arith, so_far.len) in
-        get_or_append_left new (x ∷ []) d k inside ∙ so_far.kept k d h;
-    each = λ k d h.
-        ⊎_elim
-        (λ below.
-        let inside : length old + k < length new = omega (arith, so_far.len) in
-        so_far.each k d below ∙ ap Ok (sym (get_or_append_left new (x ∷ []) d (length old + k) inside)))
-        (λ above.
-        let here : from + k ≡ to = omega arith in
-        let place : length new ≡ length old + k = omega (arith, so_far.len) in
-        ap outcome here ∙ is ∙ ap Ok (sym (get_or_push new x d (length old + k) place)))
-        (cases_lt (from + k) to);
-  }
-
-  -- values are put after values that were put
-  pub AppendsValues-then : (from mid to : ℕ) (old between new : List T) → from ≤ mid → mid ≤ to → AppendsValues outcome from mid old between
-      → AppendsValues outcome mid to between new → AppendsValues outcome from to old new
-  AppendsValues-then from mid to old between new low high first second = record {
-    len = omega (arith, first.len, second.len);
-    kept = λ k d h. second.kept k d (omega (arith, first.len)) ∙ first.kept k d h;
-    each = λ k d h.
-        ⊎_elim
-        (λ below. first.each k d below ∙ ap Ok (sym (second.kept (length old + k) d (omega (arith, first.len)))))
-        (λ above.
-        let same : mid + (from + k - mid) ≡ from + k = omega arith in
-        let place : length between + (from + k - mid) ≡ length old + k = omega (arith, first.len) in
-        ap outcome (sym same) ∙ second.each (from + k - mid) d (omega arith) ∙ ap (λ n. Ok (get_or new n d)) place)
-        (cases_lt (from + k) mid);
-  }
-
-  pub AppendsValues-then_ok : {E Z : Type 0} (result : Result (Vec T Z) E) (from mid to : ℕ) (old between : List T) → from ≤ mid → mid ≤ to
-      → AppendsValues outcome from mid old between → IfOk result (λ v. AppendsValues outcome mid to between v.items) → IfOk result (λ v. AppendsValues outcome from to old v.items)
-  AppendsValues-then_ok (Ok v) from mid to old between low high first second = AppendsValues-then from mid to old between v.items low high first second
-  AppendsValues-then_ok (Err e) from mid to old between low high first second = tt
-
-  -- no place that has given a value has a fault
-  pub IsOk-from_appended : (from to : ℕ) (old new : List T) → from ≤ to → AppendsValues outcome from to old new
-      → (k : ℕ) → from ≤ k → k < to → IsOk (outcome k)
-  IsOk-from_appended from to old new order all k low high =
-      let some : 0 < length new = omega (arith, all.len) in
-      let d = some_element new some in
-      let same : from + (k - from) ≡ k = omega arith in
-      let inside : from + (k - from) < to = omega arith in
-      let P : ℕ → Type 0 = λ n. IsOk (outcome n) in
-      subst P same (ok_from_equal (from + (k - from)) _ (all.each (k - from) d inside))
-
   pub AreValuesFrom_none : (from : ℕ) → AreValuesFrom outcome from from []
   AreValuesFrom_none from = record { len = omega arith; each = λ k d h. absurd (omega arith) }
 
@@ -101,21 +47,6 @@ module _ {T : Type 0} (outcome : ℕ → Result T Fault) where
         let inside : k - length old < length new = omega (arith, length-append old new) in
         let same : mid + (k - length old) ≡ from + k = omega (arith, first.len) in
         ap outcome (sym same) ∙ second.each (k - length old) d inside ∙ ap Ok (sym (get_or-append_right old new (length old) k d refl above)))
-        (cases_lt k (length old));
-  }
-
-  pub AreValuesFrom-from_appended : (from mid next to end : ℕ) (old new : List T) → next ≡ mid → to ≡ end → next ≤ to → AreValuesFrom outcome from mid old
-      → AppendsValues outcome next to old new → AreValuesFrom outcome from end new
-  AreValuesFrom-from_appended from mid next to end old new here there order first second = record {
-    len = omega (arith, first.len, second.len);
-    each = λ k d h.
-        ⊎_elim
-        (λ below. first.each k d below ∙ ap Ok (sym (second.kept k d below)))
-        (λ above.
-        let inside : next + (k - length old) < to = omega (arith, first.len, second.len) in
-        let same : next + (k - length old) ≡ from + k = omega (arith, first.len) in
-        let place : length old + (k - length old) ≡ k = omega arith in
-        ap outcome (sym same) ∙ second.each (k - length old) d inside ∙ ap (λ n. Ok (get_or new n d)) place)
         (cases_lt k (length old));
   }
 
@@ -149,26 +80,6 @@ module _ {T : Type 0} (outcome : ℕ → Result T Fault) where
   pub IsStopFrom-longer : (from to end : ℕ) (stop : Stop) → to ≤ end → IsStopFrom outcome from to stop → IsStopFrom outcome from end stop
   IsStopFrom-longer from to end stop high first =
       IsStopFrom-wider from from from to end [] stop (omega arith) refl high (AreValuesFrom_none from) first
-
-  -- the first fault of a later stretch is that of the whole, where the places before it have given values
-  pub IsStopFrom-after_appended : (from mid to : ℕ) (old new : List T) (stop : Stop) → from ≤ mid → AppendsValues outcome from mid old new
-      → IsStopFrom outcome mid to stop → IsStopFrom outcome from to stop
-  IsStopFrom-after_appended from mid to old new (FaultAt place fault) low all first = record {
-    at_least = omega (arith, first.at_least);
-    below = first.below;
-    faulty = first.faulty;
-    earlier = λ k l h.
-        ⊎_elim
-        (λ below. IsOk-from_appended from mid old new low all k l below)
-        (λ above. first.earlier k above h)
-        (cases_lt k mid);
-  }
-  IsStopFrom-after_appended from mid to old new Memory low all first = tt
-
-  pub err_after_appended : {X : Type 0} (result : Result X Stop) (from mid to : ℕ) (old new : List T) → from ≤ mid → AppendsValues outcome from mid old new
-      → IfErr result (IsStopFrom outcome mid to) → IfErr result (IsStopFrom outcome from to)
-  err_after_appended result from mid to old new low all stops =
-      IfErr-weaker _ _ _ (λ stop later. IsStopFrom-after_appended from mid to old new stop low all later) stops
 
   -- why one worker stops is why all stop, where the workers before it have written their values
   pub err_beside : {E X : Type 0} (rest : Result X E) (one : Result X Stop) (from mid to : ℕ) (x : X) (values : List T) → from ≤ mid → rest ≡ Ok x
@@ -259,6 +170,14 @@ module _ {T : Type 0} (outcome : ℕ → Result T Fault) where
   pub AreValuesFrom-from_written : (from to : ℕ) (values : List T) → from + length values ≡ to → AreWritten outcome from to values
       → AreValuesFrom outcome from to values
   AreValuesFrom-from_written from to values len all = record { len = len; each = λ k d h. all.each k d (omega arith) }
+
+  -- the last places of a list are written over, behind values
+  pub AreValuesFrom-over : (mid a to end k : ℕ) (old now new : List T) → a ≡ mid → to ≡ end → a + k ≡ to → length now ≡ end → ((n : ℕ) (d : T) → n < a → get_or now n d ≡ get_or old n d)
+      → AreValuesFrom outcome 0 mid old → AreValuesFrom outcome a to new → AreValuesFrom outcome 0 end (put_mid a k now new)
+  AreValuesFrom-over mid a to end k old now new here there last long kept before piece =
+      let front : AreWritten outcome 0 mid now = record { room = omega arith; each = λ n d h. before.each n d (omega (arith, before.len)) ∙ ap Ok (sym (kept n d (omega arith))) } in
+      let whole : length (put_mid a k now new) ≡ length now = length_written a k now new (omega (arith, piece.len)) (omega arith) in
+      AreValuesFrom-from_written 0 end (put_mid a k now new) (omega (arith, whole)) (AreWritten-piece 0 mid a to end a k now new here there (omega arith) last (omega arith) front piece)
 
   pub AreValues-from_zero : (count : ℕ) (values : List T) → AreValuesFrom outcome 0 count values → AreValues outcome count values
   AreValues-from_zero count values all = record {

@@ -3,12 +3,6 @@ use Rattle.std.specs.Prelude.{◌≡◌, ℕ, ◌+◌, ◌<◌, ◌≤◌, List,
 use Rattle.apl_pool.specs.declared.kernel.Fault.{Fault}
 
 module _ {T : Type 0} (outcome : ℕ → Result T Fault) where
-  -- the values at the places from `from` up to before `to` are put after the old ones
-  pub record AppendsValues (from to : ℕ) (old new : List T) : Type 0 where
-    pub len : from + length new ≡ to + length old
-    pub kept : (k : ℕ) (d : T) → k < length old → slice_index_or new k d ≡ slice_index_or old k d
-    pub each : (k : ℕ) (d : T) → from + k < to → outcome (from + k) ≡ Ok (slice_index_or new (length old + k) d)
-
   -- the values at the places from `from` up to before `to` stand at the front of a list
   pub record AreWritten (from to : ℕ) (values : List T) : Type 0 where
     pub room : to ≤ from + length values

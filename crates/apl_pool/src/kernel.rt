@@ -39,9 +39,9 @@ pub const MOST_PLACES: usize = 1 << 30;
 
 /// A value or a fault at each place below a count. A kernel is lent to all workers.
 pub trait Kernel {
-    ghost use Rattle.std.specs.Prelude.{◌+◌, ◌-◌, ◌≤◌, IfSome, length, vec_len, vec_capacity};
+    ghost use Rattle.std.specs.Prelude.{◌+◌, ◌≤◌, IfSome, length};
     ghost use Rattle.apl_pool.specs.declared.kernel.Fault.{Fault};
-    ghost use Rattle.apl_pool.specs.Runs.{AppendsValues, AreFour, AreWritten};
+    ghost use Rattle.apl_pool.specs.Runs.{AreFour, AreWritten};
 
     /// What there is at a place without a fault.
     type Out;
@@ -78,22 +78,9 @@ pub trait Kernel {
         None
     }
 
-    /// Puts the values at the places from `from` on behind others, up to before the place that it
-    /// answers: at most `to`, and `from` where it puts none. It is there for kernels that are faster
+    /// Writes the values at the places from `from` on into the room for those up to before `to`, up to before the place that it
+    /// answers: at most `to`, and `from` where it writes none. It is there for kernels that are faster
     /// over a run of places than at each of them; values that it leaves out are asked for one by one.
-    fn append_run(&self, from: usize, to: usize, _values: &mut Vec<Self::Out>) -> usize
-        requires order { from ≤ to }
-        requires places { to ≤ place_count self.now }
-        requires room { vec_len _values.old + (to - from) ≤ vec_capacity _values.old }
-        ensures order { from ≤ result }
-        ensures within { result ≤ to }
-        ensures values { AppendsValues (outcome self.now) from result _values.old.items _values.new.items }
-        ensures capacity { vec_capacity _values.new ≡ vec_capacity _values.old }
-    {
-        from
-    }
-
-    /// The same into the room for the values at the places from `from` up to before `to`.
     fn write_run(&self, from: usize, to: usize, _room: &mut [Self::Out]) -> usize
         requires order { from ≤ to }
         requires places { to ≤ place_count self.now }

@@ -1,13 +1,16 @@
-//! What a worker does with a piece and with its share: its values are put behind others, or into the room for them.
-ghost use Rattle.std.specs.Prelude.{◌≡◌, ℕ, ◌+◌, ◌-◌, ◌<◌, ◌≤◌, ◌^◌, OnOk, IfOk, IfErr, length, slice_index, vec_len, vec_capacity};
+//! What a worker does with a piece and with its share: its values are written into the room for them.
+ghost use Rattle.std.specs.Prelude.{◌≡◌, ℕ, ◌+◌, ◌<◌, ◌≤◌, ◌^◌, OnOk, IfOk, IfErr, length, slice_index, vec_len};
 ghost use Rattle.apl_pool.specs.Parts.{AreValuesFrom, IsStopFrom, IsPart};
-ghost use Rattle.apl_pool.specs.Runs.{AppendsValues, AreWritten};
+ghost use Rattle.apl_pool.specs.Runs.{AreWritten};
 
 use super::cut::Cut;
 use super::gate::Gate;
 use super::kernel::{Fault, Kernel, MOST_PLACES, Stop};
 use super::pieces::{Piece, piece_end};
 use std::alloc::Global;
+
+/// The most places that one worker makes room for at once: so many numbers are still in a processor's cache when they are written over.
+const STRETCH: usize = 4096;
 
 /// The stop at a place that has a fault.
 pub(crate) fn stop_at(place: usize, fault: Fault) -> Stop
@@ -18,110 +21,6 @@ pub(crate) fn stop_at(place: usize, fault: Fault) -> Stop
         place: place as u32,
         fault,
     }
-}
-
-/// Puts the values of the kernel's runs behind others, up to before the place that it answers.
-fn append_runs<K: Kernel>(kernel: &K, from: usize, to: usize, values: &mut Vec<K::Out>) -> usize
-    requires order { from ≤ to }
-    requires places { to ≤ K.place_count kernel.now }
-    requires room { vec_len values.old + (to - from) ≤ vec_capacity values.old }
-    ensures order { from ≤ result }
-    ensures within { result ≤ to }
-    ensures values { AppendsValues (K.outcome kernel.now) from result values.old.items values.new.items }
-    ensures capacity { vec_capacity values.new ≡ vec_capacity values.old }
-{
-    let mut place = from;
-    loop {
-        let end = kernel.append_run(place, to, values);
-        if end == place {
-            return end;
-        }
-        place = end;
-    }
-}
-
-/// Puts values that the kernel gives by fours behind others, up to before the place that it answers. The
-/// list is handed over and back, so that its end is kept in a register.
-fn append_fours<K: Kernel>(
-    kernel: &K,
-    from: usize,
-    to: usize,
-    values: Vec<K::Out>,
-) -> (Vec<K::Out>, usize)
-where
-    K::Out: Drop,
-    requires order { from ≤ to }
-    requires places { to ≤ K.place_count kernel.now }
-    requires most { to ≤ MOST_PLACES }
-    requires room { vec_len values + (to - from) ≤ vec_capacity values }
-    ensures order { from ≤ result.1 }
-    ensures within { result.1 ≤ to }
-    ensures values { AppendsValues (K.outcome kernel.now) from result.1 values.items result.0.items }
-    ensures capacity { vec_capacity result.0 ≡ vec_capacity values }
-{
-    let mut all = values;
-    let mut place = from;
-    while let Some((one, two, three, four)) = kernel.four(place, to) {
-        all.push_reserved(one);
-        all.push_reserved(two);
-        all.push_reserved(three);
-        all.push_reserved(four);
-        place += 4;
-    }
-    (all, place)
-}
-
-/// Puts the values at the places from `from` up to before `to` behind others, one by one. The list is
-/// handed over and back as well.
-fn append_places<K: Kernel>(
-    kernel: &K,
-    from: usize,
-    to: usize,
-    values: Vec<K::Out>,
-) -> Result<Vec<K::Out>, Stop>
-where
-    K::Out: Drop,
-    requires order { from ≤ to }
-    requires places { to ≤ K.place_count kernel.now }
-    requires most { to ≤ MOST_PLACES }
-    requires room { vec_len values + (to - from) ≤ vec_capacity values }
-    ensures ok { IfOk result (λ all. AppendsValues (K.outcome kernel.now) from to values.items all.items) }
-    ensures capacity { IfOk result (λ all. vec_capacity all ≡ vec_capacity values) }
-    ensures stop { IfErr result (IsStopFrom (K.outcome kernel.now) from to) }
-{
-    let mut all = values;
-    for place in from..to {
-        match kernel.at(place) {
-            Ok(value) => all.push_reserved(value),
-            Err(fault) => return Err(stop_at(place, fault)),
-        }
-    }
-    Ok(all)
-}
-
-/// Puts the values of a piece behind others, by a worker who passes the gate first.
-fn append_piece<K: Kernel, G: Gate>(
-    kernel: &K,
-    gate: &G,
-    worker: u8,
-    piece: Piece,
-    values: Vec<K::Out>,
-) -> Result<Vec<K::Out>, Stop>
-where
-    K::Out: Drop,
-    requires order { piece.from ≤ piece.to }
-    requires places { piece.to ≤ K.place_count kernel.now }
-    requires most { piece.to ≤ MOST_PLACES }
-    requires room { vec_len values + (piece.to - piece.from) ≤ vec_capacity values }
-    ensures ok { IfOk result (λ all. AppendsValues (K.outcome kernel.now) piece.from piece.to values.items all.items) }
-    ensures capacity { IfOk result (λ all. vec_capacity all ≡ vec_capacity values) }
-    ensures stop { IfErr result (IsStopFrom (K.outcome kernel.now) piece.from piece.to) }
-{
-    gate.pass(worker, piece.number);
-    let mut all = values;
-    let first = append_runs(kernel, piece.from, piece.to, &mut all);
-    let (all, first) = append_fours(kernel, first, piece.to, all);
-    append_places(kernel, first, piece.to, all)
 }
 
 /// Writes the values of the kernel's runs into the room for the places from `from` up to before `to`,
@@ -230,6 +129,63 @@ where
     write_places(kernel, piece.from, first, piece.to, room)
 }
 
+/// Puts the values of some more places of a piece behind those of all places before: of the first place alone, or of a stretch of places,
+/// which is made full of the last value and then written over.
+fn append_stretch<K: Kernel>(
+    kernel: &K,
+    piece: Piece,
+    values: Vec<K::Out>,
+) -> Result<Vec<K::Out>, Stop>
+where
+    K::Out: Copy,
+    requires some { vec_len values < piece.to }
+    requires places { piece.to ≤ K.place_count kernel.now }
+    requires most { piece.to ≤ MOST_PLACES }
+    requires before { AreValuesFrom (K.outcome kernel.now) 0 (vec_len values) values.items }
+    ensures more { IfOk result (λ all. vec_len values < vec_len all) }
+    ensures within { IfOk result (λ all. vec_len all ≤ piece.to) }
+    ensures values { IfOk result (λ all. AreValuesFrom (K.outcome kernel.now) 0 (vec_len all) all.items) }
+    ensures stop { IfErr result (IsStopFrom (K.outcome kernel.now) 0 piece.to) }
+{
+    let from = values.len();
+    let mut all = values;
+    if from == 0 {
+        match kernel.at(0) {
+            Ok(value) => all.resize(1, value)?,
+            Err(fault) => return Err(stop_at(0, fault)),
+        }
+        return Ok(all);
+    }
+    let number = piece.number;
+    let to = from + (piece.to - from).min(STRETCH);
+    let value = all[from - 1];
+    all.resize(to, value)?;
+    write_piece(kernel, Piece { number, from, to }, &mut all[from..])?;
+    Ok(all)
+}
+
+/// Puts the values of a piece behind those of all places before.
+fn append_piece<K: Kernel>(
+    kernel: &K,
+    piece: Piece,
+    values: Vec<K::Out>,
+) -> Result<Vec<K::Out>, Stop>
+where
+    K::Out: Copy,
+    requires order { piece.from ≤ piece.to }
+    requires places { piece.to ≤ K.place_count kernel.now }
+    requires most { piece.to ≤ MOST_PLACES }
+    requires before { AreValuesFrom (K.outcome kernel.now) 0 piece.from values.items }
+    ensures ok { IfOk result (λ all. AreValuesFrom (K.outcome kernel.now) 0 piece.to all.items) }
+    ensures stop { IfErr result (IsStopFrom (K.outcome kernel.now) 0 piece.to) }
+{
+    let mut all = values;
+    while all.len() < piece.to {
+        all = append_stretch(kernel, piece, all)?;
+    }
+    Ok(all)
+}
+
 /// The values at all places, by one worker who has all pieces. The first one ends at `end`.
 pub(crate) fn append_all<K: Kernel, C: Cut, G: Gate>(
     alloc: Global,
@@ -240,7 +196,7 @@ pub(crate) fn append_all<K: Kernel, C: Cut, G: Gate>(
     end: usize,
 ) -> Result<Vec<K::Out>, Stop>
 where
-    K::Out: Drop,
+    K::Out: Copy,
     requires some { 0 < end }
     requires within { end ≤ K.place_count kernel.now }
     ensures { IsPart (K.outcome kernel.now) 0 (K.place_count kernel.now) result }
@@ -253,7 +209,8 @@ where
         to: end,
     };
     while piece.from < count {
-        values = append_piece(kernel, gate, worker, piece, values)?;
+        gate.pass(worker, piece.number);
+        values = append_piece(kernel, piece, values)?;
         piece = next_piece(cut, piece, count);
     }
     Ok(values)

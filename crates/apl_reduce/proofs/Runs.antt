@@ -1,29 +1,10 @@
 -- Values of a run of places, one more at a time.
-use Rattle.std.proofs.Common.{◌≡◌, ℕ, ℤ, ◌+◌, ◌<◌, List, [], ◌∷◌, ◌++◌, length, slice_set, Result, Ok, sym, ap, ◌∙◌, ⊎_elim, arith}
-use Rattle.std.proofs.lemmas.List.{length_push, get_or_push, get_or_append_left, length-set, get_or-set_other}
+use Rattle.std.proofs.Common.{◌≡◌, ℕ, ℤ, ◌+◌, ◌<◌, List, length, slice_set, Result, Ok, ap, ◌∙◌, ⊎_elim, arith}
+use Rattle.std.proofs.lemmas.List.{length-set, get_or-set_other}
 use Rattle.std.proofs.lemmas.Grind.{get_or-set_at}
 use Rattle.std.proofs.lemmas.Bool.{cases_lt}
 use Rattle.apl_pool.specs.declared.kernel.Fault.{Fault}
-use Rattle.apl_pool.specs.Runs.{AppendsValues, AreWritten}
-
-pub appends_more : (outcome : ℕ → Result ℤ Fault) (to : ℕ) (old new : List ℤ) (x : ℤ) → AppendsValues outcome 0 to old new
-    → outcome to ≡ Ok x → AppendsValues outcome 0 (to + 1) old (new ++ x ∷ [])
-appends_more outcome to old new x so_far is = record {
-  len = omega (arith, length_push new x, so_far.len);
-  kept = λ k d h.
-      let inside : k < length new = omega (arith, so_far.len) in
-      get_or_append_left new (x ∷ []) d k inside ∙ so_far.kept k d h;
-  each = λ k d h.
-      ⊎_elim
-      (λ below.
-      let inside : length old + k < length new = omega (arith, so_far.len) in
-      so_far.each k d below ∙ ap Ok (sym (get_or_append_left new (x ∷ []) d (length old + k) inside)))
-      (λ above.
-      let here : 0 + k ≡ to = omega arith in
-      let place : length new ≡ length old + k = omega (arith, so_far.len) in
-      ap outcome here ∙ is ∙ ap Ok (sym (get_or_push new x d (length old + k) place)))
-      (cases_lt (0 + k) to);
-}
+use Rattle.apl_pool.specs.Runs.{AreWritten}
 
 pub written_more : (outcome : ℕ → Result ℤ Fault) (to : ℕ) (room : List ℤ) (x : ℤ) → to < length room → AreWritten outcome 0 to room
     → outcome to ≡ Ok x → AreWritten outcome 0 (to + 1) (slice_set room to x)

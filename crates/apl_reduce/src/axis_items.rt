@@ -1,5 +1,5 @@
 //! The items along an axis, folded at each place of the result.
-ghost use Rattle.std.specs.Prelude.{◌≡◌, ℕ, pos, ◌+◌, ◌-◌, ◌*◌, ◌/◌, ◌%◌, ◌<◌, ◌≤◌, ◌++◌, true, IfOk, IfErr, length, map, remove, replicate, slice_index, slice_index_or, drop, vec_len, vec_capacity};
+ghost use Rattle.std.specs.Prelude.{◌≡◌, ℕ, ◌+◌, ◌-◌, ◌*◌, ◌/◌, ◌%◌, ◌<◌, ◌≤◌, true, IfOk, IfErr, length, map, remove, slice_index, slice_index_or, drop};
 ghost use Rattle.apl_pool.specs.Runs.{AreWritten};
 ghost use Rattle.apl_array.specs.declared.array.Elem.TheVariants.{Int, Chr};
 ghost use Rattle.apl_array.specs.Shape.{count_of};
@@ -109,17 +109,6 @@ impl<T> AxisItems<'_, T> {
     }
 }
 
-/// Puts so many zeros behind other values.
-fn append_zeros(values: &mut Vec<i64>, len: usize)
-    requires { vec_len values.old + len ≤ vec_capacity values.old }
-    ensures items { values.new.items ≡ values.old.items ++ replicate len (pos 0) }
-    ensures capacity { vec_capacity values.new ≡ vec_capacity values.old }
-{
-    for _more in 0..len {
-        values.push_reserved(0);
-    }
-}
-
 /// The folds of the items at each place.
 #[derive(Drop)]
 struct Folds<'a, T, F> {
@@ -145,20 +134,6 @@ impl<T: Element, F: Function> Kernel for Folds<'_, T, F> {
         let axis = self.axis;
         let stride = axis.inner.number();
         fold_along::<F, T>(axis.elements, axis.first_item(place), stride, axis.items)
-    }
-
-    fn append_run(&self, from: usize, to: usize, values: &mut Vec<i64>) -> usize {
-        let len = self.axis.run_length(from, to);
-        if len == 0 {
-            return from;
-        }
-        let start = values.len();
-        append_zeros(values, len);
-        if self.fold_run(from, &mut values.as_mut_slice()[start..]) {
-            return from + len;
-        }
-        values.truncate(start);
-        from
     }
 
     fn write_run(&self, from: usize, to: usize, room: &mut [i64]) -> usize {

@@ -10,7 +10,7 @@ ghost use Rattle.apl_reduce.specs.Items.{outer_number, pair_number};
 ghost use Rattle.apl_reduce.specs.Products.{outer_row};
 
 use crate::dyadic::{Chosen, Dyadic, Typed};
-use crate::pairs::{append_pairs, write_pairs};
+use crate::pairs::write_pairs;
 use crate::shapes::{characters_of, joined_shape};
 use crate::workers::Workers;
 use apl_answer::{Element, OpFault, array_from_fill};
@@ -21,7 +21,6 @@ use apl_scalar::function_types::{Equal, Function, NotEqual};
 use apl_scalar::with_type;
 use std::alloc::Global;
 use std::marker::PhantomData;
-use std::mem::replace;
 use std::thread::Threads;
 
 /// Each element of one list with each element of another, the right one varying fastest.
@@ -32,7 +31,6 @@ struct EachPair<'a, T, U, F: Dyadic> {
     columns: Divisor,
     count: usize,
     function: F,
-    alloc: Global,
     ghost most: { count ≤ MOST_PLACES },
     ghost count_is: { count ≡ length left.now * length right.now },
     ghost columns_are: { columns ≡ length right.now },
@@ -81,17 +79,6 @@ impl<T: Element, U: Element, F: Dyadic> Kernel for EachPair<'_, T, U, F> {
             .of(self.left[row].elem(), self.right[column].elem())
     }
 
-    fn append_run(&self, from: usize, to: usize, values: &mut Vec<i64>) -> usize {
-        if from == to || self.right.len() < NARROW {
-            return from;
-        }
-        let (x, others) = self.row_from(from, to);
-        let own = replace(values, Vec::new(self.alloc));
-        let (count, all) = append_pairs(x, others, self.function, own);
-        *values = all;
-        from + count
-    }
-
     #[inline(always)]
     fn write_run(&self, from: usize, to: usize, room: &mut [i64]) -> usize {
         if from == to || self.right.len() < NARROW {
@@ -124,7 +111,6 @@ impl<R: Threads + Sync, C: Cut + Sync, G: Gate + Sync> Workers<'_, R, C, G> {
             columns: Divisor::new(right.len()),
             count,
             function,
-            alloc: self.alloc,
         };
         self.pool.fill(self.rt, self.alloc, &kernel)
     }

@@ -1,6 +1,6 @@
 //! One element with each of others.
-ghost use Rattle.std.specs.Prelude.{◌≡◌, ◌+◌, ◌<◌, ◌≤◌, length, map, slice_set, vec_len, vec_capacity};
-ghost use Rattle.apl_pool.specs.Runs.{AppendsValues, AreWritten};
+ghost use Rattle.std.specs.Prelude.{◌≡◌, ◌<◌, ◌≤◌, length, map, slice_set};
+ghost use Rattle.apl_pool.specs.Runs.{AreWritten};
 ghost use Rattle.apl_reduce.specs.Items.{pair_number};
 
 use crate::dyadic::Dyadic;
@@ -30,31 +30,8 @@ pub(crate) fn put<X: Copy>(room: &mut [X], place: usize, value: X)
     room[place] = value;
 }
 
-/// Puts what a function gives of one element and each of others behind other values, up to the first
-/// that has a fault, and answers how many they are.
-#[inline(always)]
-pub(crate) fn append_pairs<T: Element, U: Element, F: Dyadic>(
-    x: T,
-    others: &[U],
-    function: F,
-    values: Vec<i64>,
-) -> (usize, Vec<i64>)
-    requires room { vec_len values + length others.now ≤ vec_capacity values }
-    ensures within { result.0 ≤ length others.now }
-    ensures values { AppendsValues (pair_number (F.function function) (T.elem_of x) (map U.elem_of others.now)) 0 result.0 values.items result.1.items }
-    ensures capacity { vec_capacity result.1 ≡ vec_capacity values }
-{
-    let mut all = values;
-    for k in 0..others.len() {
-        match pair_at(x, others, k, function) {
-            Ok(value) => all.push_reserved(value),
-            Err(_) => return (k, all),
-        }
-    }
-    (others.len(), all)
-}
-
-/// Writes the same into the room for them.
+/// Writes what a function gives of one element and each of others into the room for them, up to the
+/// first that has a fault, and answers how many they are.
 #[inline(always)]
 pub(crate) fn write_pairs<T: Element, U: Element, F: Dyadic>(
     x: T,

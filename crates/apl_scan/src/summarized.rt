@@ -159,18 +159,6 @@ impl<S: Running + Copy + Drop> Kernel for Scans<'_, S> {
         fold_behind(&self.before(place), self.numbers[place])
     }
 
-    fn append_run(&self, from: usize, to: usize, values: &mut Vec<i64>) -> usize {
-        let len = self.run_length(from, to);
-        if len == 0 {
-            return from;
-        }
-        let start = values.len();
-        append_ones(values, len);
-        let done = self.scan_run(from, &mut values.as_mut_slice()[start..]);
-        values.truncate(start + done);
-        from + done
-    }
-
     fn write_run(&self, from: usize, to: usize, room: &mut [i64]) -> usize {
         let len = self.run_length(from, to);
         if len == 0 {

@@ -12,7 +12,7 @@ use Rattle.apl_array.specs.Array.{ArrayValue, IsArray}
 use Rattle.apl_array.specs.Shape.{IsShape, count_of, index_at}
 use Rattle.apl_answer.specs.Arguments.{is_scalar, rank_of, fill_of, only_element}
 use Rattle.apl_struct.specs.Compressing.{as_vector}
-use Rattle.apl_struct.specs.Gathered.{filled_at}
+use Rattle.apl_walk.specs.Gathered.{filled_at}
 use Rattle.apl_struct.specs.Gathering.{element_or_fill}
 use Rattle.apl_struct.proofs.Filled.{get_or-within}
 use Rattle.apl_struct.proofs.Ranges.{element_in_in}

@@ -10,7 +10,7 @@ use Rattle.apl_array.specs.Shape.{count_of, place_of, index_at}
 use Rattle.apl_array.specs.Array.{ArrayValue, IsArray, element_in}
 use Rattle.apl_answer.specs.Arguments.{fill_of, has_elements, size_of, number_of, numbers_of, only_element}
 use Rattle.apl_struct.specs.Building.{reshape_source}
-use Rattle.apl_struct.specs.Gathered.{filled_at}
+use Rattle.apl_walk.specs.Gathered.{filled_at}
 use Rattle.apl_struct.proofs.Filled.{get_or-within}
 
 -- the fill is taken at no place of an argument

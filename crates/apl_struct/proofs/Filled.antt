@@ -6,7 +6,8 @@ use Rattle.apl_array.specs.declared.array.Elem.TheVariants.{Int}
 use Rattle.apl_array.specs.Array.{ArrayValue, IsArray, element_at}
 use Rattle.apl_array.specs.Shape.{IsIndexOf, count_of, place_of, index_at}
 use Rattle.apl_answer.specs.Arguments.{fill_of}
-use Rattle.apl_struct.specs.Gathered.{filled_at}
+use Rattle.apl_walk.specs.Gathered.{filled_at}
+use Rattle.apl_walk.specs.Steps.{and_step}
 use Rattle.apl_struct.specs.Along.{line_place, line_source}
 use Rattle.apl_struct.specs.Gathering.{element_or_fill}
 
@@ -36,6 +37,14 @@ module _ (below : (shape index : List ℕ) → IsIndexOf shape index → place_o
         let same : line_place m inner (slice_index b.shape k * inner) place i ≡ place_of b.shape index =
         omega (arith, placed b.shape k m place i axis inside) in
         ap (λ p. filled_at b (Some p)) same ∙ filled_within b index array is
+
+-- the step along an axis, between those along the axes to its right and to its left
+pub step_along : (m inner block place : ℕ) (step j : Option ℕ) → step ≡ option_map (λ i. i * inner) j
+    → and_step (and_step (Some (place % inner)) step) (Some (place / (m * inner) * block)) ≡ line_source m inner block place j
+step_along m inner block place step None is =
+    ap (λ s. and_step (and_step (Some (place % inner)) s) (Some (place / (m * inner) * block))) is
+step_along m inner block place step (Some i) is =
+    ap (λ s. and_step (and_step (Some (place % inner)) s) (Some (place / (m * inner) * block))) is ∙ ap Some (omega arith)
 
 -- what is known of an axis where the result has elements
 pub record AxisFacts (m n inner count : ℕ) : Type 0 where

@@ -15,7 +15,6 @@ pub mod Picks
 pub mod Choices
 pub mod Sources
 pub mod Replacement
-pub mod Walked
 pub mod Taken
 pub mod Permuted
 pub mod InOrder

@@ -9,8 +9,9 @@ use Rattle.std.proofs.lemmas.List.FromFn.{length-range_with_len, get_or-range_wi
 use Rattle.std.proofs.Math.Nat.{mod-lt, mul-le-mul_right}
 use Rattle.apl_array.specs.Shape.{IsShape, count_of, index_at}
 use Rattle.apl_array.specs.Transposition.{AreAxesInto, strides, becoming, inner_product}
-use Rattle.apl_struct.specs.declared.windows.Window.{Window}
-use Rattle.apl_struct.specs.Windows.{step_of, and_step}
+use Rattle.apl_walk.specs.declared.window.Window.{Window}
+use Rattle.apl_walk.specs.Steps.{and_step}
+use Rattle.apl_walk.specs.Maps.{step_of}
 use Rattle.apl_struct.proofs.Taken.{pos_left, pos_right}
 
 sum-becoming : (axis a x : ℕ) (axes items : List ℕ)

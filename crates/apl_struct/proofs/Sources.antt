@@ -14,7 +14,7 @@ use Rattle.apl_answer.specs.Arguments.{rank_of, number_of, numbers_of}
 use Rattle.apl_struct.specs.declared.selecting.Choice.{Choice}
 use Rattle.apl_struct.specs.Indexing.{Slots, are_slots_within, is_slot_within, slot_shape, selected_shape, select_source}
 use Rattle.apl_struct.specs.Selecting.{total_place, IsMore, slot_count, slot_index, chosen_place, AreArrays, AreChosen, IsSelection}
-use Rattle.apl_struct.specs.Gathered.{filled_at}
+use Rattle.apl_walk.specs.Gathered.{filled_at}
 use Rattle.apl_struct.proofs.Filled.{filled_within}
 use Rattle.apl_struct.proofs.Choices.{positive_left, positive_right}
 use Rattle.apl_struct.proofs.Picks.{all_at, place_below}

@@ -7,12 +7,13 @@ use Rattle.apl_array.specs.Axes.{place_number}
 use Rattle.std.proofs.Math.Nat.{mod-lt, mul-le-mul_right, le-mul_of_pos_right}
 use Rattle.apl_array.specs.Array.{ArrayValue, IsArray}
 use Rattle.apl_array.specs.Shape.{most_axes, IsShape, IsIndexOf, count_of, place_of, index_at}
-use Rattle.apl_struct.specs.declared.windows.Window.{Window}
-use Rattle.apl_struct.specs.Gathered.{filled_at}
+use Rattle.apl_walk.specs.declared.window.Window.{Window}
+use Rattle.apl_walk.specs.Gathered.{filled_at}
 use Rattle.apl_struct.specs.Gathering.{element_or_fill}
 use Rattle.apl_struct.specs.Shaped.{with_shape, left_number, left_numbers}
 use Rattle.apl_struct.specs.Taking.{taken_index, take_source, dropped_shape, drop_source}
-use Rattle.apl_struct.specs.Windows.{step_of, and_step}
+use Rattle.apl_walk.specs.Steps.{and_step}
+use Rattle.apl_walk.specs.Maps.{step_of}
 use Rattle.apl_struct.proofs.Filled.{filled_within}
 
 -- ---- lengths

@@ -7,7 +7,8 @@ use Rattle.std.proofs.lemmas.Int.{ints, int_rem_euclid_is}
 use Rattle.std.proofs.Math.Nat.{mod-lt, mod-eq_of_lt, mod-eq-sub-mod, add-mod-mod, mod-add-div'}
 use Rattle.apl_array.specs.Axes.{place_number}
 use Rattle.apl_struct.specs.Moving.{rotated_index}
-use Rattle.apl_struct.specs.Rotation.{wrapped, rotation_of}
+use Rattle.apl_struct.specs.Rotation.{rotation_of}
+use Rattle.apl_walk.specs.Steps.{wrapped}
 
 pub wrapped_is : (n j : ℕ) → 0 < n → j < n + n → j % n ≡ wrapped n j
 wrapped_is n j some below =
@@ -40,6 +41,11 @@ rotated_wrapped z r n i some is inside =
     let by = nat_abs r in
     let below : nat_abs r < n = rw is (remainder_below z n some).1 in
     by_number z n i by some (rw is (remainder_below z n some).0) ∙ wrapped_is n (i + by) some (omega (arith, below, inside))
+
+pub wrapped_below : (n i by : ℕ) → i < n → by ≤ n → wrapped n (i + by) < n
+wrapped_below n i by inside most =
+    let some : 0 < n = omega (arith, inside) in
+    rw (sym (wrapped_is n (i + by) some (omega (arith, inside, most)))) (mod-lt (i + by) some)
 
 pub rotated_by : (z : ℤ) (n i : ℕ) → i < n → rotated_index z n i ≡ wrapped n (i + rotation_of n z)
 rotated_by z zero i inside = absurd (omega (arith, inside))

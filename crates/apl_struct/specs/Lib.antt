@@ -10,14 +10,12 @@ pub mod Replicating
 pub mod Searching
 pub mod Indexing
 pub mod Ordering
-pub mod Gathered
 pub mod Along
 pub mod Joined
 pub mod Rotation
 pub mod Picking
 pub mod Selecting
 pub mod Numbering
-pub mod Windows
 pub mod Shaped
 pub mod Sorting
 pub mod Finding

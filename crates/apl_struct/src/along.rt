@@ -1,10 +1,14 @@
 //! Results that differ from an argument along one axis.
-ghost use Rattle.std.specs.Prelude.{◌≡◌, ℕ, ◌+◌, ◌*◌, ◌<◌, ◌≤◌, IfSome, List, Ok, length, drop, slice_index, slice_set, remove};
+ghost use Rattle.std.specs.Prelude.{◌≡◌, ℕ, ◌+◌, ◌*◌, ◌/◌, ◌%◌, ◌<◌, ◌≤◌, IfOk, IfSome, List, Ok, Option, Some, option_map, length, drop, slice_index, slice_set, remove};
 ghost use Rattle.apl_array.specs.declared.array.Elem.{Elem};
 ghost use Rattle.apl_array.specs.Shape.{IsIndexOf, count_of, place_of};
 ghost use Rattle.apl_pool.specs.declared.kernel.TheConstants.{MOST_PLACES};
 ghost use Rattle.apl_answer.specs.Pointwise.{answer_of, IsAnswerOf};
 ghost use Rattle.apl_struct.specs.Gathering.{element_or_fill, along_axis_or_none};
+ghost use Rattle.apl_walk.specs.declared.map.TheConstants.{MOST_STEP};
+ghost use Rattle.apl_walk.specs.Steps.{and_step};
+ghost use Rattle.apl_walk.specs.Maps.{extent_of, map_extent, map_step, walked};
+ghost use Rattle.apl_walk.specs.Walks.{maps_of};
 
 use crate::gather::{Absent, Source};
 use crate::lines::{AnyAxis, FirstAxis, LastAxis, Lines, Vector};
@@ -16,6 +20,8 @@ use apl_array::{
 };
 use apl_divisor::Divisor;
 use apl_pool::{Cut, Gate};
+use apl_walk::{AxisMap, MOST_STEP, Map, Walk, Window};
+use std::alloc::{AllocError, Global};
 use std::thread::Threads;
 
 /// Which index of the argument's axis each index of the result's axis takes, or none for the fill, on
@@ -76,17 +82,17 @@ impl<L: Lines, X: Indexes> Source for Along<L, X> {
 
 /// By what places along an axis are taken apart.
 #[derive(Clone, Copy)]
-struct Steps {
+pub(crate) struct Steps {
     /// How long the result's axis is.
-    length: usize,
+    pub length: usize,
     /// How far apart neighbours along it are.
-    inner: usize,
+    pub inner: usize,
     /// How many places of the argument there are for one index list of the axes to the left.
-    block: usize,
+    pub block: usize,
 }
 
 /// The steps along axis `k` of a result with elements, which is the argument's but for that axis.
-fn steps_along(argument: &Shape, shape: &Shape, k: usize) -> Steps
+pub(crate) fn steps_along(argument: &Shape, shape: &Shape, k: usize) -> Steps
     requires axis { k < length argument.now }
     requires shape { shape.now ≡ slice_set argument.now k (slice_index shape.now k) }
     requires some { 0 < count_of shape.now }
@@ -108,7 +114,62 @@ fn steps_along(argument: &Shape, shape: &Shape, k: usize) -> Steps
     }
 }
 
+/// The walk along an axis whose neighbours are `inner` apart: there the argument has `block` places for each of `outer` index lists of
+/// the axes to the left.
+fn walk_along<'a>(
+    alloc: Global,
+    outer: usize,
+    block: usize,
+    map: Map<'a>,
+    inner: usize,
+) -> Result<Walk<'a>, AllocError>
+    requires outer { 0 < outer }
+    requires inner { 0 < inner }
+    requires some { 0 < map_extent map }
+    requires most { outer * (map_extent map * inner) ≤ MOST_PLACES }
+    requires near { outer * block ≤ MOST_STEP }
+    ensures extent { IfOk result (λ walk. extent_of (maps_of walk) ≡ outer * (map_extent map.entry * inner)) }
+    ensures place { IfOk result (λ walk. (place : ℕ) → place < outer * (map_extent map.entry * inner) → walked (maps_of walk) place
+        ≡ and_step (and_step (Some (place % inner)) (map_step map.entry (place / inner % map_extent map.entry))) (Some (place / (map_extent map.entry * inner) * block))) }
+{
+    let walk = Walk::new(alloc).with(Map::Window(Window::whole(inner, 1)))?;
+    let walk = walk.with(map)?;
+    walk.with(Map::Window(Window::whole(outer, block)))
+}
+
 impl<R: Threads + Sync, C: Cut + Sync, G: Gate + Sync> Workers<'_, R, C, G> {
+    /// The array of this shape with elements, which is the argument's but for axis `k`, with the elements at the indexes of that axis that
+    /// a map takes.
+    pub(crate) fn gather_mapped(
+        &self,
+        shape: Shape,
+        b: &Array,
+        k: usize,
+        map: Map,
+    ) -> Result<Array, OpFault>
+        requires axis { k < length b.now.shape }
+        requires shape { shape ≡ slice_set b.now.shape k (map_extent map) }
+        requires some { 0 < count_of shape }
+        ensures { (taken : ℕ → Option ℕ) (element : List ℕ → Elem)
+            → ((i : ℕ) → i < map_extent map.entry → map_step map.entry i ≡ option_map (λ j. j * count_of (drop (k + 1) b.now.shape)) (taken i))
+            → ((i : ℕ) → i < map_extent map.entry → IfSome (taken i) (λ j. j < slice_index b.now.shape k))
+            → ((index : List ℕ) → IsIndexOf shape index → element_or_fill b.now (along_axis_or_none k taken index) ≡ element index)
+            → IsAnswerOf (answer_of shape (λ index. Ok (element index)) b.now.kind) result }
+    {
+        places_match_index_lists();
+        changed_axis_has_place();
+        // An array that was asked something is known to be lawful.
+        let _kind = b.kind();
+        let Steps {
+            length,
+            inner,
+            block,
+        } = steps_along(b.shape(), &shape, k);
+        let outer = shape.count() / (length * inner);
+        let walk = walk_along(self.alloc, outer, block, map, inner)?;
+        self.gather_walk(shape, b, walk)
+    }
+
     fn gather_lines<L: Lines + Sync + Drop, X: Indexes + Sync + Drop>(
         &self,
         shape: Shape,

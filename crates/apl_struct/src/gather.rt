@@ -6,15 +6,16 @@ ghost use Rattle.apl_array.specs.Array.{element_at};
 ghost use Rattle.apl_array.specs.Shape.{count_of, index_at};
 ghost use Rattle.apl_pool.specs.declared.kernel.TheConstants.{MOST_PLACES};
 ghost use Rattle.apl_answer.specs.Pointwise.{answer_of, IsAnswerOf};
-ghost use Rattle.apl_struct.specs.Gathered.{filled_at};
+ghost use Rattle.apl_walk.specs.Gathered.{filled_at};
+ghost use Rattle.apl_walk.specs.Maps.{extent_of, walked};
+ghost use Rattle.apl_walk.specs.Walks.{maps_of};
 
-use crate::stretches::{append_elements, stretch_at, write_elements};
+use crate::stretches::{stretch_at, write_elements};
 use crate::workers::Workers;
 use apl_answer::{Element, OpFault, array_of_elements, fill_array};
 use apl_array::{Array, Shape};
 use apl_pool::{Cut, Fault, Gate, Kernel};
-use std::alloc::Global;
-use std::mem::replace;
+use apl_walk::Walk;
 use std::thread::Threads;
 
 /// Which place of the argument each place of the result takes, or none for the fill.
@@ -88,12 +89,11 @@ struct Gather<'a, T, S> {
     elements: &'a [T],
     source: S,
     fill: T,
-    alloc: Global,
 }
 
 impl<T: Element, S: Source> Kernel for Gather<'_, T, S> {
     ghost use Rattle.std.specs.Prelude.{Ok};
-    ghost use Rattle.apl_struct.specs.Gathered.{value_or};
+    ghost use Rattle.apl_walk.specs.Gathered.{value_or};
 
     type Out = T;
 
@@ -111,14 +111,6 @@ impl<T: Element, S: Source> Kernel for Gather<'_, T, S> {
         let taken = self.source.at(place);
         let element = element_or(self.elements, taken.unwrap_or(0), self.fill);
         Ok(if taken.is_some() { element } else { self.fill })
-    }
-
-    fn append_run(&self, from: usize, to: usize, values: &mut Vec<T>) -> usize {
-        let (first, count) = self.source.stretch(from, to);
-        let elements = stretch_at(self.elements, first, count);
-        let own = replace(values, Vec::new(self.alloc));
-        *values = append_elements(elements, own);
-        from + elements.len()
     }
 
     fn write_run(&self, from: usize, to: usize, room: &mut [T]) -> usize {
@@ -152,6 +144,15 @@ impl<R: Threads + Sync, C: Cut + Sync, G: Gate + Sync> Workers<'_, R, C, G> {
         }
     }
 
+    /// The array of this shape with an argument's elements at the places that a walk reaches.
+    pub(crate) fn gather_walk(&self, shape: Shape, b: &Array, walk: Walk) -> Result<Array, OpFault>
+        requires extent { extent_of (maps_of walk) ≡ count_of shape }
+        ensures { (element : List ℕ → Elem) → ((place : ℕ) → place < count_of shape → filled_at b.now (walked (maps_of walk.entry) place) ≡ element (index_at shape place))
+            → IsAnswerOf (answer_of shape (λ index. Ok (element index)) b.now.kind) result }
+    {
+        apl_walk::gather(self.rt, self.alloc, self.pool, shape, b, walk)
+    }
+
     /// A scalar as it is: whatever index list its element is taken at.
     pub(crate) fn gather_scalar(&self, b: &Array) -> Result<Array, OpFault>
         requires { length b.now.shape ≡ 0 }
@@ -178,7 +179,6 @@ impl<R: Threads + Sync, C: Cut + Sync, G: Gate + Sync> Workers<'_, R, C, G> {
             elements,
             source,
             fill: T::fill(),
-            alloc: self.alloc,
         };
         fill_array(self.rt, self.alloc, self.pool, shape, &kernel)
     }

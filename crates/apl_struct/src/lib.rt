@@ -19,7 +19,6 @@ mod moving;
 mod named;
 mod ordering;
 mod permuting;
-mod reached;
 mod repeating;
 mod replacing;
 mod rotating;
@@ -29,8 +28,6 @@ mod shapes;
 mod sorting;
 mod stretches;
 mod taking;
-mod walk;
-mod windows;
 mod workers;
 
 pub use axes::axis_number;

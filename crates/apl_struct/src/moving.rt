@@ -1,40 +1,17 @@
 //! Reversed, rotated and permuted axes.
-ghost use Rattle.std.specs.Prelude.{◌≡◌, ◌≤◌};
-ghost use Rattle.apl_pool.specs.declared.kernel.TheConstants.{MOST_PLACES};
+ghost use Rattle.std.specs.Prelude.{◌≡◌};
 ghost use Rattle.apl_answer.specs.Rows.{Answers};
 ghost use Rattle.apl_struct.specs.Moving.{reverse_row};
 
-use crate::along::Indexes;
+use crate::along::{Steps, steps_along};
+use crate::gather::Absent;
 use crate::workers::Workers;
 use apl_answer::OpFault;
 use apl_array::{Array, Axis};
 use apl_pool::{Cut, Gate, Pool};
+use apl_walk::{Map, Reversed};
 use std::alloc::Global;
 use std::thread::Threads;
-
-/// The last index first.
-#[derive(Drop)]
-struct Reversed {
-    length: usize,
-    ghost most: { length ≤ MOST_PLACES },
-}
-
-impl Indexes for Reversed {
-    ghost use Rattle.std.specs.Prelude.{◌-◌, Some};
-
-    ghost extent = { λ r. r.length };
-
-    ghost reach = { λ r. r.length };
-
-    ghost index = { λ r line i. Some (r.length - 1 - i) };
-
-    #[inline(always)]
-    fn at(&self, _line: usize, i: usize) -> Option<usize> {
-        Some(self.length - 1 - i)
-    }
-
-    fn are_lawful(&self) {}
-}
 
 /// The lines along an axis, the last element first. A scalar is answered as it is.
 pub fn reverse<R: Threads + Sync, C: Cut + Sync, G: Gate + Sync>(
@@ -54,6 +31,11 @@ pub fn reverse<R: Threads + Sync, C: Cut + Sync, G: Gate + Sync>(
         return workers.gather_scalar(b);
     }
     let shape = b.shape().copy(alloc)?;
-    let length = shape.axis(k);
-    workers.gather_along(shape, b, k, Reversed { length })
+    let count = shape.count();
+    if count == 0 {
+        return workers.gather(shape, b, Absent { count });
+    }
+    let Steps { length, inner, .. } = steps_along(b.shape(), &shape, k);
+    let map = Map::Reversed(Reversed::new(length, inner));
+    workers.gather_mapped(shape, b, k, map)
 }

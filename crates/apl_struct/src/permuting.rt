@@ -8,15 +8,15 @@ ghost use Rattle.apl_array.specs.Transposition.{AreAxesInto, strides, becoming, 
 ghost use Rattle.apl_pool.specs.declared.kernel.TheConstants.{MOST_PLACES};
 ghost use Rattle.apl_answer.specs.Pointwise.{answer_of, IsAnswerOf};
 ghost use Rattle.apl_answer.specs.Rows.{Answers};
-ghost use Rattle.apl_struct.specs.declared.windows.TheConstants.{MOST_STEP};
+ghost use Rattle.apl_walk.specs.declared.map.TheConstants.{MOST_STEP};
 ghost use Rattle.apl_struct.specs.Moving.{are_all_named, named_axes, transpose_row, transpose_by_row};
-ghost use Rattle.apl_struct.specs.Windows.{extent_of, walked, windows_of};
+ghost use Rattle.apl_walk.specs.Maps.{extent_of, walked};
+ghost use Rattle.apl_walk.specs.Walks.{maps_of};
 
 use crate::arguments::numbers_among;
 use crate::gather::Absent;
 use crate::named::{are_all_named, are_from_origin, axes_named, named_axes};
 use crate::shapes::lawful_shape;
-use crate::windows::{MOST_STEP, Walk, Window};
 use crate::workers::Workers;
 use apl_answer::OpFault;
 use apl_array::{
@@ -24,6 +24,7 @@ use apl_array::{
     transposed_index_has_place,
 };
 use apl_pool::{Cut, Gate, Pool};
+use apl_walk::{MOST_STEP, Map, Walk, Window};
 use std::alloc::{AllocError, Global};
 use std::thread::Threads;
 
@@ -50,18 +51,18 @@ fn transposed_walk(
     shape: &Shape,
     argument: &Shape,
     axes: &[usize],
-) -> Result<Walk, AllocError>
+) -> Result<Walk<'static>, AllocError>
     requires into { AreAxesInto argument.now axes.now shape.now }
     requires some { 0 < count_of shape.now }
     requires argument_some { 0 < count_of argument.now }
-    ensures extent { IfOk result (λ walk. extent_of (windows_of walk) ≡ count_of shape.now) }
-    ensures place { IfOk result (λ walk. (place : ℕ) → walked (windows_of walk) place
+    ensures extent { IfOk result (λ walk. extent_of (maps_of walk) ≡ count_of shape.now) }
+    ensures place { IfOk result (λ walk. (place : ℕ) → walked (maps_of walk) place
         ≡ Some (inner_product (index_at shape.now place) (source_strides (length shape.now) axes.now argument.now))) }
 {
     let mut walk = Walk::new(alloc);
     for j in (0..shape.rank()).rev() {
         let stride = stride_along(argument, axes, j);
-        walk = walk.with(Window::whole(shape.axis(j), stride))?;
+        walk = walk.with(Map::Window(Window::whole(shape.axis(j), stride)))?;
     }
     Ok(walk)
 }

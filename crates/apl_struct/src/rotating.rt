@@ -9,44 +9,19 @@ ghost use Rattle.apl_answer.specs.Pointwise.{answer_of, IsAnswerOf};
 ghost use Rattle.apl_answer.specs.Rows.{Answers};
 ghost use Rattle.apl_struct.specs.Gathering.{along_axis};
 ghost use Rattle.apl_struct.specs.Moving.{rotated_index, rotate_row};
-ghost use Rattle.apl_struct.specs.Rotation.{wrapped, rotation_of};
+ghost use Rattle.apl_struct.specs.Rotation.{rotation_of};
+ghost use Rattle.apl_walk.specs.Steps.{wrapped};
 
-use crate::along::Indexes;
+use crate::along::{Indexes, Steps, steps_along};
 use crate::arguments::{is_without_axis, numbers_among};
+use crate::gather::Absent;
 use crate::workers::Workers;
 use apl_answer::OpFault;
 use apl_array::{Array, Axis};
 use apl_pool::{Cut, Gate, Pool};
+use apl_walk::{Map, Rotated};
 use std::alloc::{AllocError, Global};
 use std::thread::Threads;
-
-/// The last `length - by` indexes first, then the first `by`.
-#[derive(Drop)]
-struct Rotated {
-    length: usize,
-    by: usize,
-    ghost most: { length ≤ MOST_PLACES },
-    ghost below: { by ≤ length },
-}
-
-impl Indexes for Rotated {
-    ghost use Rattle.std.specs.Prelude.{Some};
-    ghost use Rattle.apl_struct.specs.Rotation.{wrapped};
-
-    ghost extent = { λ r. r.length };
-
-    ghost reach = { λ r. r.length };
-
-    ghost index = { λ r line i. Some (wrapped r.length (i + r.by)) };
-
-    #[inline(always)]
-    fn at(&self, _line: usize, i: usize) -> Option<usize> {
-        let j = i + self.by;
-        Some(if j < self.length { j } else { j - self.length })
-    }
-
-    fn are_lawful(&self) {}
-}
 
 /// By how many indexes an axis of this length is rotated, counted from 0.
 fn rotation_within(rotation: i64, length: usize) -> usize
@@ -87,7 +62,7 @@ struct RotatedEach<'a> {
 
 impl Indexes for RotatedEach<'_> {
     ghost use Rattle.std.specs.Prelude.{Some};
-    ghost use Rattle.apl_struct.specs.Rotation.{wrapped};
+    ghost use Rattle.apl_walk.specs.Steps.{wrapped};
 
     ghost extent = { λ r. r.length };
 
@@ -116,9 +91,18 @@ impl<R: Threads + Sync, C: Cut + Sync, G: Gate + Sync> Workers<'_, R, C, G> {
             → IsAnswerOf (answer_of b.now.shape (λ index. Ok (element index)) b.now.kind) result }
     {
         let shape = b.shape().copy(self.alloc)?;
-        let length = shape.axis(k);
+        let count = shape.count();
+        if count == 0 {
+            return self.gather(shape, b, Absent { count });
+        }
+        let Steps { length, inner, .. } = steps_along(b.shape(), &shape, k);
         let by = rotation_within(rotation, length);
-        self.gather_along(shape, b, k, Rotated { length, by })
+        let map = Map::Rotated(Rotated {
+            extent: length,
+            by,
+            stride: inner,
+        });
+        self.gather_mapped(shape, b, k, map)
     }
 
     /// Each line along axis `k` rotated by a number of its own.

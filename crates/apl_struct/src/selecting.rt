@@ -5,7 +5,7 @@ ghost use Rattle.apl_array.specs.declared.shape.TheConstants.{MOST_AXES};
 ghost use Rattle.apl_pool.specs.declared.kernel.TheConstants.{MOST_PLACES};
 ghost use Rattle.apl_array.specs.Shape.{count_of, index_at};
 ghost use Rattle.apl_answer.specs.Pointwise.{answer_of, IsAnswerOf};
-ghost use Rattle.apl_struct.specs.Gathered.{filled_at};
+ghost use Rattle.apl_walk.specs.Gathered.{filled_at};
 ghost use Rattle.apl_struct.specs.Selecting.{choice_count, choice_place, total_count, total_place, IsMore};
 
 use crate::choose::{Choose, Picked, Stretch};

@@ -1,5 +1,5 @@
 //! Stretches of an argument: neighbours there that are neighbours in the result.
-ghost use Rattle.std.specs.Prelude.{◌≡◌, ℕ, ◌+◌, ◌<◌, ◌≤◌, ◌++◌, length, slice_index_or, take, vec_len, vec_capacity};
+ghost use Rattle.std.specs.Prelude.{◌≡◌, ℕ, ◌+◌, ◌<◌, ◌≤◌, length, slice_index_or, take};
 
 /// The elements from `first` on, so many of them, and none where there are not so many.
 #[inline(always)]
@@ -11,20 +11,6 @@ pub(crate) fn stretch_at<T>(elements: &[T], first: usize, count: usize) -> &[T]
         return &elements[..0];
     }
     &elements[first..first + count]
-}
-
-/// Puts elements behind others.
-#[inline(always)]
-pub(crate) fn append_elements<T: Copy>(elements: &[T], values: Vec<T>) -> Vec<T>
-    requires room { vec_len values + length elements.now ≤ vec_capacity values }
-    ensures items { result.items ≡ values.items ++ elements.now }
-    ensures capacity { vec_capacity result ≡ vec_capacity values }
-{
-    let mut all = values;
-    for k in 0..elements.len() {
-        all.push_reserved(elements[k]);
-    }
-    all
 }
 
 /// Writes elements to the front of a room for them.

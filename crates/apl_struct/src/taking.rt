@@ -9,17 +9,18 @@ ghost use Rattle.apl_answer.specs.Pointwise.{answer_of, IsAnswerOf};
 ghost use Rattle.apl_answer.specs.Rows.{Answers, first_failure_or};
 ghost use Rattle.apl_struct.specs.Gathering.{element_or_fill};
 ghost use Rattle.apl_struct.specs.Taking.{with_axes, taking_checks, taken_index, take_source, take_row, drop_row};
-ghost use Rattle.apl_struct.specs.Windows.{step_of, extent_of, walked, windows_of};
+ghost use Rattle.apl_walk.specs.Maps.{step_of, extent_of, walked};
+ghost use Rattle.apl_walk.specs.Walks.{maps_of};
 ghost use Rattle.apl_struct.specs.Shaped.{with_shape, left_number, left_numbers};
 
 use crate::arguments::numbers_among;
 use crate::gather::Absent;
 use crate::shapes::lawful_shape;
-use crate::windows::{Walk, Window};
 use crate::workers::Workers;
 use apl_answer::OpFault;
 use apl_array::{Array, MOST_AXES, Shape, places_match_index_lists};
 use apl_pool::{Cut, Gate, Pool};
+use apl_walk::{Map, Walk, Window};
 use std::alloc::{AllocError, Global};
 use std::thread::Threads;
 
@@ -33,40 +34,39 @@ fn taken_window(number: i64, length: usize, stride: usize) -> Window
     ensures extent { result.extent ≡ nat_abs number }
     ensures step { (i : ℕ) → i < nat_abs number → step_of result i ≡ option_map (λ j. j * stride) (taken_index number length i) }
 {
-    let wanted = number.unsigned_abs() as usize;
-    let extent = wanted as u32;
+    let extent = number.unsigned_abs() as usize;
     if number >= 0 {
         return Window {
             extent,
             from: 0,
-            to: wanted.min(length),
+            to: extent.min(length),
             start: 0,
             stride,
         };
     }
     Window {
         extent,
-        from: wanted.saturating_sub(length),
-        to: wanted,
-        start: length.saturating_sub(wanted),
+        from: extent.saturating_sub(length),
+        to: extent,
+        start: length.saturating_sub(extent),
         stride,
     }
 }
 
 /// The walk over an argument of which so much is taken.
-fn taken_walk(alloc: Global, numbers: &[i64], argument: &Shape) -> Result<Walk, AllocError>
+fn taken_walk(alloc: Global, numbers: &[i64], argument: &Shape) -> Result<Walk<'static>, AllocError>
     requires len { length numbers.now ≡ length argument.now }
     requires lawful { IsShape (map nat_abs numbers.now) }
     requires some { 0 < count_of (map nat_abs numbers.now) }
     requires argument_some { 0 < count_of argument.now }
-    ensures extent { IfOk result (λ walk. extent_of (windows_of walk) ≡ count_of (map nat_abs numbers.now)) }
-    ensures place { IfOk result (λ walk. (place : ℕ) → walked (windows_of walk) place
+    ensures extent { IfOk result (λ walk. extent_of (maps_of walk) ≡ count_of (map nat_abs numbers.now)) }
+    ensures place { IfOk result (λ walk. (place : ℕ) → walked (maps_of walk) place
         ≡ option_map (place_of argument.now) (take_source numbers.now argument.now (index_at (map nat_abs numbers.now) place))) }
 {
     let mut walk = Walk::new(alloc);
     for k in (0..numbers.len()).rev() {
         let window = taken_window(numbers[k], argument.axis(k), argument.inner(k));
-        walk = walk.with(window)?;
+        walk = walk.with(Map::Window(window))?;
     }
     Ok(walk)
 }

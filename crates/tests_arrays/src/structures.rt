@@ -5,6 +5,7 @@ mod large;
 mod products;
 mod refusals;
 mod small;
+mod walks;
 
 use crate::notation::array_of;
 use crate::pieces::Pieces;
@@ -59,6 +60,9 @@ fn small_arrays(rt: HostRuntime) -> Result<(), Fail> {
         (small::FOUND, 21),
         (small::INDEXED, 22),
         (small::FOLDED, 28),
+        (walks::TURNED, 22),
+        (walks::PARTS, 25),
+        (walks::MOVED, 25),
     ];
     check_small(&rt, rt.alloc(), &tables)?;
     one_grade();

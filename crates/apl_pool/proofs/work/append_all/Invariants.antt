@@ -1,11 +1,10 @@
-use Rattle.std.proofs.Common.{◌-◌, ◌<◌, ◌≤◌, vec_capacity}
+use Rattle.std.proofs.Common.{◌-◌, ◌<◌, ◌≤◌}
 use Rattle.apl_pool.specs.Parts.{AreValuesFrom}
 use Rattle.apl_pool.proofs.work.append_all.Given as goal
 
 abbrev pub invariant-loop-piece : goal.invariant-loop-piece
 invariant-loop-piece g l =
     AreValuesFrom (g.K.Kernel.outcome l.kernel) 0 l.piece.from l.values.items
-    × (l.count ≤ vec_capacity l.values)
     × (l.piece.number ≤ l.piece.from)
     × (l.piece.from < l.count → l.piece.from < l.piece.to)
     × (l.piece.from ≤ l.piece.to)

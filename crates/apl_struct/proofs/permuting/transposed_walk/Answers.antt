@@ -3,7 +3,9 @@ use Rattle.std.specs.Prelude.{sum}
 use Rattle.std.proofs.lemmas.List.FromFn.{length-map-range_with_len, get_or-map-range_with_len}
 use Rattle.apl_array.specs.Shape.{count_of}
 use Rattle.apl_array.specs.Transposition.{strides, becoming, source_strides}
-use Rattle.apl_struct.specs.Windows.{step_of, and_step, extent_of, walked, windows_of}
+use Rattle.apl_walk.specs.Steps.{and_step}
+use Rattle.apl_walk.specs.Maps.{step_of, extent_of, walked}
+use Rattle.apl_walk.specs.Walks.{maps_of}
 use Rattle.apl_struct.proofs.Taken.{from_axis, length_before}
 use Rattle.apl_struct.proofs.Permuted.{stride_near, permuted_step}
 use Rattle.apl_struct.proofs.permuting.transposed_walk.Goals as goal
@@ -47,15 +49,15 @@ loop-j-preserved c =
     let shape_is : drop (j - 1) shape ≡ m ∷ drop j shape = from_axis shape j 0 c.loop-j-test.true inside in
     let strides_are : drop (j - 1) all_strides ≡ f (j - 1) ∷ drop j all_strides = from_axis all_strides j 0 c.loop-j-test.true (omega (arith, long)) ∙ ap (λ s. s ∷ drop j all_strides) own in
     let extent : w.extent ≡ m = c.whole.ensures.extent ∙ c.axis.ensures.length in
-    let all : extent_of (windows_of before) ≡ count_of (drop j shape) = c.loop-j.invariant.extent in
+    let all : extent_of (maps_of before) ≡ count_of (drop j shape) = c.loop-j.invariant.extent in
     let Steps : ℕ → ℕ → Type 0 = λ e s. (i : ℕ) → i < e → step_of w i ≡ Some (i * s) in
     let steps : Steps m (f (j - 1)) = subst (Steps m) c.stride_along-stride.ensures.sum (subst (λ e. Steps e c.stride_along-stride.result) c.axis.ensures.length c.whole.ensures.step) in
     record {
       few = omega (arith, c.in_ok-walk.ensures.one, c.loop-j.invariant.few);
-      extent = rw shape_is (c.in_ok-walk.ensures.extent ∙ ap (λ e. e * extent_of (windows_of before)) extent ∙ ap (λ e. m * e) all);
+      extent = rw shape_is (c.in_ok-walk.ensures.extent ∙ ap (λ e. e * extent_of (maps_of before)) extent ∙ ap (λ e. m * e) all);
       place = λ place.
           rw (shape_is, strides_are)
           (c.in_ok-walk.ensures.place place
-          ∙ ap (λ e. and_step (walked (windows_of before) place) (step_of w (place / e % w.extent))) all
-          ∙ permuted_step m (drop j shape) (f (j - 1)) (drop j all_strides) w (walked (windows_of before) place) place extent steps (c.loop-j.invariant.place place));
+          ∙ ap (λ e. and_step (walked (maps_of before) place) (step_of w (place / e % w.extent))) all
+          ∙ permuted_step m (drop j shape) (f (j - 1)) (drop j all_strides) w (walked (maps_of before) place) place extent steps (c.loop-j.invariant.place place));
     }

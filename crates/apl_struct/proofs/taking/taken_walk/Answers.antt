@@ -2,7 +2,9 @@ use Rattle.std.proofs.Common.{◌≡◌, ℕ, ℤ, pos, ◌+◌, ◌-◌, ◌*�
 use Rattle.std.specs.Prelude.{nat_abs, option_map}
 use Rattle.apl_array.specs.Shape.{count_of}
 use Rattle.apl_struct.specs.Taking.{taken_index}
-use Rattle.apl_struct.specs.Windows.{step_of, and_step, extent_of, walked, windows_of}
+use Rattle.apl_walk.specs.Steps.{and_step}
+use Rattle.apl_walk.specs.Maps.{step_of, extent_of, walked}
+use Rattle.apl_walk.specs.Walks.{maps_of}
 use Rattle.apl_struct.proofs.Taken.{from_axis, magnitude_before, length_before, taken_step}
 use Rattle.apl_struct.proofs.taking.taken_walk.Goals as goal
 
@@ -48,18 +50,18 @@ loop-k-preserved c =
     let numbers_are : drop (k - 1) numbers ≡ m ∷ drop k numbers = from_axis numbers k (pos 0) c.loop-k-test.true c.loop-k.auto.k in
     let argument_is : drop (k - 1) argument ≡ n ∷ drop k argument = from_axis argument k 0 c.loop-k-test.true (omega (arith, c.loop-k.auto.k, c.requires.len)) in
     let extent : w.extent ≡ nat_abs m = c.taken_window-window.ensures.extent ∙ ap nat_abs read in
-    let all : extent_of (windows_of before) ≡ count_of (map nat_abs (drop k numbers)) = c.loop-k.invariant.extent in
+    let all : extent_of (maps_of before) ≡ count_of (map nat_abs (drop k numbers)) = c.loop-k.invariant.extent in
     let Steps : ℤ → ℕ → ℕ → Type 0 = λ z l s. (i : ℕ) → i < nat_abs z → step_of w i ≡ option_map (λ j. j * s) (taken_index z l i) in
     let steps : Steps m n (count_of (drop k argument)) =
     subst (Steps m n) inner (subst (λ l. Steps m l c.inner.result) c.axis.ensures.length (subst (λ z. Steps z c.axis.result c.inner.result) read c.taken_window-window.ensures.step)) in
     record {
       few = omega (arith, c.in_ok-walk.ensures.one, c.loop-k.invariant.few);
-      extent = rw numbers_are (c.in_ok-walk.ensures.extent ∙ ap (λ e. e * extent_of (windows_of before)) extent ∙ ap (λ e. nat_abs m * e) all);
+      extent = rw numbers_are (c.in_ok-walk.ensures.extent ∙ ap (λ e. e * extent_of (maps_of before)) extent ∙ ap (λ e. nat_abs m * e) all);
       place = λ place.
           rw (numbers_are, argument_is)
           (c.in_ok-walk.ensures.place place
-          ∙ ap (λ e. and_step (walked (windows_of before) place) (step_of w (place / e % w.extent))) all
-          ∙ taken_step m (drop k numbers) n (drop k argument) w (walked (windows_of before) place) place extent steps (c.loop-k.invariant.place place));
+          ∙ ap (λ e. and_step (walked (maps_of before) place) (step_of w (place / e % w.extent))) all
+          ∙ taken_step m (drop k numbers) n (drop k argument) w (walked (maps_of before) place) place extent steps (c.loop-k.invariant.place place));
     }
 
 pub returns-clause-place : goal.returns-clause-place

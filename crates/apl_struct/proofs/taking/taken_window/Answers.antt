@@ -9,5 +9,5 @@ invariant_of-result-2-clause-start_near c =
 
 pub invariant_of-result-2-clause-end_near : goal.invariant_of-result-2-clause-end_near
 invariant_of-result-2-clause-end_near c =
-    let ends : c.unsigned_abs-wanted.result + c.saturating_sub-2.result ≤ c.args.length + c.saturating_sub.result = omega arith in
+    let ends : c.unsigned_abs-extent.result + c.saturating_sub-2.result ≤ c.args.length + c.saturating_sub.result = omega arith in
     omega (arith, mul-le-mul_right c.args.stride ends, c.requires.near)

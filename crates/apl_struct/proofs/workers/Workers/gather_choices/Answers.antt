@@ -1,5 +1,5 @@
 use Rattle.std.proofs.Common.{◌≡◌, ◌<◌, Some, length, ap, sym, ◌∙◌, arith}
-use Rattle.apl_struct.specs.Gathered.{filled_at}
+use Rattle.apl_walk.specs.Gathered.{filled_at}
 use Rattle.apl_struct.specs.Selecting.{total_count}
 use Rattle.apl_struct.proofs.Choices.{place_of_one, place_of_two}
 use Rattle.apl_struct.proofs.workers.Workers.gather_choices.Goals as goal

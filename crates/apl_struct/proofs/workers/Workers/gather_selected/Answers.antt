@@ -3,7 +3,7 @@ use Rattle.std.specs.Prelude.{option_copied}
 use Rattle.apl_array.specs.Shape.{count_of, index_at}
 use Rattle.apl_array.specs.Array.{element_at}
 use Rattle.apl_struct.specs.Indexing.{Slots, selected_shape, select_source}
-use Rattle.apl_struct.specs.Gathered.{filled_at}
+use Rattle.apl_walk.specs.Gathered.{filled_at}
 use Rattle.apl_struct.specs.Selecting.{total_place, IsSelection}
 use Rattle.apl_struct.proofs.Sources.{place_within, filled_chosen}
 use Rattle.apl_struct.proofs.workers.Workers.gather_selected.Goals as goal

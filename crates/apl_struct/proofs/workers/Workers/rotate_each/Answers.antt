@@ -4,7 +4,8 @@ use Rattle.apl_array.specs.Array.{element_at}
 use Rattle.apl_array.specs.Shape.{place_of}
 use Rattle.apl_answer.specs.Pointwise.{answer_of, IsAnswerOf}
 use Rattle.apl_struct.specs.Moving.{rotated_index}
-use Rattle.apl_struct.specs.Rotation.{wrapped, rotation_of}
+use Rattle.apl_struct.specs.Rotation.{rotation_of}
+use Rattle.apl_walk.specs.Steps.{wrapped}
 use Rattle.apl_struct.proofs.Wrapping.{rotated_by, rotation_at_line, rotation_at_line_most}
 use Rattle.apl_struct.proofs.workers.Workers.rotate_each.Goals as goal
 

@@ -1,7 +1,7 @@
 use Rattle.std.proofs.Common.{◌≡◌, List, ℕ, ap, sym, subst, ◌∙◌, arith}
 use Rattle.std.specs.Prelude.{option_map}
 use Rattle.apl_array.specs.Shape.{IsIndexOf, count_of, place_of, index_at}
-use Rattle.apl_struct.specs.Gathered.{filled_at}
+use Rattle.apl_walk.specs.Gathered.{filled_at}
 use Rattle.apl_struct.specs.Gathering.{element_or_fill}
 use Rattle.apl_struct.specs.Shaped.{with_shape}
 use Rattle.apl_struct.specs.Taking.{take_source}

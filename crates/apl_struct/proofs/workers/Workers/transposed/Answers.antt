@@ -1,7 +1,7 @@
 use Rattle.std.proofs.Common.{◌<◌, length, Some, ap, sym, ◌∙◌, arith}
 use Rattle.apl_array.specs.Shape.{count_of, index_at}
 use Rattle.apl_array.specs.Transposition.{source_index, source_strides, inner_product}
-use Rattle.apl_struct.specs.Gathered.{filled_at}
+use Rattle.apl_walk.specs.Gathered.{filled_at}
 use Rattle.apl_struct.proofs.Filled.{filled_within}
 use Rattle.apl_struct.proofs.Permuted.{axes_below}
 use Rattle.apl_struct.proofs.workers.Workers.transposed.Goals as goal

@@ -1,0 +1,38 @@
+-- The axes of a result. No contract of a public function cites this file.
+use Rattle.std.specs.Prelude.{ℕ, ◌*◌, ◌/◌, ◌%◌, ◌-◌, ◌+◌, List, [], ◌∷◌, length, Option, Some}
+use Rattle.apl_walk.specs.declared.window.Window.{Window as WindowMap}
+use Rattle.apl_walk.specs.declared.maps.Map.{Map}
+use Rattle.apl_walk.specs.declared.maps.Map.TheVariants.{Window, Reversed, Rotated, Listed}
+use Rattle.apl_walk.specs.Steps.{and_step, window_step, reversed_step, rotated_step, listed_step}
+
+-- the step of a window
+abbrev pub step_of : WindowMap → ℕ → Option ℕ
+step_of w i = window_step w.from w.to w.start w.stride i
+
+abbrev pub map_extent : Map → ℕ
+map_extent (Window w) = w.extent
+map_extent (Reversed r) = r.extent
+map_extent (Rotated r) = r.extent
+map_extent (Listed l) = length l.numbers.now
+
+abbrev pub map_reach : Map → ℕ
+map_reach (Window w) = (w.to + w.start - (w.from + 1)) * w.stride
+map_reach (Reversed r) = (r.extent - 1) * r.stride
+map_reach (Rotated r) = (r.extent - 1) * r.stride
+map_reach (Listed l) = (l.axis_length - 1) * l.stride
+
+abbrev pub map_step : Map → ℕ → Option ℕ
+map_step (Window w) i = window_step w.from w.to w.start w.stride i
+map_step (Reversed r) i = reversed_step r.extent r.stride i
+map_step (Rotated r) i = rotated_step r.extent r.by r.stride i
+map_step (Listed l) i = listed_step l.first l.stride l.numbers.now i
+
+-- how many index lists all the axes have
+abbrev pub extent_of : List Map → ℕ
+extent_of [] = 1
+extent_of (m ∷ ms) = map_extent m * extent_of ms
+
+-- what the index list at a place adds, the last axis first
+abbrev pub walked : List Map → ℕ → Option ℕ
+walked [] place = Some 0
+walked (m ∷ ms) place = and_step (map_step m (place % map_extent m)) (walked ms (place / map_extent m))

@@ -1,0 +1,112 @@
+//! An axis of any kind, and what several axes add.
+ghost use Rattle.std.specs.Prelude.{◌≡◌, ℕ, ◌+◌, ◌*◌, ◌<◌, ◌≤◌, IfSome, length};
+ghost use Rattle.apl_pool.specs.declared.kernel.TheConstants.{MOST_PLACES};
+ghost use Rattle.apl_walk.specs.declared.map.TheConstants.{MOST_STEP};
+ghost use Rattle.apl_walk.specs.Maps.{extent_of, walked};
+ghost use Rattle.apl_walk.specs.declared.maps.TheConstants.{MOST_MAPS};
+
+use crate::listed::Listed;
+use crate::map::AxisMap;
+use crate::reversed::Reversed;
+use crate::rotated::Rotated;
+use crate::window::Window;
+
+/// An axis of any kind.
+#[derive(Clone, Copy)]
+pub enum Map<'a> {
+    Window(Window),
+    Reversed(Reversed),
+    Rotated(Rotated),
+    Listed(Listed<'a>),
+}
+
+impl AxisMap for Map<'_> {
+    ghost use Rattle.apl_walk.specs.Maps.{map_extent, map_reach, map_step};
+
+    ghost extent = { map_extent };
+
+    ghost reach = { map_reach };
+
+    ghost step = { map_step };
+
+    #[inline(always)]
+    fn extent(&self) -> usize {
+        match self {
+            Map::Window(map) => map.extent(),
+            Map::Reversed(map) => map.extent(),
+            Map::Rotated(map) => map.extent(),
+            Map::Listed(map) => map.extent(),
+        }
+    }
+
+    fn reach(&self) -> usize {
+        match self {
+            Map::Window(map) => map.reach(),
+            Map::Reversed(map) => map.reach(),
+            Map::Rotated(map) => map.reach(),
+            Map::Listed(map) => map.reach(),
+        }
+    }
+
+    #[inline(always)]
+    fn step(&self, i: usize) -> Option<usize> {
+        match self {
+            Map::Window(map) => map.step(i),
+            Map::Reversed(map) => map.step(i),
+            Map::Rotated(map) => map.step(i),
+            Map::Listed(map) => map.step(i),
+        }
+    }
+
+    fn write<T: Copy>(
+        &self,
+        elements: &[T],
+        base: usize,
+        from: usize,
+        count: usize,
+        fill: T,
+        room: &mut [T],
+    ) {
+        match self {
+            Map::Window(map) => map.write(elements, base, from, count, fill, room),
+            Map::Reversed(map) => map.write(elements, base, from, count, fill, room),
+            Map::Rotated(map) => map.write(elements, base, from, count, fill, room),
+            Map::Listed(map) => map.write(elements, base, from, count, fill, room),
+        }
+    }
+}
+
+/// The most axes of a walk.
+pub const MOST_MAPS: usize = 16;
+
+/// What the index list at a place of some axes adds, the last axis first.
+#[inline(always)]
+pub(crate) fn start_at(maps: &[Map], place: usize) -> Option<usize>
+    requires few { length maps.now ≤ MOST_MAPS }
+    requires within { place < extent_of maps.now }
+    requires most { place ≤ MOST_PLACES }
+    ensures value { result ≡ walked maps.now place }
+    ensures most { IfSome result (λ start. start ≤ MOST_MAPS * MOST_STEP) }
+{
+    match maps {
+        [] => Some(0),
+        [only] => only.step(place),
+        maps => start_of_several(maps, place),
+    }
+}
+
+fn start_of_several(maps: &[Map], place: usize) -> Option<usize>
+    requires few { length maps.now ≤ MOST_MAPS }
+    requires most { place ≤ MOST_PLACES }
+    ensures value { result ≡ walked maps.now place }
+    ensures most { IfSome result (λ start. start ≤ MOST_MAPS * MOST_STEP) }
+{
+    let mut rest = place as u32;
+    let mut total = 0;
+    for map in maps {
+        let extent = map.extent() as u32;
+        total += map.step((rest % extent) as usize)?;
+        rest /= extent;
+    }
+    Some(total)
+}

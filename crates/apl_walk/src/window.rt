@@ -1,0 +1,119 @@
+//! Axes whose indexes follow one another in the argument as well.
+ghost use Rattle.std.specs.Prelude.{◌≡◌, ℕ, ◌+◌, ◌-◌, ◌*◌, ◌<◌, ◌≤◌, Some, length};
+ghost use Rattle.apl_pool.specs.declared.kernel.TheConstants.{MOST_PLACES};
+ghost use Rattle.apl_walk.specs.declared.map.TheConstants.{MOST_STEP};
+ghost use Rattle.apl_walk.specs.Gathered.{value_or};
+ghost use Rattle.apl_walk.specs.Steps.{and_step, window_step, BeginsWith};
+
+use crate::fronts::{write_same, write_stretch};
+use crate::map::{AxisMap, MOST_STEP};
+
+/// Index i, from `from` up to before `to`, adds i + start - from strides. At the others there is no
+/// place.
+#[derive(Clone, Copy)]
+pub struct Window {
+    pub extent: usize,
+    pub from: usize,
+    pub to: usize,
+    pub start: usize,
+    pub stride: usize,
+    ghost extent_some: { 0 < extent },
+    ghost extent_most: { extent ≤ MOST_PLACES },
+    ghost from_most: { from ≤ extent },
+    ghost to_most: { to ≤ extent },
+    ghost start_most: { start ≤ MOST_STEP },
+    ghost start_near: { start * stride ≤ MOST_STEP },
+    ghost end_near: { (to + start) * stride ≤ from * stride + MOST_STEP },
+}
+
+impl Window {
+    /// What an index adds that has a place.
+    #[inline(always)]
+    fn step_within(&self, i: usize) -> usize
+        requires from { self.now.from ≤ i }
+        requires to { i < self.now.to }
+        ensures value { result ≡ (i + self.now.start - self.now.from) * self.now.stride }
+        ensures reach { result ≤ (self.now.to + self.now.start - (self.now.from + 1)) * self.now.stride }
+        ensures most { result ≤ MOST_STEP }
+    {
+        (i + self.start - self.from) * self.stride
+    }
+
+    /// Writes the elements of indexes that each have a place.
+    #[inline(always)]
+    fn write_within<T: Copy>(
+        &self,
+        elements: &[T],
+        base: usize,
+        from: usize,
+        count: usize,
+        fill: T,
+        room: &mut [T],
+    )
+        requires from { self.now.from ≤ from }
+        requires to { from + count ≤ self.now.to }
+        requires near { base + (self.now.to + self.now.start - (self.now.from + 1)) * self.now.stride < length elements.now }
+        requires room { count ≤ length room.old }
+        ensures values { BeginsWith (λ k. value_or elements.now fill (and_step (window_step self.now.from self.now.to self.now.start self.now.stride (from + k)) (Some base))) count room.new }
+        ensures len { length room.new ≡ length room.old }
+    {
+        if count == 0 {
+            return;
+        }
+        let first = base + self.step_within(from);
+        write_stretch(elements, first, self.stride, count, room);
+    }
+}
+
+impl AxisMap for Window {
+    ghost extent = { λ w. w.extent };
+
+    ghost reach = { λ w. (w.to + w.start - (w.from + 1)) * w.stride };
+
+    ghost step = { λ w i. window_step w.from w.to w.start w.stride i };
+
+    #[inline(always)]
+    fn extent(&self) -> usize {
+        self.extent
+    }
+
+    fn reach(&self) -> usize {
+        (self.to + self.start).saturating_sub(self.from + 1) * self.stride
+    }
+
+    #[inline(always)]
+    fn step(&self, i: usize) -> Option<usize> {
+        if self.from <= i && i < self.to {
+            Some(self.step_within(i))
+        } else {
+            None
+        }
+    }
+
+    #[inline(always)]
+    fn write<T: Copy>(
+        &self,
+        elements: &[T],
+        base: usize,
+        from: usize,
+        count: usize,
+        fill: T,
+        room: &mut [T],
+    ) {
+        let to = from + count;
+        let first = self.from.max(from).min(to);
+        let end = self.to.min(to).max(first);
+        write_same(fill, first - from, room);
+        if first < end {
+            self.write_within(
+                elements,
+                base,
+                first,
+                end - first,
+                fill,
+                &mut room[first - from..],
+            );
+        }
+        write_same(fill, to - end, &mut room[end - from..]);
+    }
+}
