@@ -35,8 +35,8 @@ least_place_decides : IsStopOf faulty_at 6 (FaultAt 2 Domain)
 least_place_decides = record { below = lit< tt; faulty = refl; earlier = earlier }
   where
     earlier : (place : ℕ) → place < 2 → IsOk (faulty_at place)
-    earlier zero below = tt
-    earlier (suc zero) below = tt
+    earlier zero below = refl
+    earlier (suc zero) below = refl
     earlier (suc (suc place)) below = absurd (omega arith)
 
 -- ---- folds: the last item is the first that meets what comes in
