@@ -5,3 +5,4 @@ mod LeastPlaces
 mod Preserved
 mod Splits
 mod Totals
+mod Examples

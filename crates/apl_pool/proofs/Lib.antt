@@ -4,3 +4,4 @@ pub mod Summaries
 pub mod FoldedParts
 pub mod Completes
 pub mod RowParts
+mod Examples

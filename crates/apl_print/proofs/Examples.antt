@@ -1,8 +1,15 @@
--- Worked examples of the definitions of printed values.
-use Rattle.std.proofs.Common.{◌≡◌, ℕ, List, [], ◌∷◌, ◌++◌, map, codes, refl, lit≤, lit<}
+-- Worked examples of printed values, of reports and of replies.
+use Rattle.std.proofs.Common.{◌≡◌, ℕ, negsuc, List, [], ◌∷◌, ◌++◌, Some, None, map, codes, refl, lit≤, lit<}
+use Rattle.std.specs.Prelude.{encode_utf8}
+use Rattle.std.specs.Fmt.{digits}
+use Rattle.apl_array.specs.declared.array.Elem.TheVariants.{Int, Chr}
+use Rattle.apl_print.specs.declared.reports.Report.TheVariants.{Syntax, Domain, WsFull}
+use Rattle.apl_print.specs.declared.replies.Reply.TheVariants.{Was, Clear, Incorrect}
 use Rattle.apl_print.specs.Row.{IsRow}
-use Rattle.apl_print.specs.Shown.{rows_of, column_width, aligned, plane_starts}
-use Rattle.apl_print.specs.Text.{high_minus}
+use Rattle.apl_print.specs.Shown.{field_of, padded, rows_of, column_width, aligned, plane_starts}
+use Rattle.apl_print.specs.Reported.{report_text}
+use Rattle.apl_print.specs.Replied.{reply_text}
+use Rattle.apl_print.specs.Text.{high_minus, caret}
 
 one_to_thirteen : List (List ℕ)
 one_to_thirteen = codes "1" ∷ codes "2" ∷ codes "3" ∷ codes "4" ∷ codes "5" ∷ codes "6" ∷ codes "7" ∷ codes "8" ∷ codes "9" ∷ codes "10" ∷ codes "11" ∷ codes "12" ∷ codes "13" ∷ []
@@ -36,3 +43,42 @@ one_axis = refl
 -- the rows of a matrix have no empty lines between them
 no_axis : plane_starts (2 ∷ 2 ∷ []) 1 ≡ 0
 no_axis = refl
+
+-- ---- reports and replies
+
+-- 3+
+syntax_report : report_text Syntax (codes "3+") (Some 1) ≡ codes "SYNTAX ERROR\n      3+\n       " ++ encode_utf8 caret ++ codes "\n"
+unfolding lib.Utf8.encode
+syntax_report = refl
+
+-- 7÷2 in bytes, the caret below the symbol
+domain_report : report_text Domain (codes "7" ++ 0xC3 ∷ 0xB7 ∷ codes "2") (Some 1)
+    ≡ codes "DOMAIN ERROR\n      7" ++ 0xC3 ∷ 0xB7 ∷ codes "2\n       " ++ 0xE2 ∷ 0x88 ∷ 0xA7 ∷ codes "\n"
+unfolding lib.Utf8.encode
+domain_report = refl
+
+-- lack of memory has no caret
+memory_report : report_text WsFull (codes "A") None ≡ codes "WS FULL\n      A\n"
+memory_report = refl
+
+width_was : reply_text (Was 120) ≡ codes "WAS 120\n"
+unfolding digits
+width_was = refl
+
+cleared : reply_text Clear ≡ codes "CLEAR WS\n"
+cleared = refl
+
+incorrect : reply_text Incorrect ≡ codes "INCORRECT COMMAND\n"
+incorrect = refl
+
+-- ---- fields
+
+minus_twenty : field_of (Int (negsuc 19)) ≡ high_minus ∷ codes "20"
+unfolding digits
+minus_twenty = refl
+
+character_as_it_is : field_of (Chr 39) ≡ codes "'"
+character_as_it_is = refl
+
+padded_on_the_left : padded 4 (codes "12") ≡ codes "  12"
+padded_on_the_left = refl

@@ -6,3 +6,4 @@ pub mod Sources
 pub mod Places
 pub mod InRange
 pub mod WithinLimits
+mod Examples

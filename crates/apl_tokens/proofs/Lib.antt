@@ -11,3 +11,4 @@ pub mod Unique
 pub mod Total
 pub mod FrontTotal
 pub mod WithinLimits
+mod Examples

@@ -1,0 +1,5 @@
+-- Worked examples.
+mod Monadic
+mod Dyadic
+mod Identities
+mod Extension
