@@ -23,8 +23,8 @@ class Table(unittest.TestCase):
         is_missing = "is missing: 'apt-get install" in run.stderr
         self.assertEqual(run.returncode, 3 if is_missing else 0, run.stderr)
         heading, *rows = run.stdout.split("\n\n")[1].splitlines()
-        self.assertIn("aplcalc, 1", heading)
-        self.assertIn("aplcalc, 4", heading)
+        self.assertIn("aplcalc, 1 worker ", heading)
+        self.assertIn("aplcalc, 4 workers", heading)
         self.assertEqual(len(rows), ROWS)
 
     def test_rows_by_name(self):
@@ -67,4 +67,4 @@ class Words(unittest.TestCase):
     def test_program_that_is_no_calculator(self):
         run = asked("--size", "100", "/bin/true", "A+B")
         self.assertEqual(run.returncode, 1)
-        self.assertIn("peers: aplcalc, 1 ended", run.stderr)
+        self.assertIn("peers: aplcalc, 1 worker ended", run.stderr)
