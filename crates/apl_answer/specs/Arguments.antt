@@ -17,9 +17,11 @@ rank_of a = length a.shape
 abbrev pub size_of : ArrayValue → ℕ
 size_of a = count_of a.shape
 
+-- the array is not empty
 abbrev pub has_elements : ArrayValue → Bool
 has_elements a = not (size_of a == 0)
 
+-- an array of this shape has one element
 abbrev pub has_one_element : List ℕ → Bool
 has_one_element shape = count_of shape == 1
 
@@ -27,6 +29,7 @@ has_one_element shape = count_of shape == 1
 abbrev pub is_same_shape : List ℕ → List ℕ → Bool
 is_same_shape = pointwise nat_eq
 
+-- the array has no axis
 abbrev pub is_scalar : ArrayValue → Bool
 is_scalar a = rank_of a == 0
 
@@ -34,10 +37,12 @@ is_scalar a = rank_of a == 0
 abbrev pub is_list : ArrayValue → Bool
 is_list a = nat_le (rank_of a) 1
 
+-- the kind is that of numbers
 abbrev pub is_number_kind : Kind → Bool
 is_number_kind Number = true
 is_number_kind Character = false
 
+-- both kinds are the same
 abbrev pub is_same_kind : Kind → Kind → Bool
 is_same_kind Number kind = is_number_kind kind
 is_same_kind Character kind = not (is_number_kind kind)
@@ -51,6 +56,7 @@ abbrev pub number_of : Elem → ℤ
 number_of (Int n) = n
 number_of (Chr c) = pos 0
 
+-- the numbers of an array, in row order
 abbrev pub numbers_of : ArrayValue → List ℤ
 numbers_of a = map number_of a.ravel
 

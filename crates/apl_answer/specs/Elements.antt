@@ -16,6 +16,6 @@ module _ {T : Type 0} (elem_of : T → Elem) where
   element_outcome (Ok value) = Ok (elem_of value)
   element_outcome (Err fault) = Err fault
 
-  -- at each place of a shape there is what there is at its index list
+  -- the outcome at each place of a shape is that at its index list
   abbrev pub HaveOutcomes : (ℕ → Result T Fault) → List ℕ → (List ℕ → Result Elem Fault) → Type 0
   HaveOutcomes at_place shape outcome = (place : ℕ) → place < count_of shape → element_outcome (at_place place) ≡ outcome (index_at shape place)

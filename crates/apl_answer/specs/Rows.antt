@@ -11,7 +11,7 @@ use Rattle.apl_answer.specs.Pointwise.{answer_of, IsAnswerOf}
 abbrev pub Check : Type 0
 Check = Bool × OpFault
 
--- the checks in order, and the shape, the kind and what there is at each index list where none fails
+-- the checks in order, and the shape, the kind and the outcome at each index list where none fails
 pub record Row : Type 0 where
   pub checks : List Check
   pub shape : List ℕ
@@ -32,6 +32,7 @@ abbrev pub first_failure_or : List Check → Result ArrayValue OpFault → Resul
 first_failure_or [] answer = answer
 first_failure_or (check ∷ checks) answer = if check.0 then first_failure_or checks answer else Err check.1
 
+-- the first check that fails, or else the answer of the row's outcomes
 abbrev pub result_of : Row → Result ArrayValue OpFault
 result_of row = first_failure_or row.checks (answer_of row.shape row.outcome row.kind)
 

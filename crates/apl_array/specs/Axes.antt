@@ -24,12 +24,13 @@ abbrev pub is_below : ℕ → ℤ → Bool
 is_below n (pos place) = nat_lt place n
 is_below n (negsuc place) = false
 
--- the axis exists. The first and the last always stand for an axis or, where there is none, for the whole
+-- the axis exists. The first and the last always do: a scalar has them, as axis 0
 abbrev pub has_axis : Axis → ℕ → Bool
 has_axis First rank = true
 has_axis Last rank = true
 has_axis (At number origin) rank = is_below rank (from_origin origin number)
 
+-- which axis it is, counted from 0. The first and the last of a scalar are 0
 abbrev pub axis_of : Axis → ℕ → ℕ
 axis_of First rank = 0
 axis_of Last rank = rank - 1

@@ -4,9 +4,11 @@ use Rattle.apl_array.specs.declared.array.Elem.{Elem}
 use Rattle.apl_array.specs.declared.array.Elem.TheVariants.{Int, Chr}
 use Rattle.apl_array.specs.Array.{ArrayValue}
 
+-- -2^63
 abbrev pub least_number : ℤ
 least_number = neg_ℤ (pos (2 ^ 63))
 
+-- 2^63 - 1
 abbrev pub greatest_number : ℤ
 greatest_number = pos (2 ^ 63 - 1)
 

@@ -3,7 +3,7 @@ use Rattle.std.specs.Prelude.{◌≡◌, ℕ, ◌+◌, ◌*◌, ◌<◌, ◌≤�
 use Rattle.std.specs.List.{range_with_len}
 use Rattle.apl_array.specs.Shape.{count_of}
 
--- how far apart neighbours along each axis stand in row order: the product of the lengths to the right
+-- how far apart neighbours along each axis are in row order: the product of the lengths to the right
 abbrev pub strides : List ℕ → List ℕ
 strides [] = []
 strides (n ∷ ns) = count_of ns ∷ strides ns
@@ -18,7 +18,7 @@ inner_product (x ∷ xs) (y ∷ ys) = x * y + inner_product xs ys
 abbrev pub source_index : List ℕ → List ℕ → List ℕ
 source_index axes index = map (slice_index index) axes
 
--- what there is, of the source axes that become this axis
+-- of a list with an item for each source axis, the items of those that become this axis
 abbrev pub becoming : ℕ → List ℕ → List ℕ → List ℕ
 becoming axis [] items = []
 becoming axis (a ∷ axes) [] = []

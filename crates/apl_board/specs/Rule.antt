@@ -8,6 +8,7 @@ use Rattle.apl_board.specs.declared.view.Extent.{Extent}
 use Rattle.apl_board.specs.declared.view.TheConstants.{NEXT, LEAST, NOWHERE, MOST_SHARES}
 use Rattle.apl_board.specs.View.{times, once_below, blank}
 
+-- two words, no slot, and the views of all seats
 abbrev pub BoardState : Type 0
 BoardState = State (Unit {0}) View
 
@@ -24,13 +25,15 @@ abbrev pub total : (View → ℕ) → List View → ℕ
 total f [] = 0
 total f (v ∷ vs) = f v + total f vs
 
--- how often x was given, reported and seen by all seats together
+-- how often x was given by all seats together
 abbrev pub given_in : ℕ → List View → ℕ
 given_in x views = total (λ v. times x v.given) views
 
+-- how often x was reported by all seats together
 abbrev pub reported_in : ℕ → List View → ℕ
 reported_in x views = total (λ v. times x v.reported) views
 
+-- how often x was seen by all seats together
 abbrev pub seen_in : ℕ → List View → ℕ
 seen_in x views = total (λ v. times x v.seen) views
 
@@ -62,6 +65,7 @@ pub record PlacesAreLawful (least : ℕ) (views : List View) : Type 0 where
   -- what a seat saw was reported
   pub seen : (x : ℕ) → 0 < seen_in x views → 0 < reported_in x views
 
+-- the rule: of a board's numbers and of its places
 pub record IsLawfulBoard (extent : Extent) (s : BoardState) : Type 0 where
   pub small : (extent.pieces < 2 ^ 32) × (extent.seats ≤ MOST_SHARES)
   pub two : length s.words ≡ 2

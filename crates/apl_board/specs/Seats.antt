@@ -8,9 +8,11 @@ use Rattle.apl_board.specs.declared.view.View.{View}
 abbrev pub view : BoardSeat → View
 view s = s.seat.me.0
 
+-- how many pieces the board was made with
 abbrev pub pieces_of : Board → ℕ
 pieces_of b = b.pieces
 
+-- how many shares the board was made with
 abbrev pub seats_of : Board → ℕ
 seats_of b = b.seats
 

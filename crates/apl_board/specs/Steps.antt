@@ -15,6 +15,7 @@ TellsClaim step old found new = (new.1 ≡ old.1)
     × (found < old.0.pieces → (new.0 ≡ with_given old.0 found) × All (λ x. x < found) old.0.given)
     × (old.0.pieces ≤ found → new.0 ≡ with_told old.0)
 
+-- the place was reported
 abbrev pub TellsReport : Step (Unit {0}) → SeatState → ℕ → SeatState → Type 0
 TellsReport step old found new = (new.1 ≡ old.1) × (new.0 ≡ with_reported old.0 step.first)
 
@@ -26,5 +27,6 @@ TellsLook step old found new = (new.1 ≡ old.1)
     × (found < NOWHERE → new.0 ≡ with_seen old.0 found)
     × (NOWHERE ≤ found → (new.0 ≡ old.0) × (found ≡ NOWHERE))
 
+-- no seat has more than all shares
 abbrev pub TellsShareBound : Step (Unit {0}) → SeatState → ℕ → SeatState → Type 0
 TellsShareBound step old found new = old.0.share ≤ MOST_SHARES

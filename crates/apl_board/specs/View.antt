@@ -3,7 +3,7 @@ use Rattle.std.specs.Prelude.{◌≡◌, ℕ, ◌+◌, ◌-◌, ◌==◌, ◌≤
 use Rattle.apl_board.specs.declared.view.View.{View}
 use Rattle.apl_board.specs.declared.view.Extent.{Extent}
 
--- how often x stands in a list
+-- how often x is in a list
 abbrev pub times : ℕ → List ℕ → ℕ
 times x [] = 0
 times x (y ∷ ys) = cond (y == x) 1 0 + times x ys
@@ -12,6 +12,7 @@ times x (y ∷ ys) = cond (y == x) 1 0 + times x ys
 abbrev pub once_below : ℕ → ℕ → ℕ
 once_below x n = cond (nat_lt x n) 1 0
 
+-- a board of this many pieces and shares
 abbrev pub extent_of : ℕ → ℕ → Extent
 extent_of pieces seats = record { pieces = pieces; seats = seats }
 
@@ -28,12 +29,15 @@ blank pieces seats share = record {
   past = 0;
 }
 
+-- one more number was given to the seat
 abbrev pub with_given : View → ℕ → View
 with_given v number = record v { given = v.given ++ number ∷ [] }
 
+-- the seat reported one more place
 abbrev pub with_reported : View → ℕ → View
 with_reported v place = record v { reported = v.reported ++ place ∷ [] }
 
+-- the seat saw one more least place
 abbrev pub with_seen : View → ℕ → View
 with_seen v place = record v { seen = v.seen ++ place ∷ [] }
 

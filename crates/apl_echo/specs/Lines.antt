@@ -11,10 +11,11 @@ use Rattle.apl_tokens.specs.Lexis.{constant_shape}
 use Rattle.apl_grammar.specs.Tree.{value, constant}
 use Rattle.apl_syntax.specs.Reading.{statement, blank, IsReading}
 
--- the array of these numbers, and of these characters: a scalar of one, a vector of another number of them
+-- the array of these numbers: a scalar of one, a vector of another number of them
 abbrev pub number_value : List ℤ → ArrayValue
 number_value numbers = number_array (constant_shape numbers) numbers
 
+-- the array of these characters: a scalar of one, a vector of another number of them
 abbrev pub text_value : List ℕ → ArrayValue
 text_value characters = character_array (constant_shape characters) characters
 
@@ -22,9 +23,11 @@ text_value characters = character_array (constant_shape characters) characters
 abbrev pub number_line : List ℤ → List ℕ
 number_line numbers = joined (gap_of Number) (map numeral_of numbers)
 
+-- another character than the line feed
 abbrev pub is_no_line_feed : ℕ → Bool
 is_no_line_feed c = not (c == line_feed)
 
+-- another character than the quote
 abbrev pub is_no_quote : ℕ → Bool
 is_no_quote c = not (is_quote c)
 
@@ -37,5 +40,6 @@ pub record IsPrintedLine (a : ArrayValue) (width : ℕ) (line : List ℕ) : Type
 abbrev pub ReadsAs : List ℕ → ArrayValue → Type 0
 ReadsAs line a = IsReading (encode_utf8_all line) (statement (value (constant 0 a)))
 
+-- the line has no token
 abbrev pub ReadsAsBlank : List ℕ → Type 0
 ReadsAsBlank line = IsReading (encode_utf8_all line) blank

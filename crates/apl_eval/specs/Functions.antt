@@ -48,6 +48,7 @@ error_of fault.Domain = error.Domain
 error_of fault.Limit = error.Limit
 error_of fault.Memory = error.Limit
 
+-- the result or the error that an answer is
 abbrev pub result_of : (answer : Result ArrayValue OpFault) → Result ArrayValue EvalError
 result_of (Ok array) = Ok array
 result_of (Err fault) = Err (error_of fault)
@@ -58,7 +59,7 @@ result_by row = result_of (rows.result_of row)
 
 -- ---- axes
 
--- the axis that a function works along where no axis argument stands
+-- the axis that a function works along where there is no axis argument
 abbrev pub default_axis : Glyph → Axis
 default_axis CircleBar = First
 default_axis SlashBar = First
@@ -82,6 +83,7 @@ monadic_along CircleStile axis b = result_by (reverse_row b axis)
 monadic_along CircleBar axis b = result_by (reverse_row b axis)
 monadic_along _ axis b = Err error.Syntax
 
+-- by a symbol, without an axis
 abbrev pub monadic_plain : Origin → Glyph → (right : ArrayValue) → Result ArrayValue EvalError
 monadic_plain origin (Scalar f) b = monadic_scalar f b
 monadic_plain origin Rho b = result_by (shape_of_row b)
@@ -125,9 +127,11 @@ monadic_result origin _ axis right = Err error.Syntax
 
 -- ---- functions of two arguments
 
+-- a scalar function; where it isn't a function of two arguments it is Syntax
 abbrev pub dyadic_scalar : ScalarFunction → (left right : ArrayValue) → Result ArrayValue EvalError
 dyadic_scalar f left right = if has_dyadic f then result_of (dyadic_answer f left right) else Err error.Syntax
 
+-- along an axis
 abbrev pub dyadic_along : Glyph → Axis → (left right : ArrayValue) → Result ArrayValue EvalError
 dyadic_along Comma axis a b = result_by (catenate_row a b axis)
 dyadic_along CircleStile axis a b = result_by (rotate_row a b axis)
@@ -138,6 +142,7 @@ dyadic_along Backslash axis a b = result_by (expand_row a b axis)
 dyadic_along BackslashBar axis a b = result_by (expand_row a b axis)
 dyadic_along _ axis a b = Err error.Syntax
 
+-- by a symbol, without an axis
 abbrev pub dyadic_plain : Origin → Glyph → (left right : ArrayValue) → Result ArrayValue EvalError
 dyadic_plain origin (Scalar f) a b = dyadic_scalar f a b
 dyadic_plain origin Rho a b = result_by (reshape_row a b)
@@ -155,6 +160,7 @@ abbrev pub outer_by : Option ScalarFunction → (left right : ArrayValue) → Re
 outer_by (Some f) a b = result_by (outer_row f a b)
 outer_by None a b = Err error.Syntax
 
+-- an inner product
 abbrev pub inner_by : Option ScalarFunction → Option ScalarFunction → (left right : ArrayValue) → Result ArrayValue EvalError
 inner_by (Some f) (Some g) a b = result_by (inner_row f g a b)
 inner_by _ _ a b = Err error.Syntax

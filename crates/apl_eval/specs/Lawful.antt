@@ -12,7 +12,7 @@ pub record IsLawful (w : WorkspaceValue) : Type 0 where
   pub least_width : least ≤ w.width
   pub greatest_width : w.width ≤ most
 
--- the workspace behind a value or an error is lawful, and the value has a property
+-- the workspace after a value or an error is lawful, and the value has a property
 abbrev pub LeavesLawful : {V : Type 0} → (V → Type 0) → Outcome V → Type 0
 LeavesLawful P (done v w) = P v × IsLawful w
 LeavesLawful P (failed error column w) = IsLawful w

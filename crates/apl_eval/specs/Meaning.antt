@@ -8,7 +8,7 @@ use Rattle.apl_eval.specs.declared.error.EvalError.TheVariants.{Value}
 use Rattle.apl_eval.specs.Workspace.{WorkspaceValue, value_of, assigned}
 use Rattle.apl_eval.specs.Functions.{caret_column, monadic_result, dyadic_result, index_result, assign_at_result}
 
--- a value and the workspace behind it, or an error at a column and the workspace that is kept
+-- a value and the workspace after it, or an error at a column and the workspace that is kept
 pub data Outcome (V : Type 0) : Type 0 where
   done : V → WorkspaceValue → Outcome V
   failed : EvalError → (column : ℕ) → WorkspaceValue → Outcome V
@@ -36,15 +36,19 @@ abbrev pub name_result : Option ArrayValue → Result ArrayValue EvalError
 name_result (Some v) = Ok v
 name_result None = Err Value
 
+-- a name's value, or the error at the name
 abbrev pub name_outcome : (column : ℕ) → (text : List ℕ) → Evaluation ArrayValue
 name_outcome column text w = outcome_at column (name_result (value_of text w)) w
 
+-- a function's result of one argument, or the error at its column
 abbrev pub monadic_outcome : Form → (axis : Option ArrayValue) → (right : ArrayValue) → Evaluation ArrayValue
 monadic_outcome f axis right w = outcome_at (caret_column f) (monadic_result w.origin f axis right) w
 
+-- a function's result of two arguments, or the error at its column
 abbrev pub dyadic_outcome : Form → (axis : Option ArrayValue) → (left right : ArrayValue) → Evaluation ArrayValue
 dyadic_outcome f axis left right w = outcome_at (caret_column f) (dyadic_result w.origin f axis left right) w
 
+-- the elements that the slots choose, or the error at the bracket
 abbrev pub index_outcome : (column : ℕ) → (array : ArrayValue) → (slots : List (Option ArrayValue)) → Evaluation ArrayValue
 index_outcome column array slots w = outcome_at column (index_result w.origin array slots) w
 
@@ -62,6 +66,7 @@ abbrev pub assign_at_outcome_of : Result ArrayValue EvalError → (column : ℕ)
 assign_at_outcome_of (Ok changed) column text arrow right w = done right (assigned text changed w)
 assign_at_outcome_of (Err error) column text arrow right w = failed error (assign_at_column column arrow error) w
 
+-- an indexed assignment: the value on its right, with the name's array changed
 abbrev pub assign_at_outcome : (column : ℕ) → (text : List ℕ) → (arrow : ℕ) → (slots : List (Option ArrayValue)) → (right : ArrayValue) → Evaluation ArrayValue
 assign_at_outcome column text arrow slots right w =
     assign_at_outcome_of (assign_at_result w.origin (value_of text w) slots right) column text arrow right w

@@ -12,7 +12,7 @@ abbrev pub refusal_of : OpFault → Refusal
 refusal_of fault.Memory = Memory
 refusal_of f = Error (error_of f)
 
--- the value or the error that there is; of want of memory nothing is said
+-- the value or the error that there is; `Memory` says nothing of the tokens
 abbrev pub Answers : Result ArrayValue EvalError → Result ArrayValue Refusal → Type 0
 Answers wanted (Ok array) = wanted ≡ Ok array
 Answers wanted (Err (Error error)) = wanted ≡ Err error

@@ -21,12 +21,15 @@ pub record WorkspaceValue : Type 0 where
 abbrev pub value_of : List ℕ → WorkspaceValue → Option ArrayValue
 value_of name w = get w.names name
 
+-- the workspace with other names and values
 abbrev pub with_names : NameValues → WorkspaceValue → WorkspaceValue
 with_names names w = record { names = names; origin = w.origin; width = w.width }
 
+-- the workspace with another origin
 abbrev pub with_origin : Origin → WorkspaceValue → WorkspaceValue
 with_origin origin w = record { names = w.names; origin = origin; width = w.width }
 
+-- the workspace with another width
 abbrev pub with_width : ℕ → WorkspaceValue → WorkspaceValue
 with_width width w = record { names = w.names; origin = w.origin; width = width }
 

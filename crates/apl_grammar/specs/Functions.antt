@@ -7,11 +7,12 @@ use Rattle.apl_tokens.specs.Symbols.{class_of}
 use Rattle.apl_grammar.specs.declared.program.Form.{Form}
 use Rattle.apl_grammar.specs.declared.program.Form.TheVariants.{Plain, Reduce, Inner, Outer}
 
--- a dyadic scalar function, which may be reduced by and stand in a product
+-- a dyadic scalar function, by which may be reduced, and which may be in a product
 abbrev pub is_dyadic_scalar : Class → Bool
 is_dyadic_scalar (Scalar f) = has_dyadic f
 is_dyadic_scalar _ = false
 
+-- symbols of this class may be functions of one argument
 abbrev pub is_monadic : Class → Bool
 is_monadic (Scalar f) = has_monadic f
 is_monadic MonadicOnly = true
@@ -20,6 +21,7 @@ is_monadic Rotation = true
 is_monadic Catenation = true
 is_monadic _ = false
 
+-- symbols of this class may be functions of two
 abbrev pub is_dyadic : Class → Bool
 is_dyadic (Scalar f) = has_dyadic f
 is_dyadic MonadicOnly = false
@@ -38,6 +40,7 @@ takes_axis Slash = true
 takes_axis Backslash = true
 takes_axis _ = false
 
+-- after a scalar function it makes a reduction or a scan
 abbrev pub reduces : Class → Bool
 reduces Slash = true
 reduces Backslash = true

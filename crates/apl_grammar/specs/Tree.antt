@@ -44,16 +44,20 @@ mutual
     none : Axis
     along : (left : ℕ) → Expr → (right : ℕ) → Axis
 
+-- brackets at these columns
 abbrev pub brackets : ℕ → ℕ → Brackets
 brackets l r = record { left = l; right = r }
 
+-- the name, the brackets and the arrow of an indexed assignment
 abbrev pub indexed_name : (column : ℕ) → (name semicolons : List ℕ) → Brackets → (arrow : ℕ) → IndexedName
 indexed_name c n cs b r = record { column = c; name = n; semicolons = cs; brackets = b; arrow = r }
 
+-- the brackets of an axis, where there is one
 abbrev pub axis_brackets : Axis → Option Brackets
 axis_brackets none = None
 axis_brackets (along l e r) = Some (brackets l r)
 
+-- there is an axis
 abbrev pub has_axis : Axis → Bool
 has_axis a = is_some (axis_brackets a)
 
@@ -84,9 +88,11 @@ abbrev mutual
   IsAxis none = Unit {0}
   IsAxis (along o e c) = IsTree e
 
+-- a token at this column
 abbrev pub token_at : ℕ → Lexeme → Token
 token_at c l = record { lexeme = l; column = c }
 
+-- the tokens of a function
 abbrev pub spells_form : Form → List Token
 spells_form (Plain c g) = token_at c (lexeme.Function g) ∷ []
 spells_form (Reduce c f s g) = token_at c (lexeme.Function f) ∷ token_at s (lexeme.Function g) ∷ []

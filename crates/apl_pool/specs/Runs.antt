@@ -1,9 +1,9 @@
--- What a kernel gives for a run of places, one behind the other.
+-- What a kernel gives for a run of places, one after the other.
 use Rattle.std.specs.Prelude.{◌≡◌, ℕ, ◌+◌, ◌<◌, ◌≤◌, List, length, Result, Ok, slice_index_or}
 use Rattle.apl_pool.specs.declared.kernel.Fault.{Fault}
 
 module _ {T : Type 0} (outcome : ℕ → Result T Fault) where
-  -- the values at the places from `from` up to before `to` stand at the front of a list
+  -- the values at the places from `from` up to before `to` are the front of a list
   pub record AreWritten (from to : ℕ) (values : List T) : Type 0 where
     pub room : to ≤ from + length values
     pub each : (k : ℕ) (d : T) → from + k < to → outcome (from + k) ≡ Ok (slice_index_or values k d)

@@ -4,6 +4,7 @@ use Rattle.apl_print.specs.declared.replies.Reply.{Reply}
 use Rattle.apl_print.specs.declared.replies.Reply.TheVariants.{Was, Clear, Incorrect}
 use Rattle.apl_print.specs.Text.{ended}
 
+-- the line that a command is answered with
 abbrev pub reply_text : Reply → List ℕ
 reply_text (Was setting) = ended (codes "WAS " ++ decimal setting)
 reply_text Clear = ended (codes "CLEAR WS")

@@ -4,6 +4,7 @@ use Rattle.apl_print.specs.declared.reports.Report.{Report}
 use Rattle.apl_print.specs.declared.reports.Report.TheVariants.{Syntax, Value, Index, Rank, Length, Domain, Limit, Character, WsFull}
 use Rattle.apl_print.specs.Text.{blanks, indent, caret, ended}
 
+-- the heading of a report
 abbrev pub report_name : Report → List ℕ
 report_name Syntax = codes "SYNTAX ERROR"
 report_name Value = codes "VALUE ERROR"
@@ -20,5 +21,6 @@ abbrev pub caret_line : Option ℕ → List ℕ
 caret_line None = []
 caret_line (Some column) = ended (blanks indent ++ blanks column ++ encode_utf8 caret)
 
+-- the error's name, the line after six blanks, and the caret below a column
 abbrev pub report_text : Report → List ℕ → Option ℕ → List ℕ
 report_text report line column = ended (report_name report) ++ ended (blanks indent ++ line) ++ caret_line column

@@ -18,7 +18,7 @@ abbrev pub field_of : Elem → List ℕ
 field_of (Int n) = numeral_of n
 field_of (Chr c) = c ∷ []
 
--- how many blanks stand between two fields
+-- how many blanks are between two fields
 abbrev pub gap_of : Kind → ℕ
 gap_of Number = 1
 gap_of Character = 0
@@ -35,7 +35,7 @@ row_count [] = 1
 row_count (n ∷ []) = 1
 row_count (n ∷ m ∷ shape) = n * row_count (m ∷ shape)
 
--- so many rows of so many fields
+-- this many rows, of this many fields each
 abbrev pub rows_of : ℕ → ℕ → List (List ℕ) → List (List (List ℕ))
 rows_of zero columns fields = []
 rows_of (suc rows) columns fields = take columns fields ∷ rows_of rows columns (drop columns fields)
@@ -53,19 +53,20 @@ abbrev pub aligned : (ℕ → ℕ) → ℕ → List (List ℕ) → List (List �
 aligned widths k [] = []
 aligned widths k (field ∷ fields) = padded (widths k) field ∷ aligned widths (k + 1) fields
 
--- how many empty lines stand before row r, where r is above 0: one for each axis but the last two along which a plane begins there,
--- which is where r is a multiple of the number of rows that the axes behind it have
+-- how many empty lines are before row r, where r is above 0: one for each axis but the last two along which a plane begins there,
+-- which is where r is a multiple of the number of rows that the axes after it have
 abbrev pub plane_starts : List ℕ → ℕ → ℕ
 plane_starts [] r = 0
 plane_starts (n ∷ []) r = 0
 plane_starts (n ∷ m ∷ []) r = 0
 plane_starts (n ∷ m ∷ l ∷ shape) r = (if r % row_count (m ∷ l ∷ shape) == 0 then 1 else 0) + plane_starts (m ∷ l ∷ shape) r
 
+-- the same, and none before the first row
 abbrev pub empty_lines : List ℕ → ℕ → ℕ
 empty_lines shape zero = 0
 empty_lines shape (suc r) = plane_starts shape (suc r)
 
--- the rows from row r on, one after the other, each behind its empty lines
+-- the rows from row r on, one after the other, each after its empty lines
 abbrev pub AreRows : ℕ → ℕ → List ℕ → ℕ → List (List (List ℕ)) → List ℕ → Type 0
 AreRows width gap shape r [] text = text ≡ []
 AreRows width gap shape r (row ∷ rows) text = (first : List ℕ) × (rest : List ℕ) × IsRow width gap row first
@@ -80,5 +81,6 @@ IsText width gap (n ∷ m ∷ shape) (field ∷ fields) text =
     let rows = rows_of (row_count (n ∷ m ∷ shape)) (row_length (n ∷ m ∷ shape)) (field ∷ fields) in
     AreRows width gap (n ∷ m ∷ shape) 0 (map (aligned (column_width rows) 0) rows) text
 
+-- the text of an array, on lines of this width
 abbrev pub IsShown : ArrayValue → ℕ → List ℕ → Type 0
 IsShown a width text = IsText width (gap_of a.kind) a.shape (map field_of a.ravel) text

@@ -12,11 +12,12 @@ use Rattle.apl_answer.specs.declared.fault.OpFault.TheVariants.{Rank, Length, Do
 use Rattle.apl_answer.specs.Arguments.{size_of, is_list, is_number_kind, has_one_element, number_of, numbers_of, only_element}
 use Rattle.apl_answer.specs.Rows.{Row}
 
+-- the product of a list
 abbrev pub product : List ℤ → ℤ
 product [] = pos 1
 product (a ∷ more) = a *ℤ product more
 
--- the sum of each digit times the product of the radices behind its own
+-- the sum of each digit times the product of the radices after its own
 abbrev pub value_of : List ℤ → List ℤ → ℤ
 value_of [] digits = pos 0
 value_of (a ∷ radices) [] = pos 0
@@ -32,9 +33,11 @@ decoded n radices digits =
 abbrev pub decode_length : ArrayValue → ArrayValue → ℕ
 decode_length a b = if has_one_element a.shape then size_of b else size_of a
 
+-- the numbers of an argument, the only one of which serves n times
 abbrev pub extended_to : ℕ → ArrayValue → List ℤ
 extended_to n a = if has_one_element a.shape then replicate n (number_of (only_element a)) else numbers_of a
 
+-- A⊥B, a scalar of two lists
 abbrev pub decode_row : ArrayValue → ArrayValue → Row
 decode_row a b =
     let n = decode_length a b in

@@ -24,7 +24,7 @@ abbrev pub carry_past : List ℤ → ℤ → ℤ
 carry_past [] b = b
 carry_past (a ∷ radices) b = carried a (carry_past radices b)
 
--- the digit at radix k: the residue of what the radices behind it carry. It alone is tested against the range
+-- the digit at radix k: the residue of what the radices after it carry. It alone is tested against the range
 abbrev pub digit_at : List ℤ → ℕ → ℤ → Result Elem Fault
 digit_at radices k b = as_element (exact (residue (slice_index_or radices k (pos 0)) (carry_past (drop (k + 1) radices) b)))
 

@@ -34,6 +34,7 @@ is_single a = is_list a && has_one_element a.shape
 abbrev pub last_length : ArrayValue → ℕ
 last_length a = slice_index a.shape (rank_of a - 1)
 
+-- the length of the first axis
 abbrev pub first_length : ArrayValue → ℕ
 first_length b = slice_index b.shape 0
 
@@ -44,6 +45,7 @@ common_length a b =
     else if is_single a then first_length b
     else last_length a
 
+-- the arguments have as many items as each other, or one of them serves as each item
 abbrev pub is_common : ArrayValue → ArrayValue → Bool
 is_common a b = is_single a || (is_single b || (last_length a == first_length b))
 
@@ -51,6 +53,7 @@ is_common a b = is_single a || (is_single b || (last_length a == first_length b)
 abbrev pub left_shape : ArrayValue → List ℕ
 left_shape a = if is_single a then [] else take (rank_of a - 1) a.shape
 
+-- the axes that the result has of B
 abbrev pub right_shape : ArrayValue → List ℕ
 right_shape b = if is_single b then [] else drop 1 b.shape
 
@@ -58,9 +61,11 @@ right_shape b = if is_single b then [] else drop 1 b.shape
 abbrev pub left_element : ArrayValue → List ℕ → ℕ → Elem
 left_element a index i = if is_single a then only_element a else element_at a (take (rank_of a - 1) index ++ i ∷ [])
 
+-- B's element in item i
 abbrev pub right_element : ArrayValue → ArrayValue → List ℕ → ℕ → Elem
 right_element a b index i = if is_single b then only_element b else element_at b (i ∷ drop (rank_of a - 1) index)
 
+-- all items at an index list of the result
 abbrev pub items_of : ScalarFunction → ArrayValue → ArrayValue → List ℕ → List (Result Elem Fault)
 items_of g a b index = map (λ i. pair_of g (left_element a index i) (right_element a b index i)) (range_with_len 0 (common_length a b))
 

@@ -11,7 +11,7 @@ use Rattle.core.specs.declared.slots.Slots.{Slots}
 use Rattle.apl_rooms.specs.declared.room.Room.{Room}
 
 module _ (R : RattleType) (start : ℕ → ℕ) where
-  -- the room lies from where the piece with this number begins up to where it ends, in the places from `base` on
+  -- the room is from where the piece with this number begins up to where it ends, in the places from `base` on
   abbrev pub IsRoomOf : Ptr → ℕ → Room R.Denot → Type 0
   IsRoomOf base n r = (r.ptr ≡ ptr_add R (start n) base) × (start n + r.len ≡ start (n + 1))
 

@@ -19,7 +19,7 @@ with_items r ws = record { ptr = r.ptr; len = r.len; items = take r.len (ws ++ d
 abbrev pub room_follows_slice : (R : RattleType) → MutBor (Room R.Denot) → MutBor (List R.Denot) → Fml
 room_follows_slice R room slice = follows (the_row R) (Array R 0) room.ghost_name slice.ghost_name (with_items room.now)
 
--- `front` has the first `mid` places of the room, and `rest` those behind them
+-- `front` has the first `mid` places of the room, and `rest` those after them
 abbrev pub IsCut : (R : RattleType) → Room R.Denot → ℕ → Room R.Denot → Room R.Denot → Type 0
 IsCut R room mid front rest =
     (front.items ≡ take mid room.items) × (rest.items ≡ drop mid room.items) × (front.ptr ≡ room.ptr) × (front.len ≡ mid)

@@ -33,6 +33,7 @@ module _ {X : Type 0} where
     pub rooms_are : 0 < v.share → v.rooms ≡ rooms
     pub idle : v.share ≡ 0 → v.out ≡ []
 
+  -- the rule of a table for these rooms and this many shares
   pub record IsLawful (is_right : ℕ → List X → Type 0) (seats : ℕ) (rooms : List (Option (Room X))) (s : State (Option (Room X)) (View X)) : Type 0 where
     -- a word for each room: 1 where it is out, 2 where it is right
     pub words : length s.words ≡ length rooms

@@ -3,12 +3,13 @@ use Rattle.std.specs.Prelude.{ℕ, ◌+◌, ◌-◌, ◌==◌, cond, List, [], �
 use Rattle.apl_rooms.specs.declared.room.Room.{Room}
 use Rattle.apl_rooms.specs.declared.view.View.{View}
 
--- how often n stands in the list
+-- how often n is in the list
 abbrev pub times : ℕ → List ℕ → ℕ
 times n [] = 0
 times n (m ∷ ms) = cond (m == n) 1 0 + times n ms
 
 module _ {X : Type 0} where
+  -- what a seat with this share, and with these rooms out, knows
   abbrev pub viewing : List (Option (Room X)) → ℕ → List ℕ → View X
   viewing rooms share out = record { rooms = rooms; share = share; out = out }
 
@@ -24,11 +25,14 @@ module _ {X : Type 0} where
   abbrev pub rest_of : View X → View X
   rest_of v = viewing v.rooms (v.share - 1) v.out
 
+  -- the seat that is cut off has one share and no room
   abbrev pub part_of : View X → View X
   part_of v = viewing v.rooms 1 []
 
+  -- one seat of two
   abbrev pub joined : View X → View X → View X
   joined v w = viewing v.rooms (v.share + w.share) (v.out ++ w.out)
 
+  -- what is left of a seat that was joined to another
   abbrev pub spent : View X
   spent = viewing [] 0 []

@@ -8,7 +8,7 @@ use Rattle.apl_answer.specs.declared.fault.OpFault.{OpFault}
 use Rattle.apl_scalar.specs.Scalar.{monadic_of, as_element}
 use Rattle.apl_answer.specs.Pointwise.{answer_of}
 
--- what there is at an index list: a number or a fault
+-- the outcome at an index list: a number or a fault
 abbrev pub monadic_element : ScalarFunction → ArrayValue → List ℕ → Result ℤ Fault
 monadic_element f b index = monadic_of f (element_at b index)
 

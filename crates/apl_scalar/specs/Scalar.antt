@@ -18,9 +18,11 @@ exact z = if in_range z then Ok z else Err Limit
 
 -- ---- 0 and 1
 
+-- 1 for true, 0 for false
 abbrev pub bit : Bool → ℤ
 bit b = if b then pos 1 else pos 0
 
+-- the number is 1
 abbrev pub is_one : ℤ → Bool
 is_one z = int_eq z (pos 1)
 
@@ -28,6 +30,7 @@ is_one z = int_eq z (pos 1)
 abbrev pub logical : (Bool → Bool → Bool) → ℤ → ℤ → Result ℤ Fault
 logical f x y = if is_bit x && is_bit y then Ok (bit (f (is_one x) (is_one y))) else Err Domain
 
+-- `~x`, of a bit alone
 abbrev pub negation : ℤ → Result ℤ Fault
 negation x = if is_bit x then Ok (bit (not (is_one x))) else Err Domain
 
@@ -52,6 +55,7 @@ power x y =
     else if int_eq x (negsuc 0) then Ok (if unsigned_abs y % 2 == 0 then pos 1 else negsuc 0)
     else Err Domain
 
+-- `!x`, not of a negative number
 abbrev pub factorial_of : ℤ → Result ℤ Fault
 factorial_of x = if is_negative x then Err Domain else exact (pos (factorial (unsigned_abs x)))
 
@@ -122,6 +126,7 @@ identity_of Tilde = None
 
 -- ---- elements
 
+-- the result of a monadic function, which a character doesn't have
 abbrev pub monadic_of : ScalarFunction → Elem → Result ℤ Fault
 monadic_of f (Int x) = monadic_number f x
 monadic_of f (Chr c) = Err Domain

@@ -3,6 +3,7 @@ use Rattle.std.specs.Prelude.{ℕ, List, [], codes, Result, Ok, Err}
 use Rattle.apl_session.specs.declared.interpreter.RunFault.{RunFault}
 use Rattle.apl_session.specs.declared.interpreter.RunFault.TheVariants.{Read, Write, Memory}
 
+-- the exit status after a run
 abbrev pub ending_status : {T : Type 0} → Result T RunFault → ℕ
 ending_status (Ok value) = 0
 ending_status (Err fault) = 1

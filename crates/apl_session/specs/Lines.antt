@@ -2,7 +2,7 @@
 use Rattle.std.specs.Prelude.{ℕ, ◌-◌, ◌==◌, ◌≢◌, List, [], ◌∷◌, All, if◌then◌else◌, length, take, slice_index}
 use Rattle.apl_print.specs.Text.{line_feed}
 
--- the byte that may stand before the line feed
+-- the byte that may be before the line feed
 abbrev pub carriage_return : ℕ
 carriage_return = 13
 

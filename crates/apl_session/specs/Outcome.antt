@@ -1,4 +1,4 @@
--- How a run may come out, by what the source tells and what the sink took.
+-- How a run may come out, by what the source gave and what the sink took.
 use Rattle.std.specs.Prelude.{◌≡◌, ℕ, ◌<◌, ◌≤◌, List, ◌++◌, length, All, Option, IfSome, false, flat_map}
 use Rattle.std.specs.Io.KnownBytes.{Appends}
 use Rattle.apl_print.specs.Put.{AppendsFront}
@@ -6,7 +6,7 @@ use Rattle.apl_print.specs.Text.{ended}
 use Rattle.apl_session.specs.Lines.{lines_of, IsUnbroken}
 use Rattle.apl_session.specs.Run.{Answer, Semantics, IsRun, text_of}
 
--- the text is what the source tells, where it tells something
+-- the text is that of the source, where its bytes are known
 abbrev pub IsSourceText : Option (List ℕ) → List ℕ → Type 0
 IsSourceText known text = IfSome known (λ bytes. text ≡ bytes)
 
@@ -52,7 +52,7 @@ pub record BeginsUnbroken (known : Option (List ℕ)) (bytes : List ℕ) : Type 
   pub unbroken : IsUnbroken front
   pub is_source : IsSourceText known still
 
--- These bytes begin with at least one byte of a line. After those come at most so many that were taken with them, and then
+-- These bytes begin with at least one byte of a line. After those come at most `most` bytes that were taken with them, and then
 -- what the source still has.
 pub record BeginsWithUnansweredLine (most : ℕ) (known : Option (List ℕ)) (bytes : List ℕ) : Type 0 where
   pub front : List ℕ

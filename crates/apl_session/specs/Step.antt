@@ -36,7 +36,8 @@ IsPrintedAnswer value workspace answer =
 abbrev pub reply_answer : Reply → WorkspaceValue → Answer WorkspaceValue
 reply_answer reply workspace = text_answer (reply_text reply) workspace
 
--- A command's answer: a setting is told as it was and changed, the workspace is made as it was at first, or the run ends.
+-- A command's answer: the reply has a setting as it was, and the setting is changed; the workspace is made as it was at first; or the run
+-- ends.
 abbrev pub command_answer : Command → WorkspaceValue → Answer WorkspaceValue
 command_answer (Origin origin) workspace = reply_answer (reply.Was (origin_number workspace.origin)) (with_origin origin workspace)
 command_answer (Width width) workspace = reply_answer (reply.Was workspace.width) (with_width width workspace)
@@ -68,6 +69,7 @@ IsAnswerTo workspace line (character bytes column) answer = answer ≡ report_an
 IsAnswerTo workspace line (syntax column) answer = answer ≡ report_answer report.Syntax line column workspace
 IsAnswerTo workspace line (limit column) answer = answer ≡ report_answer report.Limit line column workspace
 
+-- the answer to a line, by what the line reads as
 abbrev pub IsStep : WorkspaceValue → List ℕ → Answer WorkspaceValue → Type 0
 IsStep workspace line answer = (reading : Reading) × IsReading line reading × IsAnswerTo workspace line reading answer
 

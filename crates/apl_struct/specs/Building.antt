@@ -19,7 +19,7 @@ shape_of_row b = array_row [] (rank_of b ∷ []) Number (λ index. Int (pos (sli
 abbrev pub ravel_row : ArrayValue → Row
 ravel_row b = array_row [] (size_of b ∷ []) b.kind (λ index. element_in b (slice_index index 0))
 
--- the place in an argument of so many elements for a place of the result: the same, counted round
+-- the place in an argument of this many elements for a place of the result: the same, counted round
 abbrev pub reshape_source : (size place : ℕ) → ℕ
 reshape_source size place = place % size
 

@@ -14,7 +14,7 @@ use Rattle.apl_struct.specs.Gathering.{gathered_row, filled_row, along_axis, alo
 abbrev pub as_vector : ℕ → ArrayValue → ArrayValue
 as_vector n b = record { shape = if is_scalar b then n ∷ [] else b.shape; kind = b.kind; ravel = if is_scalar b then replicate n (only_element b) else b.ravel }
 
--- how often each index of an axis of length n stands: A's only element serves all
+-- how often each index of an axis of length n is taken: A's only element serves all
 abbrev pub counts_of : ArrayValue → ℕ → List ℕ
 counts_of a n = if has_one_element a.shape then replicate n (place_number (number_of (only_element a))) else map place_number (numbers_of a)
 
@@ -28,7 +28,7 @@ counting_checks a b axis is_count =
 abbrev pub repeated_indexes : List ℕ → List ℕ
 repeated_indexes counts = flat_map (λ i. replicate (slice_index counts i) i) (range_with_len 0 (length counts))
 
--- A/B: index i of the axis stands A[i] times
+-- A/B: index i of the axis is taken A[i] times
 abbrev pub replicate_row : ArrayValue → ArrayValue → Axis → Row
 replicate_row a b axis =
     let c = as_vector (size_of a) b in

@@ -8,7 +8,7 @@ use Rattle.apl_answer.specs.Arguments.{rank_of, size_of, is_scalar, is_list, is_
 use Rattle.apl_answer.specs.Rows.{Row, Check}
 use Rattle.apl_struct.specs.Gathering.{gathered_row, filled_row}
 
--- a scalar serves as an array of one element with so many axes
+-- a scalar serves as an array of one element with this many axes
 abbrev pub with_axes : ℕ → ArrayValue → ArrayValue
 with_axes rank b = record { shape = if is_scalar b then replicate rank 1 else b.shape; kind = b.kind; ravel = b.ravel }
 

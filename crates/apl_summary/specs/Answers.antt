@@ -21,14 +21,16 @@ is_two_valued Greater = true
 is_two_valued NotEqual = true
 is_two_valued _ = false
 
+-- 0 or 1, or the fault
 abbrev pub as_number : Result Bool Fault → Result ℤ Fault
 as_number (Ok b) = Ok (bit b)
 as_number (Err fault) = Err fault
 
+-- answers with these parts
 abbrev pub answers : ℕ → ℤ → Result Bool Fault → Result Bool Fault → Answers
 answers count last for_zero for_one = record { count = count; last = last; for_zero = for_zero; for_one = for_one }
 
--- to the left of the only item stands nothing, which hands on what comes in
+-- to the left of the only item is nothing, which hands on what comes in
 abbrev pub answers_of_one : ℤ → Answers
 answers_of_one x = answers 1 x (Ok false) (Ok true)
 
@@ -41,6 +43,7 @@ left_answer a (Err fault) = Err fault
 abbrev pub whole_answer : ScalarFunction → Answers → ℤ → Result Bool Fault
 whole_answer f a right = left_answer a (dyadic_numbers f a.last right)
 
+-- what the items do to a number that comes in
 abbrev pub two_valued_outcome : ScalarFunction → Answers → ℤ → Result ℤ Fault
 two_valued_outcome f a right = as_number (whole_answer f a right)
 
@@ -49,5 +52,6 @@ abbrev pub answer_to : ScalarFunction → Answers → Result Bool Fault → Resu
 answer_to f a (Ok b) = whole_answer f a (bit b)
 answer_to f a (Err fault) = Err fault
 
+-- those of the left and the right items together
 abbrev pub answers_of_both : ScalarFunction → Answers → Answers → Answers
 answers_of_both f a b = answers (a.count + b.count) b.last (answer_to f a b.for_zero) (answer_to f a b.for_one)

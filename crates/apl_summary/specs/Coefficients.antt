@@ -16,9 +16,11 @@ IsHeld x = (negsuc 9223372036854775808 ≤ℤ x) × (x ≤ℤ pos 92233720368547
 abbrev pub held : ℤ → ℤ
 held x = int_min (int_max x (negsuc 9223372036854775808)) (pos 9223372036854775809)
 
+-- coefficients with these parts
 abbrev pub coefficients : ℕ → ℤ → ℤ → ℤ → Coefficients
 coefficients count total least greatest = record { count = count; total = total; least = least; greatest = greatest }
 
+-- those of one item
 abbrev pub coefficients_of_one : ℤ → Coefficients
 coefficients_of_one x = coefficients 1 x x x
 
@@ -32,9 +34,11 @@ coefficients_of_both a b = coefficients (a.count + b.count) (held (a.total *ℤ 
 abbrev pub products_keep_range : Coefficients → ℤ → Bool
 products_keep_range c right = in_range (c.least *ℤ right) && in_range (c.greatest *ℤ right)
 
+-- what the items do to a number that comes in
 abbrev pub scaled_outcome : Coefficients → ℤ → Result ℤ Fault
 scaled_outcome c right = if products_keep_range c right then Ok (c.total *ℤ right) else Err Limit
 
+-- lawful coefficients
 pub record AreCoefficients (c : Coefficients) : Type 0 where
   pub some_items : 0 < c.count
   pub most_items : c.count ≤ 1073741824

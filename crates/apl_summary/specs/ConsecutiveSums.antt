@@ -7,6 +7,7 @@ use Rattle.apl_summary.specs.declared.constants.Bounds.{Bounds}
 use Rattle.apl_summary.specs.declared.consecutive_sums.ConsecutiveSums.{ConsecutiveSums}
 use Rattle.apl_summary.specs.Constants.{bounds, raised, of_both, IsWithin94Bits, IsSumOf}
 
+-- the sum of a list
 abbrev pub total : List ℤ → ℤ
 total [] = pos 0
 total (x ∷ rest) = x +ℤ total rest
@@ -21,9 +22,11 @@ HasSums xs = (before : List ℤ) (last : ℤ) (rest : List ℤ) → xs ≡ befor
 
 -- ---- the total, and the bounds of the sums of a beginning, of an end and of consecutive items
 
+-- sums with these parts
 abbrev pub consecutive_sums : ℕ → ℤ → (beginnings ends all : Bounds) → ConsecutiveSums
 consecutive_sums count total beginnings ends all = record { count = count; total = total; beginnings = beginnings; ends = ends; all = all }
 
+-- those of one item
 abbrev pub sums_of_one : ℤ → ConsecutiveSums
 sums_of_one x = consecutive_sums 1 x (bounds x x) (bounds x x) (bounds x x)
 
@@ -31,7 +34,7 @@ sums_of_one x = consecutive_sums 1 x (bounds x x) (bounds x x) (bounds x x)
 abbrev pub across : (ends beginnings : Bounds) → Bounds
 across ends beginnings = bounds (ends.least +ℤ beginnings.least) (ends.greatest +ℤ beginnings.greatest)
 
--- a beginning lies in the left items, or has all of them and a beginning of the right ones; so an end; and consecutive items lie in the
+-- a beginning is in the left items, or has all of them and a beginning of the right ones; so an end; and consecutive items are in the
 -- left ones, in the right ones, or are an end of those and a beginning of these
 abbrev pub sums_of_both : ConsecutiveSums → ConsecutiveSums → ConsecutiveSums
 sums_of_both a b = consecutive_sums (a.count + b.count) (a.total +ℤ b.total)
@@ -51,15 +54,19 @@ AreSumsOf s (x ∷ rest) = s ≡ sums_of x rest
 
 -- ---- how large they are
 
+-- both bounds are within 94 bits
 abbrev pub AreBoundsWithin94Bits : Bounds → Type 0
 AreBoundsWithin94Bits b = IsWithin94Bits b.least × IsWithin94Bits b.greatest
 
+-- all numbers of the sums are within 94 bits
 abbrev pub AreSumsWithin94Bits : ConsecutiveSums → Type 0
 AreSumsWithin94Bits s = IsWithin94Bits s.total × AreBoundsWithin94Bits s.beginnings × AreBoundsWithin94Bits s.ends × AreBoundsWithin94Bits s.all
 
+-- both bounds are within the sums of that many items
 abbrev pub AreBoundsOfSums : ℕ → Bounds → Type 0
 AreBoundsOfSums count b = IsSumOf count b.least × IsSumOf count b.greatest
 
+-- lawful sums
 pub record AreConsecutiveSums (s : ConsecutiveSums) : Type 0 where
   pub some_items : 0 < s.count
   pub most_items : s.count ≤ 1073741824

@@ -1,4 +1,4 @@
--- What the sums and differences of items are by their constants. In each partial result of a fold by `+` or `-` what comes in stands
+-- What the sums and differences of items are by their constants. In each partial result of a fold by `+` or `-` what comes in is
 -- beside a constant, with plus or with minus: it is the constant plus what comes in, or the constant less it.
 use Rattle.std.specs.Prelude.{◌≡◌, ℕ, ◌+◌, ◌*◌, ◌<◌, ◌≤◌, Bool, true, false, not, ◌&&◌, ℤ, pos, negsuc, neg_ℤ, ◌+ℤ◌, ◌-ℤ◌, ◌≤ℤ◌, int_le, Result, Ok, Err, if◌then◌else◌}
 use Rattle.std.specs.Int.{int_min, int_max}
@@ -10,11 +10,13 @@ use Rattle.apl_pool.specs.declared.kernel.Fault.TheVariants.{Limit}
 use Rattle.apl_summary.specs.declared.constants.Bounds.{Bounds}
 use Rattle.apl_summary.specs.declared.constants.Constants.{Constants}
 
+-- `+` or `-`
 abbrev pub signed_function : Bool → ScalarFunction
 signed_function is_plus = if is_plus then Plus else Minus
 
 -- ---- the least and the greatest of some constants
 
+-- the least and the greatest of some numbers
 abbrev pub bounds : ℤ → ℤ → Bounds
 bounds least greatest = record { least = least; greatest = greatest }
 
@@ -30,15 +32,17 @@ lowered b by = bounds (b.least -ℤ by) (b.greatest -ℤ by)
 abbrev pub of_both : Bounds → Bounds → Bounds
 of_both a b = bounds (int_min a.least b.least) (int_max a.greatest b.greatest)
 
+-- both bounds are in the range
 abbrev pub are_in_range : Bounds → Bool
 are_in_range b = int_le least_number b.least && int_le b.greatest greatest_number
 
 -- ---- all constants of some items
 
+-- constants with these parts
 abbrev pub constants : ℕ → Bool → ℤ → Bounds → Bounds → Constants
 constants count is_negated total plus minus = record { count = count; is_negated = is_negated; total = total; plus = plus; minus = minus }
 
--- 0 stands with plus: it is the constant of what comes in itself, which is in the range. Where nothing stands with minus -1 is put
+-- 0 is among those with plus: it is the constant of what comes in itself, which is in the range. Where nothing is with minus, -1 is put
 -- there, which refuses nothing
 abbrev pub constants_of_one : Bool → ℤ → Constants
 constants_of_one is_plus x =
@@ -58,6 +62,7 @@ constants_of_both is_plus a b = constants
 abbrev pub keeps_range : Constants → ℤ → Bool
 keeps_range c right = are_in_range (raised c.plus right) && are_in_range (lowered c.minus right)
 
+-- what the items do to a number that comes in
 abbrev pub signed_outcome : Constants → ℤ → Result ℤ Fault
 signed_outcome c right = if keeps_range c right then Ok (if c.is_negated then c.total -ℤ right else c.total +ℤ right) else Err Limit
 
@@ -67,6 +72,7 @@ signed_outcome c right = if keeps_range c right then Ok (if c.is_negated then c.
 abbrev pub IsWithin94Bits : ℤ → Type 0
 IsWithin94Bits x = (neg_ℤ (pos 19807040628566084398385987584) ≤ℤ x) × (x ≤ℤ pos 19807040628566084398385987584)
 
+-- all numbers of the constants are within 94 bits
 abbrev pub AreWithin94Bits : Constants → Type 0
 AreWithin94Bits c = IsWithin94Bits c.total × IsWithin94Bits c.plus.least × IsWithin94Bits c.plus.greatest × IsWithin94Bits c.minus.least × IsWithin94Bits c.minus.greatest
 
@@ -74,6 +80,7 @@ AreWithin94Bits c = IsWithin94Bits c.total × IsWithin94Bits c.plus.least × IsW
 abbrev pub IsSumOf : ℕ → ℤ → Type 0
 IsSumOf count x = (neg_ℤ (pos (9223372036854775808 * count)) ≤ℤ x) × (x ≤ℤ pos (9223372036854775808 * count))
 
+-- lawful constants under `+` or `-`: within the sums of that many items
 pub record AreConstants (is_plus : Bool) (c : Constants) : Type 0 where
   pub some_items : 0 < c.count
   pub most_items : c.count ≤ 1073741824

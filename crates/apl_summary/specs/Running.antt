@@ -1,9 +1,9 @@
--- Numbers behind others, each folded with all in front of it.
+-- Numbers after others, each folded with all in front of it.
 use Rattle.std.specs.Prelude.{◌≡◌, ℕ, ◌<◌, ℤ, pos, List, [], ◌++◌, take, Option, Some, None, Result, Ok, slice_index_or}
 use Rattle.apl_pool.specs.declared.kernel.Fault.{Fault}
 use Rattle.apl_pool.specs.Summaries.{fold_onto, IsSummaryOf}
 
--- the fold of all numbers up to each of the first `count`, behind those that stand before them
+-- the fold of all numbers up to each of the first `count`, after those that are before them
 abbrev pub AreFoldsBehind : (ℤ → ℤ → Result ℤ Fault) → (before numbers : List ℤ) → (count : ℕ) → (values : List ℤ) → Type 0
 AreFoldsBehind step before numbers count values = (k : ℕ) (d : ℤ) → k < count → fold_onto step (before ++ take k numbers) (slice_index_or numbers k (pos 0)) ≡ Ok (slice_index_or values k d)
 

@@ -7,6 +7,7 @@ use Rattle.apl_array.specs.Axes.{origin_number}
 use Rattle.apl_syntax.specs.declared.lines.Command.{Command}
 use Rattle.apl_syntax.specs.declared.lines.Command.TheVariants.{Origin, Width, Clear, Off, Incorrect}
 
+-- `)`
 abbrev pub close_paren : ℕ
 close_paren = 41
 
@@ -14,18 +15,21 @@ close_paren = 41
 abbrev pub HasCommandText : List ℕ → List ℕ → Type 0
 HasCommandText characters text = (blanks : List ℕ) × AllPass is_blank blanks × (characters ≡ blanks ++ close_paren ∷ text)
 
+-- the first symbol after blanks is a right parenthesis
 abbrev pub IsCommandLine : List ℕ → Type 0
 IsCommandLine characters = (text : List ℕ) × HasCommandText characters text
 
+-- another character than the blank
 abbrev pub is_no_blank : ℕ → Bool
 is_no_blank c = not (is_blank c)
 
+-- the last character is no blank
 abbrev pub EndsWithNoBlank : List ℕ → Type 0
 EndsWithNoBlank [] = Unit {0}
 EndsWithNoBlank (c ∷ []) = is_blank c ≡ false
 EndsWithNoBlank (c ∷ d ∷ cs) = EndsWithNoBlank (d ∷ cs)
 
--- The word is what stands up to the next blank, and the argument what follows it, without the blanks around it.
+-- The word is what comes up to the next blank, and the argument what follows it, without the blanks around it.
 pub record HasWordAndArgument (text word argument : List ℕ) : Type 0 where
   pub gap : List ℕ
   pub after : List ℕ
@@ -45,6 +49,7 @@ AreDigitsOf number digits = AreDigits digits × (number_of_digits digits ≡ num
 abbrev pub least_width : ℕ
 least_width = 30
 
+-- the greatest width that a command may set
 abbrev pub most_width : ℕ
 most_width = 130
 

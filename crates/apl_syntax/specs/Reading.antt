@@ -8,6 +8,7 @@ use Rattle.apl_grammar.specs.Caret.{IsCaret, HasNoTree}
 use Rattle.apl_syntax.specs.Commands.{IsCommandLine, IsCommand}
 use Rattle.apl_syntax.specs.declared.lines.Command.{Command}
 
+-- what a line can be: a faulty one has the column of its caret
 pub data Reading : Type 0 where
   -- a symbol is not listed: the front of the line has so many bytes, and as many characters as the column says
   character : (bytes column : ℕ) → Reading
@@ -38,7 +39,7 @@ abbrev pub IsListedReading : List ℕ → Reading → Type 0
 IsListedReading characters (command is) = IsCommand characters is
 IsListedReading characters reading = (IsCommandLine characters → ⊥) × IsTokensReading characters reading
 
--- the front of the line is not the whole line, and has so many bytes and characters
+-- the front of the line is not the whole line, and has this many bytes and characters
 abbrev pub HasUnlisted : List ℕ → ℕ → ℕ → Type 0
 HasUnlisted line bytes column =
     (characters rest : List ℕ) × IsFront line characters rest × (rest ≢ []) × (bytes ≡ length (encode_utf8_all characters))

@@ -14,11 +14,12 @@ abbrev pub BeginsWithNo : (ℕ → Bool) → List ℕ → Type 0
 BeginsWithNo p [] = Unit {0}
 BeginsWithNo p (c ∷ cs) = p c ≡ false
 
--- the number that digits spell, behind those that spell n
+-- the number that digits spell, after those that spell n
 abbrev pub number_after : ℕ → List ℕ → ℕ
 number_after n [] = n
 number_after n (d ∷ ds) = number_after (10 * n + (d - 48)) ds
 
+-- the number that digits spell
 abbrev pub number_of_digits : List ℕ → ℕ
 number_of_digits digits = number_after 0 digits
 
@@ -32,6 +33,7 @@ abbrev pub AreBlanks : List ℕ → Type 0
 AreBlanks [] = ⊥
 AreBlanks (c ∷ cs) = AllPass is_blank (c ∷ cs)
 
+-- the negative of a number
 abbrev pub negated : ℕ → ℤ
 negated zero = pos 0
 negated (suc n) = negsuc n
@@ -57,11 +59,12 @@ AreNumerals place text (n ∷ m ∷ others) =
 abbrev pub HasNoNextNumeral : List ℕ → Type 0
 HasNoNextNumeral after = (gap text rest : List ℕ) (z : ℤ) → AreBlanks gap → IsNumeral text z → after ≡ gap ++ (text ++ rest) → ⊥
 
--- no further digit, and no further numeral: as many as stand there
+-- no further digit, and no further numeral: as many as there are
 pub record EndsNumerals (after : List ℕ) : Type 0 where
   pub digits : BeginsWithNo is_digit after
   pub numerals : HasNoNextNumeral after
 
+-- all numerals are in the range
 abbrev pub AreInRange : List Numeral → Type 0
 AreInRange [] = Unit {0}
 AreInRange (n ∷ ns) = IsInRange n.1 × AreInRange ns
@@ -71,7 +74,7 @@ abbrev pub constant_shape : {A : Type 0} → List A → List ℕ
 constant_shape (x ∷ []) = []
 constant_shape xs = length xs ∷ []
 
--- numerals, as many as stand there, are the constant of this value
+-- numerals, as many as there are, are the constant of this value
 pub record IsNumberConstant (text after : List ℕ) (value : ArrayValue) : Type 0 where
   pub numerals : List Numeral
   pub spelled : AreNumerals 0 text numerals
@@ -89,7 +92,7 @@ doubled (c ∷ cs) = if is_quote c then quote ∷ quote ∷ doubled cs else c �
 abbrev pub quoted : List ℕ → List ℕ
 quoted characters = quote ∷ (doubled characters ++ quote ∷ [])
 
--- characters between quotes, behind which no further quote stands, are the constant of this value
+-- characters between quotes, after which no further quote comes, are the constant of this value
 pub record IsTextConstant (text after : List ℕ) (value : ArrayValue) : Type 0 where
   pub characters : List ℕ
   pub spelled : text ≡ quoted characters
@@ -101,7 +104,7 @@ pub record IsTextConstant (text after : List ℕ) (value : ArrayValue) : Type 0 
 abbrev pub IsConstant : List ℕ → List ℕ → ArrayValue → Type 0
 IsConstant text after value = IsNumberConstant text after value ⊎ IsTextConstant text after value
 
--- a letter, then letters, digits and low lines, as many as stand there
+-- a letter, then letters, digits and low lines, as many as there are
 pub record IsName (text after name : List ℕ) : Type 0 where
   pub first : ℕ
   pub others : List ℕ
@@ -123,8 +126,8 @@ IsToken text after (Constant value) = IsConstant text after value
 IsToken text after (Name name) = IsName text after name
 IsToken text after lexeme = IsSymbol text lexeme
 
--- The tokens stand at the front of the characters, whose first is at column c. What follows them and the
--- blanks behind them is the rest, at column d.
+-- The tokens are the front of the characters, whose first is at column c. What follows them and the
+-- blanks after them is the rest, at column d.
 abbrev pub LexesUpTo : ℕ → List ℕ → List Token → ℕ → List ℕ → Type 0
 LexesUpTo c characters [] d rest =
     (gap : List ℕ) × (characters ≡ gap ++ rest) × AllPass is_blank gap × BeginsWithNo is_blank rest × (d ≡ c + length gap)

@@ -13,7 +13,7 @@ IsFrontStopOf line (front.Unlisted bytes column) =
     (characters rest : List ℕ) × IsFront line characters rest × (rest ≢ []) × (bytes ≡ length (encode_utf8_all characters)) × (column ≡ length characters)
 IsFrontStopOf line front.Memory = (characters : List ℕ) × IsFront line characters []
 
--- a lexical fault has its column; of want of memory nothing is said
+-- a lexical fault has its column; `Memory` says nothing of the tokens
 abbrev pub IsLexicalStopOf : List ℕ → LexicalStop → Type 0
 IsLexicalStopOf characters (lexical.Syntax column) = HasLexicalFault characters column
 IsLexicalStopOf characters (lexical.Limit column) = HasLimitFault characters column

@@ -10,6 +10,7 @@ use Rattle.apl_tokens.specs.declared.token.Glyph.TheVariants.{Scalar, Rho, Comma
 use Rattle.apl_tokens.specs.declared.token.Lexeme.{Lexeme}
 use Rattle.apl_tokens.specs.declared.token.Lexeme.TheVariants.{Function, Dot, Jot, Arrow, OpenParen, CloseParen, OpenBracket, CloseBracket, Semicolon}
 
+-- 0 to 9
 abbrev pub is_digit : ℕ → Bool
 is_digit c = nat_le 48 c && nat_le c 57
 
@@ -17,21 +18,27 @@ is_digit c = nat_le 48 c && nat_le c 57
 abbrev pub is_letter : ℕ → Bool
 is_letter c = (nat_le 65 c && nat_le c 90) || ((nat_le 97 c && nat_le c 122) || ((c == 0x2206) || (c == 0x2359)))
 
+-- `_`
 abbrev pub low_line : ℕ
 low_line = 95
 
+-- what a name can have after its first letter
 abbrev pub is_name_character : ℕ → Bool
 is_name_character c = is_letter c || (is_digit c || (c == low_line))
 
+-- the blank
 abbrev pub is_blank : ℕ → Bool
 is_blank c = c == 32
 
+-- `¯`
 abbrev pub high_minus : ℕ
 high_minus = 0xAF
 
+-- `'`
 abbrev pub quote : ℕ
 quote = 39
 
+-- the quote
 abbrev pub is_quote : ℕ → Bool
 is_quote c = c == quote
 
@@ -89,12 +96,14 @@ symbol_of BackslashBar = (0x2340, class.Backslash)  -- ⍀
 symbol_of UpTack = (0x22A5, class.DyadicOnly)  -- ⊥
 symbol_of DownTack = (0x22A4, class.DyadicOnly)  -- ⊤
 
+-- all function symbols
 abbrev pub glyphs : List Glyph
 glyphs =
     map Scalar scalar_functions
     ++ (Rho ∷ Comma ∷ Iota ∷ Epsilon ∷ UpArrow ∷ DownArrow ∷ CircleStile ∷ CircleBar ∷ Transpose
     ∷ GradeUp ∷ GradeDown ∷ Slash ∷ SlashBar ∷ Backslash ∷ BackslashBar ∷ UpTack ∷ DownTack ∷ [])
 
+-- the class of a function symbol in the grammar
 abbrev pub class_of : Glyph → Class
 class_of glyph = (symbol_of glyph).1
 
@@ -111,6 +120,7 @@ character_of CloseBracket = Some 93
 character_of Semicolon = Some 59
 character_of _ = None
 
+-- all tokens of one symbol
 abbrev pub symbol_lexemes : List Lexeme
 symbol_lexemes = map Function glyphs ++ (Dot ∷ Jot ∷ Arrow ∷ OpenParen ∷ CloseParen ∷ OpenBracket ∷ CloseBracket ∷ Semicolon ∷ [])
 
@@ -119,6 +129,7 @@ abbrev pub lexeme_or : Option ℕ → Lexeme → Option Lexeme → ℕ → Optio
 lexeme_or (Some character) lexeme other c = if c == character then Some lexeme else other
 lexeme_or None lexeme other c = other
 
+-- the first of these tokens whose character it is
 abbrev pub lexeme_in : List Lexeme → ℕ → Option Lexeme
 lexeme_in [] c = None
 lexeme_in (lexeme ∷ lexemes) c = lexeme_or (character_of lexeme) lexeme (lexeme_in lexemes c) c
@@ -139,5 +150,6 @@ non_ascii_symbols =
 abbrev pub is_listed_ascii : ℕ → Bool
 is_listed_ascii c = nat_le 32 c && nat_le c 126
 
+-- a character that a line may have
 abbrev pub is_listed : ℕ → Bool
 is_listed c = is_listed_ascii c || list_any (λ symbol. symbol == c) non_ascii_symbols

@@ -68,10 +68,12 @@ abbrev pub PushTells : TakerView → List ℕ → TakerView → Type 0
 PushTells old (piece ∷ []) new = new ≡ with_pushed old piece
 PushTells old _ new = ⊥
 
+-- the owner took this piece
 abbrev pub PopTells : TakerView → List ℕ → TakerView → Type 0
 PopTells old (piece ∷ []) new = IsPopped old piece new
 PopTells old _ new = ⊥
 
+-- a thief took this piece, and what it knows now is possible
 abbrev pub StealTells : TakerView → List ℕ → TakerView → Type 0
 StealTells old (piece ∷ []) new = IsStolen old piece new × IsPossible new
 StealTells old _ new = ⊥

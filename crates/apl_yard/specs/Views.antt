@@ -2,7 +2,7 @@
 use Rattle.std.specs.Prelude.{ℕ, ◌+◌, [], ◌∷◌, ◌++◌}
 use Rattle.apl_yard.specs.declared.rule.TakerView.{TakerView}
 
--- what the owner of a new deque with so many thieves knows. A new thief knows what the owner of one with no thieves does
+-- what the owner of a new deque with this number of thieves knows. A new thief knows what the owner of one with no thieves does
 abbrev pub opening_view : ℕ → TakerView
 opening_view thieves = record { pushed = []; thieves = thieves; taken = [] }
 

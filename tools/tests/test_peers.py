@@ -1,0 +1,70 @@
+"""Tests of bench/peers, with tiny sizes: that it computes and prints all rows, and what it says of words and peers."""
+import os
+import subprocess
+import sys
+import tempfile
+import unittest
+
+from common import PROGRAM, TOP
+
+PEERS = TOP / "bench" / "peers"
+ROWS = 36
+
+
+def asked(*words: str, path: str = os.environ["PATH"]) -> subprocess.CompletedProcess:
+    """What bench/peers does with these words, where programs are found on a path."""
+    environment = {**os.environ, "PATH": path}
+    return subprocess.run([sys.executable, str(PEERS), *words], capture_output=True, text=True, env=environment, timeout=120)
+
+
+class Table(unittest.TestCase):
+    def test_tiny_sizes(self):
+        run = asked("--size", "100", "--starts", "1", "--rounds", "1", PROGRAM)
+        is_missing = "is missing: 'apt-get install" in run.stderr
+        self.assertEqual(run.returncode, 3 if is_missing else 0, run.stderr)
+        heading, *rows = run.stdout.split("\n\n")[1].splitlines()
+        self.assertIn("aplcalc, 1 worker ", heading)
+        self.assertIn("aplcalc, 4 workers", heading)
+        self.assertEqual(len(rows), ROWS)
+
+    def test_rows_by_name(self):
+        run = asked("--size", "100", "--starts", "1", "--rounds", "1", PROGRAM, "A+B", "A+.×A, small")
+        rows = run.stdout.split("\n\n")[1].splitlines()[1:]
+        self.assertEqual([row[:20].strip() for row in rows], ["A+B", "A+.×A, small"])
+
+    def test_missing_peer(self):
+        with tempfile.TemporaryDirectory() as empty:
+            run = asked("--size", "100", "--starts", "1", "--rounds", "1", PROGRAM, "A+B", path=empty)
+        self.assertEqual(run.returncode, 3, run.stderr)
+        self.assertIn("A+ is missing: 'apt-get install aplus-fsf', or bench/peers --install", run.stderr)
+        self.assertIn("A+B", run.stdout)
+
+    def test_nothing_to_install_with(self):
+        with tempfile.TemporaryDirectory() as empty:
+            run = asked("--install", "--size", "100", PROGRAM, "A+B", path=empty)
+        self.assertEqual(run.returncode, 1)
+        self.assertIn("peers: there is no apt-get here to install A+", run.stderr)
+
+
+class Words(unittest.TestCase):
+    def test_refused_words(self):
+        for words, reason in [
+            ([], "PROGRAM"),
+            (["--starts", "0", PROGRAM], "'0' is no number from 1 to 100"),
+            (["--rounds", "101", PROGRAM], "'101' is no number from 1 to 100"),
+            (["--size", "99", PROGRAM], "'99' is no number from 100 to 10000000"),
+            (["--size", "1e3", PROGRAM], "'1e3' is no number from 100 to 10000000"),
+            (["/nowhere"], "/nowhere is no program"),
+            (["/"], "/ is no program"),
+            ([PROGRAM, "A?B"], "there is no row 'A?B'"),
+        ]:
+            with self.subTest(words):
+                run = asked(*words)
+                self.assertEqual(run.returncode, 2, run.stderr)
+                self.assertIn(reason, run.stderr)
+                self.assertEqual(run.stdout, "")
+
+    def test_program_that_is_no_calculator(self):
+        run = asked("--size", "100", "/bin/true", "A+B")
+        self.assertEqual(run.returncode, 1)
+        self.assertIn("peers: aplcalc, 1 worker ended", run.stderr)
