@@ -1,8 +1,8 @@
 -- Scalars that serve as vectors.
-use Rattle.std.proofs.Common.{◌≡◌, pos, ℕ, ◌+◌, ◌*◌, ◌%◌, ◌<◌, true, false, Bool, List, [], ◌∷◌, length, take, drop, slice_index, refl, ap, sym, ◌∙◌, eq-eqb, arith}
-use Rattle.std.specs.Prelude.{slice_set, Option, Some, None, option_map, IfSome, ◌≤◌, ◌^◌, max, All, replicate, if◌then◌else◌}
+use Rattle.std.proofs.Common.{◌≡◌, pos, ℕ, ◌+◌, ◌*◌, ◌%◌, ◌<◌, true, false, Bool, List, [], ◌∷◌, length, take, drop, slice_index, refl, ap, sym, ◌∙◌, ⊎_elim, eq-eqb, arith}
+use Rattle.std.specs.Prelude.{nat_lt, slice_set, Option, Some, None, option_map, IfSome, ◌≤◌, ◌^◌, max, All, replicate, if◌then◌else◌}
 use Rattle.std.proofs.Math.Nat.{div-one, mod-eq_of_lt, mul-le-mul}
-use Rattle.std.proofs.lemmas.Bool.{eqb-true}
+use Rattle.std.proofs.lemmas.Bool.{eqb-true, cases_Bool, lt-ltb, ltb-true}
 use Rattle.std.proofs.lemmas.List.{get_or-replicate, length-set, nil_from_length}
 use Rattle.std.proofs.lemmas.List.Elements.{All-set, All-get_or, All-replicate}
 use Rattle.apl_array.specs.declared.array.Elem.{Elem}
@@ -13,6 +13,8 @@ use Rattle.apl_array.specs.Shape.{IsShape, count_of, index_at}
 use Rattle.apl_answer.specs.Arguments.{is_scalar, rank_of, fill_of, only_element}
 use Rattle.apl_struct.specs.Compressing.{as_vector}
 use Rattle.apl_walk.specs.Gathered.{filled_at}
+use Rattle.apl_walk.specs.Steps.{and_step, entry_step}
+use Rattle.apl_struct.specs.Scalars.{entry_index}
 use Rattle.apl_struct.specs.Gathering.{element_or_fill}
 use Rattle.apl_struct.proofs.Filled.{get_or-within}
 use Rattle.apl_struct.proofs.Ranges.{element_in_in}
@@ -37,26 +39,6 @@ pub vector_axis : (n k : ℕ) (shape : List ℕ) → k < max 1 (length shape) �
 vector_axis n k [] axis = axis
 vector_axis n k (m ∷ shape) axis = grind (arith, axis)
 
-pub vector_lawful : (n : ℕ) (shape : List ℕ) → n ≤ 2 ^ 30 → IsShape shape → IsShape (vector_shape n shape)
-vector_lawful n [] most lawful = record {
-  rank = omega arith;
-  axes = All-replicate (λ x. x ≤ 2 ^ 30) 1 n most;
-  count = omega (arith, most);
-}
-vector_lawful n (m ∷ shape) most lawful = lawful
-
-same_by : (b : ArrayValue) (n m k : ℕ) (scalar : Bool) → is_scalar b ≡ scalar → k < max 1 (rank_of b) → n ≡ slice_index (as_vector m b).shape k → as_vector n b ≡ as_vector m b
-same_by b n m k true e axis is =
-    let none : length b.shape ≡ 0 = eqb-true (length b.shape) 0 e in
-    let first : k ≡ 0 = grind (arith, axis, none) in
-    let lengths : n ≡ m = rw (e, first) at is in
-    ap (λ x. as_vector x b) lengths
-same_by b n m k false e axis is = rw e refl
-
--- a vector's length says nothing of an array that is none
-pub vector_same : (b : ArrayValue) (n m k : ℕ) → k < max 1 (rank_of b) → n ≡ slice_index (as_vector m b).shape k → as_vector n b ≡ as_vector m b
-vector_same b n m k axis is = same_by b n m k (is_scalar b) refl axis is
-
 pub vector_filled : (b : ArrayValue) (n m place : ℕ) (j : Option ℕ) → IsArray b → length b.shape ≡ 0 → IfSome j (λ i. i < n)
     → filled_at b (option_map (λ i. 0) j) ≡ element_or_fill (as_vector n b) (option_map (slice_set (index_at (m ∷ []) place) 0) j)
 vector_filled b n m place None array none within = refl
@@ -66,23 +48,31 @@ vector_filled b n m place (Some i) array none within =
     let first = get_or-within b.ravel 0 (fill_of b.kind) (Int (pos 0)) (omega (arith, array.len, one)) in
     rw scalar (first ∙ sym (get_or-replicate n (i * 1 + 0) (only_element b) (Int (pos 0)) (omega (arith, within))))
 
+-- no step leads away from a scalar's only element
+pub scalar_step : (step j : Option ℕ) → step ≡ option_map (λ i. i * 0) j → and_step (Some 0) step ≡ option_map (λ i. 0) j
+scalar_step step None is = ap (and_step (Some 0)) is
+scalar_step step (Some i) is = ap (and_step (Some 0)) is ∙ ap Some (omega arith)
+
+-- an entry's step, as that of an index
+pub entry_steps : (n stride entry : ℕ) → entry_step n stride entry ≡ option_map (λ j. j * stride) (entry_index n entry)
+entry_steps n stride entry =
+    ⊎_elim
+    (λ below. rw below refl)
+    (λ past. rw past refl)
+    (cases_Bool (nat_lt entry n))
+
+pub entry_below : (n entry : ℕ) → IfSome (entry_index n entry) (λ j. j < n)
+entry_below n entry =
+    ⊎_elim
+    (λ (below : nat_lt entry n ≡ true). rw below (ltb-true entry n below))
+    (λ (past : nat_lt entry n ≡ false). rw past tt)
+    (cases_Bool (nat_lt entry n))
+
+pub entry_there : (n entry : ℕ) → entry < n → entry_index n entry ≡ Some entry
+entry_there n entry below = rw (lt-ltb entry n below) refl
+
 pub vector_index : (m place : ℕ) → place < m → slice_index (index_at (m ∷ []) place) 0 ≡ place
 vector_index m place inside = ap (λ p. p % m) (div-one place) ∙ mod-eq_of_lt inside
-
-pub shrunk : (shape : List ℕ) (k m : ℕ) → k < length shape → m ≤ slice_index shape k
-    → count_of (slice_set shape k m) ≡ count_of (take k shape) * m * count_of (drop (k + 1) shape)
-    → count_of shape ≡ count_of (take k shape) * slice_index shape k * count_of (drop (k + 1) shape)
-    → IsShape shape → IsShape (slice_set shape k m)
-shrunk shape k m axis shorter changed same lawful =
-    let n = slice_index shape k in
-    let n_most : n ≤ 2 ^ 30 = All-get_or (λ x. x ≤ 2 ^ 30) shape k 0 axis lawful.axes in
-    let fewer : count_of (take k shape) * m * count_of (drop (k + 1) shape) ≤ count_of (take k shape) * n * count_of (drop (k + 1) shape) =
-    mul-le-mul (mul-le-mul (omega arith) shorter) (omega arith) in
-    record {
-      rank = omega (arith, lawful.rank, length-set shape k m);
-      axes = All-set (λ x. x ≤ 2 ^ 30) shape k m (omega (arith, shorter, n_most)) lawful.axes;
-      count = omega (arith, changed, same, fewer, lawful.count);
-    }
 
 either_all : (c : Bool) (xs ys : List Elem) → All IsElementInRange xs → All IsElementInRange ys → All IsElementInRange (if c then xs else ys)
 either_all true xs ys h k = h

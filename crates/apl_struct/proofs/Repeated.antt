@@ -95,14 +95,3 @@ pub repeated_same : (n c i : ℕ) → i < n * c → slice_index (repeated_indexe
 repeated_same n c i inside =
     let here : 0 + i / c ≡ i / c = omega arith in
     ap (λ indexes. slice_index indexes i) (repeated_is (replicate n c)) ∙ repeats_same 0 n c i inside ∙ here
-
-once : (n c : ℕ) → n * c ≤ n → 0 < n * c → c ≡ 1
-once n zero most some = absurd (omega (arith, some))
-once n (suc zero) most some = refl
-once n (suc (suc c)) most some =
-    let two : 2 ≤ suc (suc c) = omega arith in
-    absurd (omega (arith, most, some, mul-le-mul_left n two))
-
--- each index once, or none
-pub repeated_front : (n c i : ℕ) → n * c ≤ n → i < n * c → slice_index (repeated_indexes (replicate n c)) i ≡ i
-repeated_front n c i most inside = repeated_same n c i inside ∙ ap (λ m. i / m) (once n c most (omega (arith, inside))) ∙ div-one i

@@ -7,6 +7,7 @@ pub mod Moving
 pub mod Compressing
 pub mod Expanding
 pub mod Replicating
+pub mod Scalars
 pub mod Searching
 pub mod Indexing
 pub mod Ordering

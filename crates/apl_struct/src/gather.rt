@@ -10,7 +10,6 @@ ghost use Rattle.apl_walk.specs.Gathered.{filled_at};
 ghost use Rattle.apl_walk.specs.Maps.{extent_of, walked};
 ghost use Rattle.apl_walk.specs.Walks.{maps_of};
 
-use crate::stretches::{stretch_at, write_elements};
 use crate::workers::Workers;
 use apl_answer::{Element, OpFault, array_of_elements, fill_array};
 use apl_array::{Array, Shape};
@@ -26,7 +25,7 @@ pub(crate) trait Source {
     // The place of the argument.
     ghost source: { Self → ℕ → Option ℕ };
 
-    ghost use Rattle.std.specs.Prelude.{Option, Some, ◌+◌};
+    ghost use Rattle.std.specs.Prelude.{Option};
 
     fn count(&self) -> usize
         ensures value { result ≡ place_count self.now }
@@ -35,17 +34,6 @@ pub(crate) trait Source {
     fn at(&self, place: usize) -> Option<usize>
         requires { place < place_count self.now }
         ensures { result ≡ source self.now place };
-
-    /// The first place of a stretch of the argument that the places from `from` up to before `to` begin
-    /// with, and its length: 0 where the source knows of no stretch there.
-    fn stretch(&self, from: usize, _to: usize) -> (usize, usize)
-        requires order { from ≤ _to }
-        requires within { _to ≤ place_count self.now }
-        ensures within { from + result.1 ≤ _to }
-        ensures each { (k : ℕ) → k < result.1 → source self.now (from + k) ≡ Some (result.0 + k) }
-    {
-        (from, 0)
-    }
 }
 
 /// No place takes any.
@@ -111,13 +99,6 @@ impl<T: Element, S: Source> Kernel for Gather<'_, T, S> {
         let taken = self.source.at(place);
         let element = element_or(self.elements, taken.unwrap_or(0), self.fill);
         Ok(if taken.is_some() { element } else { self.fill })
-    }
-
-    fn write_run(&self, from: usize, to: usize, room: &mut [T]) -> usize {
-        let (first, count) = self.source.stretch(from, to);
-        let elements = stretch_at(self.elements, first, count);
-        write_elements(elements, room);
-        from + elements.len()
     }
 }
 

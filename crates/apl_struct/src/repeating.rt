@@ -4,45 +4,14 @@ ghost use Rattle.std.specs.List.{list_all};
 ghost use Rattle.apl_array.specs.Axes.{place_number};
 ghost use Rattle.apl_array.specs.declared.shape.TheConstants.{MOST_ELEMENTS};
 ghost use Rattle.apl_pool.specs.declared.kernel.TheConstants.{MOST_PLACES};
-ghost use Rattle.apl_answer.specs.Arguments.{is_natural};
+ghost use Rattle.apl_answer.specs.Arguments.{is_bit, is_natural};
 ghost use Rattle.apl_struct.specs.Compressing.{repeated_indexes};
 
-use crate::along::Indexes;
 use apl_array::MOST_ELEMENTS;
-use apl_divisor::Divisor;
 use std::alloc::{AllocError, Global};
 
 /// How many times an index is put into a table at once, whatever its count is.
 const SPARE: usize = 4;
-
-/// Each index so many times in a row.
-#[derive(Drop)]
-pub(crate) struct Repeated {
-    pub extent: usize,
-    pub length: usize,
-    pub times: Divisor,
-    ghost most: { extent ≤ MOST_PLACES },
-    ghost length_most: { length ≤ MOST_PLACES },
-    ghost some: { 0 < times },
-    ghost all: { extent ≡ length * times },
-}
-
-impl Indexes for Repeated {
-    ghost use Rattle.std.specs.Prelude.{Some, ◌/◌};
-
-    ghost extent = { λ x. x.extent };
-
-    ghost reach = { λ x. x.length };
-
-    ghost index = { λ x line i. Some (i / x.times) };
-
-    #[inline(always)]
-    fn at(&self, _line: usize, i: usize) -> Option<usize> {
-        Some(self.times.quotient(i))
-    }
-
-    fn are_lawful(&self) {}
-}
 
 /// The sum of counts, or one more than the most elements where it passes that; none where a count is
 /// below 0, also behind others whose sum is past it.
@@ -67,6 +36,14 @@ pub(crate) fn capped_product(length: usize, count: usize) -> usize
     length.saturating_mul(count).min(MOST_ELEMENTS + 1)
 }
 
+/// Whether a number is 0 or 1.
+#[inline(always)]
+pub(crate) fn is_bit(number: i64) -> bool
+    ensures { result ≡ is_bit number }
+{
+    number == 0 || number == 1
+}
+
 /// Puts an index so many times behind others.
 #[inline(always)]
 fn push_times(table: &mut Vec<u32>, index: u32, times: usize)
@@ -79,20 +56,35 @@ fn push_times(table: &mut Vec<u32>, index: u32, times: usize)
     }
 }
 
-/// Puts an index as often behind others as its count says. It is put there a few times in any case, and what
-/// is past its count is taken away again: nothing hangs on a small count, which no processor can foresee.
+/// Puts an index as often behind others as its count says. It is put there `spare` times in any case, and what is past its count is
+/// taken away again: nothing hangs on a small count, which no processor can foresee.
 #[inline(always)]
-fn append_times(table: &mut Vec<u32>, index: u32, count: usize)
-    requires { vec_len table.old + count + SPARE ≤ vec_capacity table.old }
+fn append_times(table: &mut Vec<u32>, index: u32, count: usize, spare: usize)
+    requires { vec_len table.old + count + spare ≤ vec_capacity table.old }
     ensures items { table.new.items ≡ table.old.items ++ replicate count index }
     ensures capacity { vec_capacity table.new ≡ vec_capacity table.old }
 {
     let end = table.len() + count;
-    push_times(table, index, SPARE);
-    if count > SPARE {
-        push_times(table, index, count - SPARE);
+    push_times(table, index, spare);
+    if count > spare {
+        push_times(table, index, count - spare);
     }
     table.truncate(end);
+}
+
+/// The indexes of the ones, where each number is 0 or 1.
+pub(crate) fn kept_indexes(alloc: Global, bits: &[i64]) -> Result<Option<Vec<u32>>, AllocError>
+    requires most { length bits.now ≤ MOST_PLACES }
+    ensures { IfOk result (λ found. MatchOption found (list_all is_bit bits.now ≡ false) (λ table. (list_all is_bit bits.now ≡ true) × (table.items ≡ repeated_indexes (map place_number bits.now)))) }
+{
+    let mut table = Vec::with_capacity(alloc, bits.len() + 1)?;
+    for (i, bit) in bits.iter().enumerate() {
+        if !is_bit(*bit) {
+            return Ok(None);
+        }
+        append_times(&mut table, i as u32, *bit as usize, 1);
+    }
+    Ok(Some(table))
 }
 
 /// Each index as often as its count says, which is so often in all.
@@ -109,7 +101,7 @@ pub(crate) fn listed_indexes(
 {
     let mut table = Vec::with_capacity(alloc, all + SPARE)?;
     for (i, count) in counts.iter().enumerate() {
-        append_times(&mut table, i as u32, *count as usize);
+        append_times(&mut table, i as u32, *count as usize, SPARE);
     }
     Ok(table)
 }

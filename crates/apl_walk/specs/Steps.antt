@@ -1,5 +1,5 @@
 -- What the indexes of an axis of a result add to a place of the argument. No contract of a public function cites this file.
-use Rattle.std.specs.Prelude.{◌≡◌, ℕ, ℤ, pos, ◌+◌, ◌-◌, ◌*◌, ◌<◌, ◌-ℤ◌, ◌&&◌, nat_le, nat_lt, List, Option, Some, None, slice_index_or, if◌then◌else◌}
+use Rattle.std.specs.Prelude.{◌≡◌, ℕ, ℤ, pos, ◌+◌, ◌-◌, ◌*◌, ◌/◌, ◌<◌, ◌-ℤ◌, ◌&&◌, nat_le, nat_lt, List, Option, Some, None, slice_index_or, if◌then◌else◌}
 use Rattle.apl_array.specs.Axes.{place_number}
 
 -- both steps, where there are both
@@ -27,6 +27,14 @@ rotated_step extent by stride i = Some (wrapped extent (i + by) * stride)
 -- number i of a list, less the number of the first index
 abbrev pub listed_step : (first : ℤ) (stride : ℕ) (numbers : List ℤ) (i : ℕ) → Option ℕ
 listed_step first stride numbers i = Some (place_number (slice_index_or numbers i (pos 0) -ℤ first) * stride)
+
+-- an entry of a list, which is an index of an axis of that length where it is below it
+abbrev pub entry_step : (axis_length stride entry : ℕ) → Option ℕ
+entry_step axis_length stride entry = if nat_lt entry axis_length then Some (entry * stride) else None
+
+-- each index so many times
+abbrev pub repeated_step : (times stride i : ℕ) → Option ℕ
+repeated_step times stride i = Some (i / times * stride)
 
 -- a list begins with these values
 pub record BeginsWith {T : Type 0} (value : ℕ → T) (count : ℕ) (values : List T) : Type 0 where

@@ -85,6 +85,8 @@ impl<R: Threads + Sync, C: Cut + Sync, G: Gate + Sync> Workers<'_, R, C, G> {
             Map::Reversed(last) => self.gather_runs(shape, b, outer, *last),
             Map::Rotated(last) => self.gather_runs(shape, b, outer, *last),
             Map::Listed(last) => self.gather_runs(shape, b, outer, *last),
+            Map::ListedOrNone(last) => self.gather_runs(shape, b, outer, *last),
+            Map::Repeated(last) => self.gather_runs(shape, b, outer, *last),
         }
     }
 }

@@ -6,7 +6,9 @@ ghost use Rattle.apl_walk.specs.Maps.{extent_of, walked};
 ghost use Rattle.apl_walk.specs.declared.maps.TheConstants.{MOST_MAPS};
 
 use crate::listed::Listed;
+use crate::listed_or_none::ListedOrNone;
 use crate::map::AxisMap;
+use crate::repeated::Repeated;
 use crate::reversed::Reversed;
 use crate::rotated::Rotated;
 use crate::window::Window;
@@ -18,6 +20,8 @@ pub enum Map<'a> {
     Reversed(Reversed),
     Rotated(Rotated),
     Listed(Listed<'a>),
+    ListedOrNone(ListedOrNone<'a>),
+    Repeated(Repeated),
 }
 
 impl AxisMap for Map<'_> {
@@ -36,6 +40,8 @@ impl AxisMap for Map<'_> {
             Map::Reversed(map) => map.extent(),
             Map::Rotated(map) => map.extent(),
             Map::Listed(map) => map.extent(),
+            Map::ListedOrNone(map) => map.extent(),
+            Map::Repeated(map) => map.extent(),
         }
     }
 
@@ -45,6 +51,8 @@ impl AxisMap for Map<'_> {
             Map::Reversed(map) => map.reach(),
             Map::Rotated(map) => map.reach(),
             Map::Listed(map) => map.reach(),
+            Map::ListedOrNone(map) => map.reach(),
+            Map::Repeated(map) => map.reach(),
         }
     }
 
@@ -55,6 +63,8 @@ impl AxisMap for Map<'_> {
             Map::Reversed(map) => map.step(i),
             Map::Rotated(map) => map.step(i),
             Map::Listed(map) => map.step(i),
+            Map::ListedOrNone(map) => map.step(i),
+            Map::Repeated(map) => map.step(i),
         }
     }
 
@@ -72,6 +82,8 @@ impl AxisMap for Map<'_> {
             Map::Reversed(map) => map.write(elements, base, from, count, fill, room),
             Map::Rotated(map) => map.write(elements, base, from, count, fill, room),
             Map::Listed(map) => map.write(elements, base, from, count, fill, room),
+            Map::ListedOrNone(map) => map.write(elements, base, from, count, fill, room),
+            Map::Repeated(map) => map.write(elements, base, from, count, fill, room),
         }
     }
 }

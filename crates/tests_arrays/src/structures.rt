@@ -63,6 +63,8 @@ fn small_arrays(rt: HostRuntime) -> Result<(), Fail> {
         (walks::TURNED, 22),
         (walks::PARTS, 25),
         (walks::MOVED, 25),
+        (walks::REPEATED, 35),
+        (walks::EXPANDED, 17),
     ];
     check_small(&rt, rt.alloc(), &tables)?;
     one_grade();

@@ -48,8 +48,8 @@ returns-then-count-eq1 g c =
     row_answered a b c.args.axis c.replicate_all.result has list served judged
     (rw (natural, one) (subst (λ m. P m k (slice_index vector.shape k) (number_of (only_element a))) (sym count) by_axis))
 
-pub returns-in-Some-ones_among : goal.returns-in-Some-ones_among
-returns-in-Some-ones_among g c =
+pub returns-in-Some-2 : goal.returns-in-Some-2
+returns-in-Some-2 g c =
     let a = c.args.a.now in
     let b = c.args.b.now in
     let n = count_of a.shape in
@@ -71,7 +71,8 @@ returns-in-Some-ones_among g c =
     let served : (has_one_element a.shape || (n == slice_index vector.shape k)) ≡ true =
     ap (λ m. (m == 1) || (m == slice_index vector.shape k)) (sym count_is) ∙ ap (λ l. (c.count-count.result == 1) || (c.count-count.result == l)) (sym length_is) ∙ fits in
     let own_length : length own ≡ n = sym (ap length numbers) ∙ length-map a.ravel number_of ∙ c.shape.ensures.lawful.len in
-    let natural : list_all is_natural (numbers_of a) ≡ true = ap (list_all is_natural) numbers ∙ bits_natural own c.in-Some-ones_among.ensures.0 in
+    let kept = rw c.in-Some-2.is at c.in_ok-indexes.ensures in
+    let natural : list_all is_natural (numbers_of a) ≡ true = ap (list_all is_natural) numbers ∙ bits_natural own kept.0 in
     let P : ℕ → ℕ → List ℤ → Type 0 = λ m j ns. IsAnswerOf (replicated (as_vector m b) j (map place_number ns)) c.compress_each.result in
     let by_count = subst (λ m. P m c.in-Some.k own) own_length c.compress_each.ensures in
     let by_axis = subst (λ j. P n j own) k_is by_count in

@@ -1,40 +1,44 @@
-use Rattle.std.proofs.Common.{◌≡◌, ◌<◌, ℕ, List, Ok, true, length, map, slice_index, ap, sym, subst, ◌∙◌, arith}
-use Rattle.std.specs.Prelude.{slice_set, sum}
-use Rattle.std.proofs.lemmas.List.{length-map}
-use Rattle.std.proofs.lemmas.List.Elements.{All-get_or}
-use Rattle.apl_array.specs.Array.{element_at}
-use Rattle.apl_array.specs.Axes.{place_number}
-use Rattle.apl_array.specs.Shape.{is_shape}
-use Rattle.apl_answer.specs.Pointwise.{answer_of, IsAnswerOf}
-use Rattle.apl_struct.specs.Compressing.{as_vector, repeated_indexes}
-use Rattle.apl_struct.specs.Gathering.{along_axis}
-use Rattle.apl_struct.proofs.Repeated.{repeated_below, repeated_length}
+use Rattle.std.proofs.Common.{◌≡◌, ℕ, ◌*◌, ◌<◌, length, slice_index, ap, sym, ◌∙◌, arith}
+use Rattle.std.specs.Prelude.{slice_set, option_map}
+use Rattle.std.proofs.lemmas.List.{get_or-set_same}
+use Rattle.apl_struct.specs.Compressing.{as_vector}
+use Rattle.apl_struct.specs.Scalars.{entry_index}
+use Rattle.apl_struct.proofs.AsVectors.{vector_shape_is, vector_axis, entry_steps, entry_below}
 use Rattle.apl_struct.proofs.workers.Workers.gather_listed.Goals as goal
 
-pub invariant_of-gather_vector : goal.invariant_of-gather_vector
-invariant_of-gather_vector g c =
-    let counts = map place_number c.args.counts.now in
-    record {
-      most = c.requires.most;
-      below = λ k d inside.
-          let here : k < length (repeated_indexes counts) = rw c.requires.table at inside in
-          rw c.requires.table (omega (arith, length-map c.args.counts.now place_number, All-get_or (λ i. i < length counts) (repeated_indexes counts) k d here (repeated_below counts)));
-    }
+pub returns-then-count-eq0 : goal.returns-then-count-eq0
+returns-then-count-eq0 g c = λ element same.
+    c.gather.ensures element (λ place inside. absurd (omega (arith, inside, c.count.ensures.count, c.if-count-eq0.true)))
 
-pub gather_vector-requires-clause-shape : goal.gather_vector-requires-clause-shape
-gather_vector-requires-clause-shape g c = λ lifetimes outlive.
-    let counts = map place_number c.args.counts.now in
-    let vector = as_vector (length c.args.counts.now) c.args.b.now in
-    let sum_is : sum counts ≡ length c.args.table.now = sym (repeated_length counts) ∙ ap length (sym c.requires.table) in
-    c.requires.shape ∙ ap (slice_set vector.shape c.args.k) sum_is
-
-pub returns : goal.returns
-returns g c =
+pub vector_stride-stride-requires-clause-shape : goal.vector_stride-stride-requires-clause-shape
+vector_stride-stride-requires-clause-shape g c = λ n.
     let b = c.args.b.now in
     let k = c.args.k in
-    let counts = map place_number c.args.counts.now in
-    let vector = as_vector (length c.args.counts.now) b in
-    let lawful : is_shape (slice_set vector.shape k (sum counts)) ≡ true = ap is_shape (sym c.requires.shape) ∙ c.requires.lawful in
-    let P : List ℕ → Type 0 = λ s. IsAnswerOf (answer_of s (λ index. Ok (element_at vector (along_axis k (slice_index (repeated_indexes counts)) index))) b.kind) c.gather_vector.result in
-    rw lawful (subst P c.requires.shape
-    (c.gather_vector.ensures _ (λ line index inside. ap (λ table. element_at vector (along_axis k (slice_index table) index)) c.requires.table)))
+    let axis : k < length (as_vector n b).shape = rw (vector_shape_is n b) (vector_axis n k b.shape c.requires.axis) in
+    let m = length c.args.entries.now in
+    let at : slice_index c.args.shape k ≡ m = ap (λ s. slice_index s k) (c.requires.shape n) ∙ get_or-set_same (as_vector n b).shape k m 0 axis in
+    c.requires.shape n ∙ ap (slice_set (as_vector n b).shape k) (sym at)
+
+pub invariant_of-map : goal.invariant_of-map
+invariant_of-map g c =
+    let b = c.args.b.now in
+    let k = c.args.k in
+    let n = c.args.axis_length in
+    let axis : k < length (as_vector n b).shape = rw (vector_shape_is n b) (vector_axis n k b.shape c.requires.axis) in
+    let m = length c.args.entries.now in
+    let at : slice_index c.args.shape k ≡ m = ap (λ s. slice_index s k) (c.requires.shape n) ∙ get_or-set_same (as_vector n b).shape k m 0 axis in
+    record {
+      count_some = omega (arith, at, c.vector_stride-stride.ensures.some);
+      count_most = c.requires.most;
+      near = omega (arith, c.vector_stride-stride.ensures.near n, ap (λ l. l * c.vector_stride-stride.result) c.requires.length);
+    }
+
+pub returns : goal.returns
+returns g c = λ element same.
+    let n = c.args.axis_length in
+    let stride = c.vector_stride-stride.result in
+    let entries = c.args.entries.now in
+    c.gather_vector.ensures n (λ i. entry_index n (slice_index entries i)) element
+    (λ i inside. entry_steps n stride (slice_index entries i) ∙ ap (λ s. option_map (λ j. j * s) (entry_index n (slice_index entries i))) c.vector_stride-stride.ensures.stride)
+    (λ i inside. rw (sym c.requires.length) (entry_below n (slice_index entries i)))
+    same

@@ -11,6 +11,7 @@ use Rattle.apl_struct.specs.Compressing.{as_vector, repeated_indexes}
 use Rattle.apl_struct.specs.Gathering.{along_axis}
 use Rattle.apl_struct.proofs.AsVectors.{vector_shape_is, vector_axis}
 use Rattle.apl_struct.proofs.CappedAxes.{capped_shape, capped_exact, capped_most}
+use Rattle.apl_struct.proofs.Repeated.{repeated_length}
 use Rattle.apl_struct.proofs.workers.Workers.replicate_each.Goals as goal
 
 pub returns-in_err-shape : goal.returns-in_err-shape
@@ -68,14 +69,14 @@ listed_indexes-requires-clause-few g c =
     let made = c.in_ok-shape.ensures n in
     capped_most vector.shape k c.in-Some.extent axis made.0
 
-pub gather_listed-requires-clause-shape : goal.gather_listed-requires-clause-shape
-gather_listed-requires-clause-shape g c = λ lifetimes outlive.
+pub gather_repeated-requires-clause-shape : goal.gather_repeated-requires-clause-shape
+gather_repeated-requires-clause-shape g c = λ lifetimes outlive n.
     let b = c.args.b.now in
     let k = c.args.k in
-    let n = length c.args.counts.now in
     let counts = map place_number c.args.counts.now in
     let vector = as_vector n b in
     let axis : k < length vector.shape = rw (vector_shape_is n b) (vector_axis n k b.shape c.requires.axis) in
     let made = c.in_ok-shape.ensures n in
     let exact : c.in-Some.extent ≡ sum counts = capped_exact vector.shape k (sum counts) c.in-Some.extent axis c.in-Some.ensures.1 made.0 in
-    made.1 ∙ ap (slice_set vector.shape k) exact
+    let all : length c.as_slice.result.now ≡ sum counts = ap length (c.as_slice.ensures.value ∙ c.in_ok-indexes.ensures) ∙ repeated_length counts in
+    made.1 ∙ ap (slice_set vector.shape k) (exact ∙ sym all)

@@ -1,0 +1,63 @@
+use Rattle.std.proofs.Common.{◌≡◌, ◌<◌, ℕ, List, Ok, true, length, map, slice_index, ap, sym, subst, ◌∙◌, ⊎_elim, eq-eqb, arith, rules}
+use Rattle.std.specs.Prelude.{◌&&◌, ◌==◌, ◌≤◌, max, slice_set, sum, option_map}
+use Rattle.std.specs.List.{list_all}
+use Rattle.std.proofs.lemmas.List.{length-map, length-set, get_or-set_same}
+use Rattle.apl_array.specs.Axes.{place_number, has_axis, axis_of}
+use Rattle.apl_array.specs.Shape.{count_of, is_shape}
+use Rattle.apl_answer.specs.Arguments.{rank_of, is_list, is_numbers, is_bit, number_of, numbers_of}
+use Rattle.apl_answer.specs.Pointwise.{answer_of, IsAnswerOf}
+use Rattle.apl_struct.specs.Compressing.{as_vector, expanded_index}
+use Rattle.apl_struct.specs.Gathering.{element_or_fill, along_axis_or_none}
+use Rattle.apl_struct.specs.Scalars.{entry_index}
+use Rattle.apl_struct.proofs.AsVectors.{vector_shape_is, vector_axis}
+use Rattle.apl_struct.proofs.Bits.{entry_is}
+use Rattle.apl_struct.proofs.expanding.expand.Goals as goal
+
+pub returns : goal.returns
+returns g c =
+    let a = c.args.a.now in
+    let b = c.args.b.now in
+    let bits = c.in-Some-numbers_among.bits.now in
+    let counts = map place_number bits in
+    let vector = as_vector (sum counts) b in
+    let k = axis_of c.args.axis (rank_of vector) in
+    let j = c.in-Some.k in
+    let ones = c.in-Some-2.ones in
+    let entries = c.in-Some-2.entries.items in
+    let made = rw c.in-Some-2.is at c.in_ok-entries.ensures in
+    let rank : c.vector_rank.result ≡ rank_of vector = c.vector_rank.ensures.vector (sum counts) in
+    let has : has_axis c.args.axis (rank_of vector) ≡ true = ap (has_axis c.args.axis) (sym rank) ∙ c.in-Some.ensures.0 in
+    let k_is : j ≡ k = c.in-Some.ensures.1 ∙ ap (axis_of c.args.axis) rank in
+    let list : is_list a ≡ true = search rules in
+    let numbers : numbers_of a ≡ bits = c.in-Some-numbers_among.ensures.1 in
+    let judged : (is_numbers a && list_all is_bit (numbers_of a)) ≡ true = rw (c.in-Some-numbers_among.ensures.0, numbers) made.0 in
+    let bits_are : length bits ≡ count_of a.shape = sym (ap length numbers) ∙ length-map a.ravel number_of ∙ c.shape.ensures.lawful.len in
+    let ones_is : ones ≡ sum counts = made.3 in
+    let long : ones ≡ c.vector_length.result = search rules in
+    let length_is : c.vector_length.result ≡ slice_index vector.shape k =
+    c.vector_length.ensures.length ∙ ap (λ m. slice_index (as_vector m b).shape j) ones_is ∙ ap (slice_index vector.shape) k_is in
+    let fit : (sum counts == slice_index vector.shape k) ≡ true = eq-eqb (sum counts) (slice_index vector.shape k) (sym ones_is ∙ long ∙ length_is) in
+    let shape_at = c.in_ok-shape.ensures (sum counts) in
+    let lengths : slice_set vector.shape j (length bits) ≡ slice_set vector.shape k (count_of a.shape) =
+    ap (λ i. slice_set vector.shape i (length bits)) k_is ∙ ap (slice_set vector.shape k) bits_are in
+    let lawful : is_shape (slice_set vector.shape k (count_of a.shape)) ≡ true = ap is_shape (sym lengths) ∙ shape_at.0 in
+    let shape_is : c.in_ok-shape.shape ≡ slice_set vector.shape k (count_of a.shape) = shape_at.1 ∙ lengths in
+    let within : j < max 1 (rank_of b) =
+    ⊎_elim
+    (λ below. omega (arith, below, c.vector_rank.ensures.rank))
+    (λ none. absurd (omega (arith, none, c.vector_rank.ensures.rank)))
+    c.in-Some.ensures.2 in
+    let axis : j < length vector.shape = rw (vector_shape_is (sum counts) b) (vector_axis (sum counts) j b.shape within) in
+    let P : List ℕ → ℕ → Type 0 = λ s i. IsAnswerOf (answer_of s (λ index. Ok (element_or_fill vector (along_axis_or_none i (expanded_index counts) index))) b.kind) c.gather_listed.result in
+    let given : P c.in_ok-shape.shape j = c.gather_listed.ensures _ (λ index inside.
+    let i = slice_index index j in
+    let extent_is : slice_index c.in_ok-shape.shape j ≡ length bits = ap (λ s. slice_index s j) shape_at.1 ∙ get_or-set_same vector.shape j (length bits) 0 axis in
+    let wide : j < length c.in_ok-shape.shape = omega (arith, axis, ap length shape_at.1, length-set vector.shape j (length bits)) in
+    let here : i < length bits = omega (arith, inside.below j wide, extent_is) in
+    ap (λ n. element_or_fill (as_vector n b) (option_map (slice_set index j) (entry_index n (slice_index c.as_slice.result.now i)))) ones_is
+    ∙ ap (λ l. element_or_fill vector (option_map (slice_set index j) (entry_index (sum counts) (slice_index l i)))) c.as_slice.ensures.value
+    ∙ ap (λ e. element_or_fill vector (option_map (slice_set index j) (entry_index (sum counts) e))) (made.2 i here)
+    ∙ ap (λ o. element_or_fill vector (option_map (slice_set index j) o))
+    (entry_is counts i (omega (arith, here, length-map bits place_number)) (omega (arith, ones_is, long, c.vector_length.ensures.most)))) in
+    let by_shape = subst (λ s. P s j) shape_is given in
+    rw (judged, numbers, has, list, fit, lawful) (subst (P (slice_set vector.shape k (count_of a.shape))) k_is by_shape)

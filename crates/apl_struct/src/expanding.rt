@@ -1,0 +1,83 @@
+//! Axes with the next index at each one of some bits, and fills at the zeros.
+ghost use Rattle.std.specs.Prelude.{◌≡◌, true, false, ℕ, pos, ◌<◌, ◌≤◌, if◌then◌else◌, IfOk, MatchOption, map, sum, length, slice_index};
+ghost use Rattle.std.specs.List.{list_all};
+ghost use Rattle.std.specs.Ordering.{int_eq};
+ghost use Rattle.apl_array.specs.Axes.{place_number};
+ghost use Rattle.apl_pool.specs.declared.kernel.TheConstants.{MOST_PLACES};
+ghost use Rattle.apl_answer.specs.Arguments.{is_bit};
+ghost use Rattle.apl_answer.specs.Rows.{Answers};
+ghost use Rattle.apl_struct.specs.Compressing.{expand_row};
+ghost use Rattle.apl_struct.specs.Expanding.{expanded_entry};
+ghost use Rattle.apl_struct.specs.declared.expanding.TheConstants.{ABSENT};
+
+use crate::arguments::numbers_among;
+use crate::repeating::is_bit;
+use crate::scalars::{shape_with_axis, vector_length, vector_rank};
+use crate::workers::Workers;
+use apl_answer::OpFault;
+use apl_array::{Array, Axis};
+use apl_pool::{Cut, Gate, Pool};
+use std::alloc::{AllocError, Global};
+use std::thread::Threads;
+
+/// Stands in a list of entries where there is no index: more than any index.
+const ABSENT: u32 = u32::MAX;
+
+/// The entry at a bit before which there are so many ones. Both are at hand, and nothing hangs on a bit that no processor can foresee.
+#[inline(always)]
+fn entry_at(bit: i64, ones: u32) -> u32
+    ensures { result ≡ (if int_eq bit (pos 1) then ones else ABSENT) }
+{
+    if bit == 1 { ones } else { ABSENT }
+}
+
+/// How many ones are before each one, and `ABSENT` at each zero, and how many there are, where each number is 0 or 1.
+fn expanded_entries(alloc: Global, bits: &[i64]) -> Result<Option<(Vec<u32>, usize)>, AllocError>
+    requires most { length bits.now ≤ MOST_PLACES }
+    ensures { IfOk result (λ found. MatchOption found (list_all is_bit bits.now ≡ false) (λ made. (list_all is_bit bits.now ≡ true) × (length made.0.items ≡ length bits.now) × ((i : ℕ) → i < length bits.now → slice_index made.0.items i ≡ expanded_entry (map place_number bits.now) i) × (made.1 ≡ sum (map place_number bits.now)) × (made.1 ≤ length bits.now))) }
+{
+    let mut entries = Vec::with_capacity(alloc, bits.len())?;
+    let mut ones = 0;
+    for bit in bits {
+        if !is_bit(*bit) {
+            return Ok(None);
+        }
+        entries.push_reserved(entry_at(*bit, ones));
+        ones += *bit as u32;
+    }
+    Ok(Some((entries, ones as usize)))
+}
+
+/// An axis with the next index at each one of `a`, and a fill at each zero. A scalar serves as a
+/// vector of as many elements as there are ones. First comes whether the axis exists (`Index`), then
+/// that `a` is a vector or a scalar (`Rank`) of zeros and ones (`Domain`), as many ones as the axis is
+/// long (`Length`), and the result's shape (`Limit`).
+pub fn expand<R: Threads + Sync, C: Cut + Sync, G: Gate + Sync>(
+    rt: &R,
+    alloc: Global,
+    pool: &Pool<C, G>,
+    a: &Array,
+    b: &Array,
+    axis: Axis,
+) -> Result<Array, OpFault>
+    ensures { Answers (expand_row a.now b.now axis) result }
+{
+    let workers = Workers { rt, alloc, pool };
+    let Some(k) = axis.among(vector_rank(b)) else {
+        return Err(OpFault::Index);
+    };
+    if a.shape().rank() > 1 {
+        return Err(OpFault::Rank);
+    }
+    let Some(bits) = numbers_among(a) else {
+        return Err(OpFault::Domain);
+    };
+    let Some((entries, ones)) = expanded_entries(alloc, bits)? else {
+        return Err(OpFault::Domain);
+    };
+    if ones != vector_length(b, k, ones) {
+        return Err(OpFault::Length);
+    }
+    let shape = shape_with_axis(alloc, b, k, bits.len())?;
+    workers.gather_listed(shape, b, k, entries.as_slice(), ones)
+}

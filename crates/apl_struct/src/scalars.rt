@@ -1,0 +1,149 @@
+//! Results that differ from an argument along one axis, where a scalar serves as a vector.
+ghost use Rattle.std.specs.Prelude.{◌≡◌, ◌⊎◌, true, false, ℕ, ◌*◌, ◌<◌, ◌≤◌, List, Ok, IfOk, IfSome, MatchResult, Option, max, option_map, length, slice_index, slice_set};
+ghost use Rattle.apl_array.specs.declared.array.Elem.{Elem};
+ghost use Rattle.apl_array.specs.Shape.{IsIndexOf, count_of, is_shape};
+ghost use Rattle.apl_pool.specs.declared.kernel.TheConstants.{MOST_PLACES};
+ghost use Rattle.apl_answer.specs.Arguments.{rank_of};
+ghost use Rattle.apl_answer.specs.Pointwise.{answer_of, IsAnswerOf};
+ghost use Rattle.apl_struct.specs.Compressing.{as_vector};
+ghost use Rattle.apl_struct.specs.Gathering.{element_or_fill, along_axis_or_none};
+ghost use Rattle.apl_struct.specs.Scalars.{entry_index, vector_stride};
+ghost use Rattle.apl_walk.specs.Maps.{map_extent, map_step};
+
+use crate::along::steps_along;
+use crate::gather::Absent;
+use crate::workers::Workers;
+use apl_answer::OpFault;
+use apl_array::{Array, Shape, places_match_index_lists};
+use apl_pool::{Cut, Gate};
+use apl_walk::{ListedOrNone, Map, Walk};
+use std::alloc::{AllocError, Global};
+use std::thread::Threads;
+
+/// How many axes an array has where a scalar serves as a vector.
+pub(crate) fn vector_rank(b: &Array) -> usize
+    ensures rank { result ≡ max 1 (rank_of b.now) }
+    ensures vector { (n : ℕ) → result ≡ rank_of (as_vector n b.now) }
+{
+    b.shape().rank().max(1)
+}
+
+/// The length of axis `k` where a scalar serves as a vector of `n`.
+pub(crate) fn vector_length(b: &Array, k: usize, n: usize) -> usize
+    requires axis { k < max 1 (rank_of b.now) }
+    requires most { n ≤ MOST_PLACES }
+    ensures length { result ≡ slice_index (as_vector n b.now).shape k }
+    ensures most { result ≤ MOST_PLACES }
+{
+    if b.shape().rank() == 0 {
+        n
+    } else {
+        b.shape().axis(k)
+    }
+}
+
+/// The lengths with another one of axis `k`.
+fn lengths_with(alloc: Global, b: &Array, k: usize, length: usize) -> Result<Vec<usize>, AllocError>
+    requires { k < max 1 (rank_of b.now) }
+    ensures { IfOk result (λ lengths. (n : ℕ) → lengths.items ≡ slice_set (as_vector n b.now).shape k length) }
+{
+    if b.shape().rank() == 0 {
+        return [length].to_vec(alloc);
+    }
+    let mut lengths = b.shape().lengths().to_vec(alloc)?;
+    lengths[k] = length;
+    Ok(lengths)
+}
+
+/// The shape in which axis `k` has this length. It is refused where it passes a limit (`Limit`).
+pub(crate) fn shape_with_axis(
+    alloc: Global,
+    b: &Array,
+    k: usize,
+    length: usize,
+) -> Result<Shape, OpFault>
+    requires { k < max 1 (rank_of b.now) }
+    ensures { (n : ℕ) → MatchResult result
+        (λ shape. (is_shape (slice_set (as_vector n b.now).shape k length) ≡ true) × (shape ≡ slice_set (as_vector n b.now).shape k length))
+        (λ fault. (fault ≡ OpFault.Memory) ⊎ ((fault ≡ OpFault.Limit) × (is_shape (slice_set (as_vector n b.now).shape k length) ≡ false))) }
+{
+    let lengths = lengths_with(alloc, b, k, length)?;
+    Ok(Shape::new(alloc, lengths.as_slice())?)
+}
+
+/// How far apart neighbours along axis `k` are, which a result with elements may have in another length. Those of a scalar are its
+/// only element.
+pub(crate) fn vector_stride(b: &Array, shape: &Shape, k: usize) -> usize
+    requires axis { k < max 1 (rank_of b.now) }
+    requires shape { (n : ℕ) → shape.now ≡ slice_set (as_vector n b.now).shape k (slice_index shape.now k) }
+    requires some { 0 < count_of shape.now }
+    ensures stride { result ≡ vector_stride b.now k }
+    ensures some { 0 < slice_index shape.now k }
+    ensures near { (n : ℕ) → slice_index (as_vector n b.now).shape k * result ≤ MOST_PLACES }
+{
+    if b.shape().rank() == 0 {
+        return 0;
+    }
+    steps_along(b.shape(), shape, k).inner
+}
+
+impl<R: Threads + Sync, C: Cut + Sync, G: Gate + Sync> Workers<'_, R, C, G> {
+    /// The array of this shape with elements, which is the argument's but for axis `k`, with the elements at the indexes of that axis
+    /// that a map takes.
+    pub(crate) fn gather_vector(
+        &self,
+        shape: Shape,
+        b: &Array,
+        k: usize,
+        map: Map,
+    ) -> Result<Array, OpFault>
+        requires axis { k < max 1 (rank_of b.now) }
+        requires shape { (n : ℕ) → shape ≡ slice_set (as_vector n b.now).shape k (map_extent map) }
+        requires some { 0 < count_of shape }
+        ensures { (n : ℕ) (taken : ℕ → Option ℕ) (element : List ℕ → Elem)
+            → ((i : ℕ) → i < map_extent map.entry → map_step map.entry i ≡ option_map (λ j. j * vector_stride b.now k) (taken i))
+            → ((i : ℕ) → i < map_extent map.entry → IfSome (taken i) (λ j. j < slice_index (as_vector n b.now).shape k))
+            → ((index : List ℕ) → IsIndexOf shape index → element_or_fill (as_vector n b.now) (along_axis_or_none k taken index) ≡ element index)
+            → IsAnswerOf (answer_of shape (λ index. Ok (element index)) b.now.kind) result }
+    {
+        if b.shape().rank() > 0 {
+            return self.gather_mapped(shape, b, k, map);
+        }
+        places_match_index_lists();
+        // An array that was asked something is known to be lawful.
+        let _kind = b.kind();
+        let walk = Walk::new(self.alloc).with(map)?;
+        self.gather_walk(shape, b, walk)
+    }
+
+    /// The array of this shape, which is the argument's but for axis `k`, with the elements at the entries of a list that are below the
+    /// argument's length there, and the fill at the others.
+    pub(crate) fn gather_listed(
+        &self,
+        shape: Shape,
+        b: &Array,
+        k: usize,
+        entries: &[u32],
+        axis_length: usize,
+    ) -> Result<Array, OpFault>
+        requires axis { k < max 1 (rank_of b.now) }
+        requires length { axis_length ≡ slice_index (as_vector axis_length b.now).shape k }
+        requires shape { (n : ℕ) → shape ≡ slice_set (as_vector n b.now).shape k (length entries.now) }
+        requires most { length entries.now ≤ MOST_PLACES }
+        ensures { (element : List ℕ → Elem)
+            → ((index : List ℕ) → IsIndexOf shape index
+            → element_or_fill (as_vector axis_length b.now) (along_axis_or_none k (λ i. entry_index axis_length (slice_index entries.now i)) index) ≡ element index)
+            → IsAnswerOf (answer_of shape (λ index. Ok (element index)) b.now.kind) result }
+    {
+        if shape.count() == 0 {
+            return self.gather(shape, b, Absent { count: 0 });
+        }
+        let stride = vector_stride(b, &shape, k);
+        let map = ListedOrNone {
+            entries,
+            axis_length,
+            stride,
+        };
+        self.gather_vector(shape, b, k, Map::ListedOrNone(map))
+    }
+}
