@@ -3,23 +3,30 @@
 
 mod fronts;
 mod gathering;
+mod joined;
 mod joints;
+mod lined;
 mod listed;
 mod map;
 mod maps;
 mod reversed;
 mod rotated;
+mod round;
 mod runs;
+mod stretches;
 mod walk;
 mod window;
 mod workers;
 
 pub use gathering::gather;
+pub use joined::{Joined, Part};
+pub use lined::{ByLines, Lined};
 pub use listed::Listed;
 pub use map::{AxisMap, MOST_STEP};
 pub use maps::{MOST_MAPS, Map};
 pub use reversed::Reversed;
 pub use rotated::Rotated;
+pub use round::Round;
 pub use runs::Runs;
 pub use walk::Walk;
 pub use window::Window;
