@@ -25,6 +25,7 @@ mod rotating;
 mod searching;
 mod selecting;
 mod shapes;
+mod slices;
 mod sorting;
 mod stretches;
 mod taking;

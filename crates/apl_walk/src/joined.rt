@@ -15,7 +15,22 @@ pub struct Part<'a, T> {
     ghost most: { length ≤ MOST_PLACES },
 }
 
-impl<T: Copy> Part<'_, T> {
+impl<'a, T: Copy> Part<'a, T> {
+    /// So many elements in each line, past the last of which there is always the first one.
+    pub fn new(elements: &'a [T], fill: T, length: usize) -> Part<'a, T>
+        requires { length ≤ MOST_PLACES }
+        ensures elements { result.elements.now ≡ elements.now }
+        ensures past { result.past ≡ slice_index_or elements.now 0 fill }
+        ensures length { result.length ≡ length }
+    {
+        let past = element_or(elements, 0, fill);
+        Part {
+            elements,
+            past,
+            length,
+        }
+    }
+
     #[inline(always)]
     fn at(&self, line: usize, index: usize) -> T
         requires line { line ≤ MOST_PLACES }

@@ -17,13 +17,7 @@ pub(crate) fn element_or<T: Copy>(elements: &[T], place: usize, past: T) -> T
 
 /// Writes the elements from `first` on to the front of a room.
 #[inline(always)]
-pub(crate) fn write_or<T: Copy>(
-    elements: &[T],
-    past: T,
-    first: usize,
-    count: usize,
-    room: &mut [T],
-)
+pub(crate) fn write_or<T: Copy>(elements: &[T], past: T, first: usize, count: usize, room: &mut [T])
     requires room { count ≤ length room.old }
     ensures values { BeginsWith (λ k. slice_index_or elements.now (first + k) past) count room.new }
     ensures len { length room.new ≡ length room.old }
