@@ -73,7 +73,7 @@ pub(crate) fn joint_of(
     ensures { let left = slices_shape rank k a.now b.now in let right = slices_shape rank k b.now a.now in
         MatchResult result
         (λ joint. (is_same_shape (remove left k) (remove right k) ≡ true) × (joint.lengths.items ≡ slice_set left k (slice_index left k + slice_index right k))
-            × (joint.left ≡ slice_index left k) × (joint.right ≡ slice_index right k))
+        × (joint.left ≡ slice_index left k) × (joint.right ≡ slice_index right k))
         (λ fault. (fault ≡ Memory) ⊎ ((fault ≡ Length) × (is_same_shape (remove left k) (remove right k) ≡ false))) }
 {
     let mut lengths = slices_lengths(alloc, a, b, rank, k)?;
