@@ -1,9 +1,11 @@
 -- The elements of an argument by their places.
 use Rattle.std.proofs.Common.{◌≡◌, true, ℕ, pos, ◌<◌, ◌%◌, ◌==◌, List, [], ◌∷◌, length, map, get_or, sym, ap, ◌∙◌, arith}
-use Rattle.std.specs.Prelude.{Some, ◌||◌}
+use Rattle.std.specs.Prelude.{Some, ◌||◌, slice_index_or}
 use Rattle.std.proofs.lemmas.Bool.Decides.{nat_tests}
 use Rattle.std.proofs.Math.Nat.{mod-lt, mod-eq_of_lt}
-use Rattle.std.proofs.lemmas.List.{nil_from_length}
+use Rattle.std.proofs.Math.ListN.{get_or-map}
+use Rattle.std.proofs.lemmas.List.{nil_from_length, length-map}
+use Rattle.apl_array.specs.declared.array.Elem.{Elem}
 use Rattle.apl_array.specs.declared.array.Elem.TheVariants.{Int}
 use Rattle.apl_array.specs.Axes.{place_number}
 use Rattle.apl_array.specs.Shape.{count_of, place_of, index_at}
@@ -25,20 +27,14 @@ one_item (x ∷ xs) d one = ap (λ l. x ∷ l) (nil_from_length xs (omega arith)
 pub only_number : (b : ArrayValue) → IsArray b → size_of b ≡ 1 → map place_number (numbers_of b) ≡ place_number (number_of (only_element b)) ∷ []
 only_number b array one = ap (λ l. map place_number (map number_of l)) (one_item b.ravel (Int (pos 0)) (array.len ∙ one))
 
--- ---- places counted round
-
-pub round_within : (place size : ℕ) → place < size → place ≡ reshape_source size place
-round_within place size inside = sym (mod-eq_of_lt inside)
-
-pub round_of_one : (place size : ℕ) → size ≡ 1 → 0 ≡ reshape_source size place
-round_of_one place size one = let below : place % size < size = mod-lt place (omega arith) in omega arith
-
 pub some_elements : (b : ArrayValue) (count place : ℕ) → (has_elements b || (count == 0)) ≡ true → place < count → 0 < size_of b
 some_elements b count place fits inside = grind (arith, nat_tests)
 
-module _ (same : (shape : List ℕ) (place : ℕ) → place < count_of shape → place_of shape (index_at shape place) ≡ place) where
-  pub filled_round : (b : ArrayValue) (shape : List ℕ) (place taken : ℕ) → IsArray b → 0 < size_of b → place < count_of shape → taken ≡ reshape_source (size_of b) place
-      → filled_at b (Some taken) ≡ element_in b (reshape_source (size_of b) (place_of shape (index_at shape place)))
-  filled_round b shape place taken array some inside is =
-      ap (λ p. filled_at b (Some p)) is ∙ filled_in b (place % size_of b) array (mod-lt place some)
-      ∙ ap (λ p. element_in b (reshape_source (size_of b) p)) (sym (same shape place inside))
+-- the elements in row order, again and again
+pub element_round : {T : Type 0} (f : T → Elem) (b : ArrayValue) (xs : List T) (past fill : T) (extent place : ℕ) → b.ravel ≡ map f xs → length xs ≡ size_of b → 0 < size_of b
+    → slice_index_or xs (place % extent) past ≡ slice_index_or xs (place % length xs) fill → f (slice_index_or xs (place % extent) past) ≡ element_in b (reshape_source (size_of b) place)
+element_round f b xs past fill extent place ravel size some is =
+    let all : place % length xs < length xs = mod-lt place (omega (arith, size, some)) in
+    let longer : place % length xs < length (map f xs) = omega (arith, all, length-map xs f) in
+    ap f is ∙ sym (get_or-map f xs (place % length xs) fill) ∙ get_or-within (map f xs) (place % length xs) (f fill) (Int (pos 0)) longer
+    ∙ ap (λ r. get_or r (place % length xs) (Int (pos 0))) (sym ravel) ∙ ap (λ n. element_in b (place % n)) size

@@ -1,12 +1,12 @@
 -- The places of joined arrays.
 use Rattle.std.proofs.Common.{◌≡◌, true, false, pos, ℕ, zero, suc, ◌+◌, ◌-◌, ◌*◌, ◌/◌, ◌%◌, ◌<◌, ◌≤◌, ◌==◌, inl, inr, List, [], ◌∷◌, length, map, drop, take, slice_index, refl, sym, ap, subst, ◌∙◌, arith}
-use Rattle.std.specs.Prelude.{◌||◌, ◌&&◌, min, max, insert, remove, slice_set, slice_index_or, nat_le}
+use Rattle.std.specs.Prelude.{◌^◌, ◌||◌, ◌&&◌, max, insert, remove, slice_set, slice_index_or, nat_le, nat_lt}
 use Rattle.std.proofs.Math.Arith.{mod-mul}
-use Rattle.std.proofs.Math.Nat.{mod-eq_of_lt, div-eq_of_lt, mod-lt, min-eq_left, mul-le-mul_right}
+use Rattle.std.proofs.Math.Nat.{mod-lt, mul-le-mul_right}
 use Rattle.std.proofs.Math.ListN.{get_or-map}
 use Rattle.std.proofs.lemmas.Bool.{cases_Bool, cases_lt, eqb-true, eqb-false, eq-eqb, lt-ltb, le-ltb}
 use Rattle.std.proofs.lemmas.Bool.Decides.{nat_tests}
-use Rattle.std.proofs.lemmas.List.{nil_from_length, length-map, set-get_or, length-set, drop-set-lt, get_or-set_same}
+use Rattle.std.proofs.lemmas.List.{nil_from_length, set-get_or, length-set, drop-set-lt, get_or-set_same}
 use Rattle.std.specs.Cmp.Lexicographic.{same_text}
 use Rattle.std.proofs.lemmas.List.Edits.{length-insert, get_or-insert_at}
 use Rattle.apl_array.specs.declared.array.Elem.{Elem}
@@ -14,43 +14,20 @@ use Rattle.apl_array.specs.declared.array.Elem.TheVariants.{Int}
 use Rattle.apl_array.specs.Array.{ArrayValue, IsArray, element_at}
 use Rattle.apl_array.specs.Shape.{IsIndexOf, count_of, place_of, index_at}
 use Rattle.apl_answer.specs.Arguments.{rank_of, is_scalar, is_same_shape, fill_of}
-use Rattle.apl_struct.specs.declared.joining.Part.{Part}
-use Rattle.apl_struct.specs.declared.joining.Part.TheVariants.{Left, Right}
-use Rattle.apl_struct.specs.Joined.{value_or_last, part_value, joined_part, part_element}
+use Rattle.apl_walk.specs.Seams.{joined_value}
+use Rattle.apl_struct.specs.Joined.{joined_at}
 use Rattle.apl_struct.specs.Joining.{joined_rank, can_join, joined_kind, slices_shape, slices_source, catenated_element}
-use Rattle.apl_struct.proofs.Filled.{get_or-within}
-
--- ---- places in blocks
-
-pub part_left : (block left place taken : ℕ) → place % block < left → taken ≡ place / block * left + place % block → Left taken ≡ joined_part block left place
-part_left block left place taken first is = rw (lt-ltb (place % block) left first) (ap Left is)
-
-pub part_right : (block left place taken : ℕ) → left ≤ place % block → taken ≡ place / block * (block - left) + (place % block - left)
-    → Right taken ≡ joined_part block left place
-part_right block left place taken later is = rw (le-ltb (place % block) left later) (ap Right is)
-
-pub only_left : (block left place : ℕ) → place < block → place < left → Left place ≡ joined_part block left place
-only_left block left place inside first =
-    let rest : place % block ≡ place = mod-eq_of_lt inside in
-    let none : place / block ≡ 0 = div-eq_of_lt inside in
-    part_left block left place place (omega arith) (rw (none, rest) (omega arith))
-
-pub only_right : (block left place : ℕ) → place < block → left ≤ place → Right (place - left) ≡ joined_part block left place
-only_right block left place inside later =
-    let rest : place % block ≡ place = mod-eq_of_lt inside in
-    let none : place / block ≡ 0 = div-eq_of_lt inside in
-    part_right block left place (place - left) (omega arith) (rw (none, rest) (omega arith))
+use Rattle.apl_struct.proofs.Filled.{get_or-within, axis_facts}
 
 -- ---- values of one type as elements
 
-value_of_map : {X Y : Type 0} (f : X → Y) (xs : List X) (d : X) (e : Y) (place : ℕ) → f d ≡ e → value_or_last (map f xs) e place ≡ f (value_or_last xs d place)
-value_of_map f xs d e place fill =
-    let lengths : length (map f xs) ≡ length xs = length-map xs f in
-    rw (lengths, ← fill) (get_or-map f xs (min place (length xs - 1)) d)
-
-pub part_of_map : {X Y : Type 0} (f : X → Y) (xs ys : List X) (d : X) (e : Y) (part : Part) → f d ≡ e → part_value (map f xs) (map f ys) e part ≡ f (part_value xs ys d part)
-part_of_map f xs ys d e (Left place) fill = value_of_map f xs d e place fill
-part_of_map f xs ys d e (Right place) fill = value_of_map f ys d e place fill
+pub joined_of_map : {X Y : Type 0} (f : X → Y) (xs ys : List X) (x y : X) (left right line i : ℕ)
+    → joined_value (map f xs) (map f ys) (f x) (f y) left right line i ≡ f (joined_value xs ys x y left right line i)
+joined_of_map f xs ys x y left right line i =
+    elim (cases_Bool (nat_lt i left)) [
+      | inl first ↦ rw first (get_or-map f xs (line * left + i) x)
+      | inr later ↦ rw later (get_or-map f ys (line * right + (i - left)) y)
+    ]
 
 -- ---- the axes that an argument is taken for
 
@@ -91,20 +68,16 @@ place_without (x ∷ xs) (i ∷ is) (suc k) inside len first =
 
 -- ---- the element of a slice
 
-value_within : {T : Type 0} (xs : List T) (fill d : T) (place : ℕ) → place < length xs → value_or_last xs fill place ≡ slice_index_or xs place d
-value_within xs fill d place inside =
-    let capped : min place (length xs - 1) ≡ place = min-eq_left (omega arith) in
-    rw capped (get_or-within xs place fill d inside)
+only_value : {T : Type 0} (xs : List T) (fill d : T) (place : ℕ) → length xs ≡ 1 → slice_index_or xs place (slice_index_or xs 0 fill) ≡ slice_index_or xs 0 d
+only_value [] fill d place one = absurd (omega arith)
+only_value (x ∷ []) fill d zero one = refl
+only_value (x ∷ []) fill d (suc place) one = refl
+only_value (x ∷ y ∷ xs) fill d place one = absurd (omega arith)
 
-only_value : {T : Type 0} (xs : List T) (fill d : T) (place : ℕ) → length xs ≡ 1 → value_or_last xs fill place ≡ slice_index_or xs 0 d
-only_value xs fill d place one =
-    let last : min place (length xs - 1) ≡ 0 = grind (arith, nat_tests) in
-    rw last (get_or-within xs 0 fill d (omega arith))
-
-element_there : (own : ArrayValue) (source : List ℕ) (place : ℕ) (fill : Elem) → IsArray own → place_of own.shape source < count_of own.shape → place ≡ place_of own.shape source
-    → value_or_last own.ravel fill place ≡ element_at own source
-element_there own source place fill array within there =
-    ap (value_or_last own.ravel fill) there ∙ value_within own.ravel fill (Int (pos 0)) (place_of own.shape source) (omega (arith, array.len, within))
+element_there : (own : ArrayValue) (source : List ℕ) (place : ℕ) (past : Elem) → IsArray own → place_of own.shape source < count_of own.shape → place ≡ place_of own.shape source
+    → slice_index_or own.ravel place past ≡ element_at own source
+element_there own source place past array within there =
+    ap (λ p. slice_index_or own.ravel p past) there ∙ get_or-within own.ravel (place_of own.shape source) past (Int (pos 0)) (omega (arith, array.len, within))
 
 -- an argument that is no scalar and has not all axes has one less
 one_less : (own other rank : ℕ) → rank ≡ max 1 (max own other) → ((own == 0) || ((other == 0) || (nat_le own (other + 1) && nat_le other (own + 1)))) ≡ true
@@ -114,7 +87,7 @@ one_less own other rank is joins some not_all = grind (arith, nat_tests)
 module _ (below : (shape index : List ℕ) → IsIndexOf shape index → place_of shape index < count_of shape) where
   pub slices_element : (own other : ArrayValue) (rank k : ℕ) (index : List ℕ) (place : ℕ) (fill : Elem) → IsArray own → rank ≡ joined_rank own other → can_join own other ≡ true → k < rank
       → IsIndexOf (slices_shape rank k own other) index → place ≡ place_of (slices_shape rank k own other) index
-      → value_or_last own.ravel fill place ≡ element_at own (slices_source rank k own index)
+      → slice_index_or own.ravel place (slice_index_or own.ravel 0 fill) ≡ element_at own (slices_source rank k own index)
   slices_element own other rank k index place fill array is joins axis lawful there =
       elim (cases_Bool (is_scalar own)) [
         | inl scalar ↦
@@ -127,7 +100,7 @@ module _ (below : (shape index : List ℕ) → IsIndexOf shape index → place_o
               | inl all ↦
                   let here : IsIndexOf own.shape index = rw all at lawful in
                   let same : place ≡ place_of own.shape index = rw all at there in
-                  rw (some, all) (element_there own index place fill array (below own.shape index here) same)
+                  rw (some, all) (element_there own index place (slice_index_or own.ravel 0 fill) array (below own.shape index here) same)
               | inr not_all ↦
                   let less : rank_of own + 1 ≡ rank = one_less (rank_of own) (rank_of other) rank is joins some not_all in
                   let one : (rank_of own + 1 == rank) ≡ true = eq-eqb (rank_of own + 1) rank less in
@@ -139,7 +112,7 @@ module _ (below : (shape index : List ℕ) → IsIndexOf shape index → place_o
                   let first : slice_index index k ≡ 0 = omega (arith, here.below k (omega (arith, longer)), get_or-insert_at own.shape k 1 0 inside) in
                   let moved : place_of own.shape (remove index k) ≡ place_of wide index = place_without own.shape index k inside (here.len ∙ longer) first in
                   let within : place_of own.shape (remove index k) < count_of own.shape = omega (arith, moved, below wide index here, count_with own.shape k inside) in
-                  rw (some, not_all) (element_there own (remove index k) place fill array within (same ∙ sym moved))
+                  rw (some, not_all) (element_there own (remove index k) place (slice_index_or own.ravel 0 fill) array within (same ∙ sym moved))
             ]
       ]
 
@@ -184,11 +157,10 @@ left_place q n i inner x = omega arith
 distributed : (a b inner : ℕ) → (a + b) * inner ≡ a * inner + b * inner
 distributed a b inner = omega arith
 
-right_place : (q n m i inner x : ℕ) → n ≤ i → q * ((n + m) * inner - n * inner) + ((i * inner + x) - n * inner) ≡ (q * m + (i - n)) * inner + x
+right_place : (q n m i inner x : ℕ) → n ≤ i → q * (m * inner) + ((i * inner + x) - n * inner) ≡ (q * m + (i - n)) * inner + x
 right_place q n m i inner x later =
-    let width : (n + m) * inner - n * inner ≡ m * inner = omega arith in
     let split : i * inner ≡ (i - n) * inner + n * inner = ap (λ j. j * inner) (omega arith) ∙ distributed (i - n) n inner in
-    rw width (omega (arith, split))
+    omega (arith, split)
 
 module _ (below : (shape index : List ℕ) → IsIndexOf shape index → place_of shape index < count_of shape)
     (lawful : (shape : List ℕ) (place : ℕ) → place < count_of shape → IsIndexOf shape (index_at shape place))
@@ -201,8 +173,8 @@ module _ (below : (shape index : List ℕ) → IsIndexOf shape index → place_o
   -- the element that a place of the joined array takes is that of its index list
   pub joined_element : (a b : ArrayValue) (rank k place : ℕ) → IsArray a → IsArray b → rank ≡ joined_rank a b → can_join a b ≡ true → k < rank
       → is_same_shape (remove (slices_shape rank k a b) k) (remove (slices_shape rank k b a) k) ≡ true
-      → let left = slices_shape rank k a b in let n = slice_index left k in let all = n + slice_index (slices_shape rank k b a) k in let inner = count_of (drop (k + 1) left) in
-      place < count_of (slice_set left k all) → part_element a b (joined_part (all * inner) (n * inner) place) ≡ catenated_element rank k n a b (index_at (slice_set left k all) place)
+      → let left = slices_shape rank k a b in let n = slice_index left k in let m = slice_index (slices_shape rank k b a) k in let all = n + m in let inner = count_of (drop (k + 1) left) in
+      place < count_of (slice_set left k all) → joined_at a b (n * inner) (m * inner) place ≡ catenated_element rank k n a b (index_at (slice_set left k all) place)
   joined_element a b rank k place array_a array_b is joins axis others inside =
       let left = slices_shape rank k a b in
       let right = slices_shape rank k b a in
@@ -227,6 +199,9 @@ module _ (below : (shape index : List ℕ) → IsIndexOf shape index → place_o
       let rest : place % (all * inner) ≡ i * inner + x = mod-mul place some.0 some.1 ∙ ap (λ j. j * inner + x) (sym i_is) in
       let x_below : x < inner = mod-lt place some.1 in
       let is_index : IsIndexOf shape index = lawful shape place inside in
+      let past_a = slice_index_or a.ravel 0 fill in
+      let past_b = slice_index_or b.ravel 0 fill in
+      let whole = ap (λ w. joined_value a.ravel b.ravel past_a past_b (n * inner) (m * inner) (place / w) (place % w)) (sym (distributed n m inner)) in
       elim (cases_lt i n) [
         | inl first ↦
             let same : slice_set index k i ≡ index = set-get_or index k 0 in
@@ -235,8 +210,9 @@ module _ (below : (shape index : List ℕ) → IsIndexOf shape index → place_o
             let there : taken ≡ place_of left index =
             ap (λ r. q * (n * inner) + r) rest ∙ left_place q n i inner x ∙ sym (placed left k all place i axis_left inside) ∙ ap (place_of left) same in
             let early : place % (all * inner) < n * inner = rw rest (below_left i n inner x first x_below) in
-            let part = ap (part_element a b) (sym (part_left (all * inner) (n * inner) place taken early refl)) in
-            rw (lt-ltb i n first) (part ∙ slices_element below a b rank k index taken fill array_a is joins axis here there)
+            let part : joined_value a.ravel b.ravel past_a past_b (n * inner) (m * inner) q (place % (all * inner)) ≡ slice_index_or a.ravel taken past_a =
+            rw (lt-ltb (place % (all * inner)) (n * inner) early) refl in
+            rw (lt-ltb i n first) (whole ∙ part ∙ slices_element below a b rank k index taken fill array_a is joins axis here there)
         | inr later ↦
             let j = i - n in
             let moved = slice_set index k j in
@@ -244,45 +220,82 @@ module _ (below : (shape index : List ℕ) → IsIndexOf shape index → place_o
             let within : j < m = omega (arith, is_index.below k (omega (arith, length-set left k all)), get_or-set_same left k all 0 axis_left) in
             let here : IsIndexOf right moved = changed right index k all j axis_right index_right within in
             let inside_right : place < count_of (slice_set right k all) = rw shapes at inside in
-            let taken = q * (all * inner - n * inner) + (place % (all * inner) - n * inner) in
+            let taken = q * (m * inner) + (place % (all * inner) - n * inner) in
             let there : taken ≡ place_of right moved =
-            ap (λ r. q * (all * inner - n * inner) + (r - n * inner)) rest ∙ right_place q n m i inner x later
+            ap (λ r. q * (m * inner) + (r - n * inner)) rest ∙ right_place q n m i inner x later
             ∙ ap (λ w. (place / (all * w) * m + j) * w + place % w) (sym inners)
             ∙ sym (placed right k all place j axis_right inside_right) ∙ ap (λ s. place_of right (slice_set (index_at s place) k j)) (sym shapes) in
             let late : n * inner ≤ place % (all * inner) = rw rest (above_left i n inner x later) in
-            let part = ap (part_element a b) (sym (part_right (all * inner) (n * inner) place taken late refl)) in
-            rw (le-ltb i n later) (part ∙ slices_element below b a rank k moved taken fill array_b turned (joins_turned (rank_of a) (rank_of b) joins) axis here there)
+            let part : joined_value a.ravel b.ravel past_a past_b (n * inner) (m * inner) q (place % (all * inner)) ≡ slice_index_or b.ravel taken past_b =
+            rw (le-ltb (place % (all * inner)) (n * inner) late) refl in
+            rw (le-ltb i n later) (whole ∙ part ∙ slices_element below b a rank k moved taken fill array_b turned (joins_turned (rank_of a) (rank_of b) joins) axis here there)
       ]
 
-  -- the same where the blocks are told by the shape
-  pub joined_place : (a b : ArrayValue) (k left block width place : ℕ) (shape : List ℕ) → IsArray a → IsArray b → can_join a b ≡ true → k < joined_rank a b
+  -- the same where the lines are told by the shape
+  pub joined_place : (a b : ArrayValue) (k left right width others place : ℕ) (shape : List ℕ) → IsArray a → IsArray b → can_join a b ≡ true → k < joined_rank a b
       → let rank = joined_rank a b in is_same_shape (remove (slices_shape rank k a b) k) (remove (slices_shape rank k b a) k) ≡ true
-      → left ≡ slice_index (slices_shape rank k a b) k → shape ≡ slice_set (slices_shape rank k a b) k (left + slice_index (slices_shape rank k b a) k)
-      → block ≡ slice_index shape k * count_of (drop (k + 1) shape) → width ≡ left * count_of (drop (k + 1) shape) → place < count_of shape
-      → part_element a b (joined_part block width place) ≡ catenated_element rank k left a b (index_at shape place)
-  joined_place a b k left block width place shape array_a array_b joins axis others left_is shape_is block_is width_is inside =
+      → left ≡ slice_index (slices_shape rank k a b) k → right ≡ slice_index (slices_shape rank k b a) k → shape ≡ slice_set (slices_shape rank k a b) k (left + right)
+      → width ≡ left * count_of (drop (k + 1) shape) → others ≡ right * count_of (drop (k + 1) shape) → place < count_of shape
+      → joined_at a b width others place ≡ catenated_element rank k left a b (index_at shape place)
+  joined_place a b k left right width others place shape array_a array_b joins axis same left_is right_is shape_is width_is others_is inside =
       let rank = joined_rank a b in
       let own = slices_shape rank k a b in
       let n = slice_index own k in
-      let all = n + slice_index (slices_shape rank k b a) k in
+      let m = slice_index (slices_shape rank k b a) k in
       let inner = count_of (drop (k + 1) own) in
       let axis_own : k < length own = omega (arith, slices_length a b rank k refl axis) in
-      let shapes : shape ≡ slice_set own k all = shape_is ∙ ap (λ l. slice_set own k (l + slice_index (slices_shape rank k b a) k)) left_is in
-      let axes : slice_index shape k ≡ all = ap (λ s. slice_index s k) shapes ∙ get_or-set_same own k all 0 axis_own in
-      let inners : count_of (drop (k + 1) shape) ≡ inner = ap (λ s. count_of (drop (k + 1) s)) shapes ∙ ap count_of (drop-set-lt (k + 1) own k all (omega arith)) in
-      let blocks : block ≡ all * inner = block_is ∙ ap (λ l. l * count_of (drop (k + 1) shape)) axes ∙ ap (λ w. all * w) inners in
+      let shapes : shape ≡ slice_set own k (n + m) = shape_is ∙ ap (λ l. slice_set own k (l + right)) left_is ∙ ap (λ r. slice_set own k (n + r)) right_is in
+      let inners : count_of (drop (k + 1) shape) ≡ inner = ap (λ s. count_of (drop (k + 1) s)) shapes ∙ ap count_of (drop-set-lt (k + 1) own k (n + m) (omega arith)) in
       let widths : width ≡ n * inner = width_is ∙ ap (λ l. l * count_of (drop (k + 1) shape)) left_is ∙ ap (λ w. n * w) inners in
-      let here : place < count_of (slice_set own k all) = rw shapes at inside in
-      ap (λ w. part_element a b (joined_part w width place)) blocks ∙ ap (λ w. part_element a b (joined_part (all * inner) w place)) widths
-      ∙ joined_element a b rank k place array_a array_b refl joins axis others here
-      ∙ ap (λ l. catenated_element rank k l a b (index_at (slice_set own k all) place)) (sym left_is) ∙ ap (λ s. catenated_element rank k left a b (index_at s place)) (sym shapes)
+      let other_widths : others ≡ m * inner = others_is ∙ ap (λ l. l * count_of (drop (k + 1) shape)) right_is ∙ ap (λ w. m * w) inners in
+      let here : place < count_of (slice_set own k (n + m)) = rw shapes at inside in
+      ap (λ w. joined_at a b w others place) widths ∙ ap (λ w. joined_at a b (n * inner) w place) other_widths
+      ∙ joined_element a b rank k place array_a array_b refl joins axis same here
+      ∙ ap (λ l. catenated_element rank k l a b (index_at (slice_set own k (n + m)) place)) (sym left_is) ∙ ap (λ s. catenated_element rank k left a b (index_at s place)) (sym shapes)
 
 -- the axis of the joined shape
-pub joined_axis : (a b : ArrayValue) (k left : ℕ) (shape : List ℕ) (others : ℕ) → k < joined_rank a b → shape ≡ slice_set (slices_shape (joined_rank a b) k a b) k (left + others)
-    → (k < length shape) × (left ≤ slice_index shape k)
-joined_axis a b k left shape others axis is =
+pub joined_axis : (a b : ArrayValue) (k left right : ℕ) (shape : List ℕ) → k < joined_rank a b → shape ≡ slice_set (slices_shape (joined_rank a b) k a b) k (left + right)
+    → (k < length shape) × (left + right ≡ slice_index shape k)
+joined_axis a b k left right shape axis is =
     let own = slices_shape (joined_rank a b) k a b in
     let axis_own : k < length own = omega (arith, slices_length a b (joined_rank a b) k refl axis) in
-    let long : length shape ≡ length own = ap length is ∙ length-set own k (left + others) in
-    let at_k : slice_index shape k ≡ left + others = ap (λ s. slice_index s k) is ∙ get_or-set_same own k (left + others) 0 axis_own in
-    (omega arith, omega arith)
+    let long : length shape ≡ length own = ap length is ∙ length-set own k (left + right) in
+    let at_k : slice_index shape k ≡ left + right = ap (λ s. slice_index s k) is ∙ get_or-set_same own k (left + right) 0 axis_own in
+    (omega arith, sym at_k)
+
+-- the parts of a line on an axis that has elements
+pub record SeamFacts (left right inner : ℕ) : Type 0 where
+  pub left_fits : left * inner ≤ 2 ^ 30
+  pub right_fits : right * inner ≤ 2 ^ 30
+  pub some : 0 < left * inner + right * inner
+  pub most : left * inner + right * inner ≤ 2 ^ 30
+
+pub seam_facts : (left right n outer inner count : ℕ) → left + right ≡ n → count ≡ outer * n * inner → 0 < count → count ≤ 2 ^ 30 → SeamFacts left right inner
+seam_facts left right n outer inner count whole is some most =
+    let facts = axis_facts n n outer inner count is some (omega (arith, is, most)) in
+    let split : left * inner + right * inner ≡ n * inner = sym (distributed left right inner) ∙ ap (λ w. w * inner) whole in
+    record {
+      left_fits = omega (arith, split, facts.block_most);
+      right_fits = omega (arith, split, facts.block_most);
+      some = omega (arith, split, product_some n inner facts.length_some facts.inner_some);
+      most = omega (arith, split, facts.block_most);
+    }
+
+first_of_map : {T : Type 0} (f : T → Elem) (ravel : List Elem) (zs : List T) (fill : T) (e : Elem) → ravel ≡ map f zs → f fill ≡ e → slice_index_or ravel 0 e ≡ f (slice_index_or zs 0 fill)
+first_of_map f ravel zs fill e ravel_is is = ap (λ r. slice_index_or r 0 e) ravel_is ∙ ap (slice_index_or (map f zs) 0) (sym is) ∙ get_or-map f zs 0 fill
+
+-- the elements of two arguments of one type
+pub joined_elements : {T : Type 0} (f : T → Elem) (a b : ArrayValue) (xs ys : List T) (x y fill : T) (left right place : ℕ) → f fill ≡ fill_of (joined_kind a b)
+    → a.ravel ≡ map f xs → b.ravel ≡ map f ys → x ≡ slice_index_or xs 0 fill → y ≡ slice_index_or ys 0 fill
+    → joined_at a b left right place ≡ f (joined_value xs ys x y left right (place / (left + right)) (place % (left + right)))
+joined_elements f a b xs ys x y fill left right place fill_is ravel_a ravel_b x_is y_is =
+    let line = place / (left + right) in
+    let i = place % (left + right) in
+    let e = fill_of (joined_kind a b) in
+    let first_a : slice_index_or a.ravel 0 e ≡ f x = first_of_map f a.ravel xs fill e ravel_a fill_is ∙ ap f (sym x_is) in
+    let first_b : slice_index_or b.ravel 0 e ≡ f y = first_of_map f b.ravel ys fill e ravel_b fill_is ∙ ap f (sym y_is) in
+    ap (λ p. joined_value a.ravel b.ravel p (slice_index_or b.ravel 0 e) left right line i) first_a
+    ∙ ap (λ p. joined_value a.ravel b.ravel (f x) p left right line i) first_b
+    ∙ ap (λ r. joined_value r b.ravel (f x) (f y) left right line i) ravel_a
+    ∙ ap (λ r. joined_value (map f xs) r (f x) (f y) left right line i) ravel_b
+    ∙ joined_of_map f xs ys x y left right line i

@@ -1,8 +1,9 @@
 //! Shapes, elements in row order, other shapes, and numbers from the origin.
-ghost use Rattle.std.specs.Prelude.{◌≡◌, ◌≤◌, ◌<◌, ◌==◌, ◌⊎◌, ◌||◌, [], ◌∷◌, map, not, true, false, Ok, MatchResult};
+ghost use Rattle.std.specs.Prelude.{◌≡◌, ℕ, ◌≤◌, ◌<◌, ◌==◌, ◌⊎◌, ◌||◌, List, [], ◌∷◌, map, not, true, false, Ok, MatchResult};
 ghost use Rattle.std.specs.List.{list_all};
 ghost use Rattle.apl_array.specs.Axes.{place_number};
-ghost use Rattle.apl_array.specs.Shape.{is_shape, count_of, place_of};
+ghost use Rattle.apl_array.specs.declared.array.Elem.{Elem};
+ghost use Rattle.apl_array.specs.Shape.{is_shape, count_of, index_at};
 ghost use Rattle.apl_array.specs.Array.{element_in};
 ghost use Rattle.apl_array.specs.declared.shape.TheConstants.{MOST_ELEMENTS};
 ghost use Rattle.apl_pool.specs.declared.kernel.TheConstants.{MOST_PLACES};
@@ -13,11 +14,11 @@ ghost use Rattle.apl_answer.specs.Rows.{Answers};
 ghost use Rattle.apl_struct.specs.Building.{shape_of_row, ravel_row, reshape_source, reshape_row, iota_row};
 
 use crate::arguments::numbers_among;
-use crate::gather::Source;
 use crate::workers::Workers;
-use apl_answer::{OpFault, array_of_elements, fill_array};
+use apl_answer::{Element, OpFault, fill_array};
 use apl_array::{Array, MOST_AXES, MOST_ELEMENTS, Origin, Shape, places_match_index_lists};
 use apl_pool::{Cut, Fault, Gate, Kernel, Pool};
+use apl_walk::{ByLines, Round};
 use smallvec::SmallVec;
 use std::alloc::Global;
 use std::thread::Threads;
@@ -80,76 +81,44 @@ pub fn ravel<R: Threads + Sync, C: Cut + Sync, G: Gate + Sync>(
 ) -> Result<Array, OpFault>
     ensures { Answers (ravel_row b.now) result }
 {
+    let workers = Workers { rt, alloc, pool };
     let count = b.shape().count();
-    array_of_elements(rt, alloc, pool, vector_shape(alloc, count), b)
-}
-
-/// The elements in row order, again and again.
-#[derive(Drop)]
-struct Round {
-    count: usize,
-    size: u32,
-    ghost most: { count ≤ MOST_PLACES },
-    ghost some: { 0 < size },
-}
-
-impl Source for Round {
-    ghost use Rattle.std.specs.Prelude.{Some};
-
-    ghost place_count = { λ s. s.count };
-
-    ghost source = { λ s place. Some (reshape_source s.size place) };
-
-    fn count(&self) -> usize {
-        self.count
-    }
-
-    #[inline(always)]
-    fn at(&self, place: usize) -> Option<usize> {
-        Some((place as u32 % self.size) as usize)
-    }
-}
-
-/// The only element everywhere.
-#[derive(Drop)]
-pub(crate) struct Only {
-    pub count: usize,
-    ghost most: { count ≤ MOST_PLACES },
-}
-
-impl Source for Only {
-    ghost use Rattle.std.specs.Prelude.{Some};
-
-    ghost place_count = { λ s. s.count };
-
-    ghost source = { λ s place. Some 0 };
-
-    fn count(&self) -> usize {
-        self.count
-    }
-
-    #[inline(always)]
-    fn at(&self, _place: usize) -> Option<usize> {
-        Some(0)
-    }
+    workers.repeat(vector_shape(alloc, count), b)
 }
 
 impl<R: Threads + Sync, C: Cut + Sync, G: Gate + Sync> Workers<'_, R, C, G> {
-    /// The array of this shape with the elements of an argument in row order, again and again.
-    fn gather_round(&self, shape: Shape, b: &Array) -> Result<Array, OpFault>
-        requires { (has_elements b.now || (count_of shape == 0)) ≡ true }
-        ensures { IsAnswerOf (answer_of shape (λ index. Ok (element_in b.now (reshape_source (size_of b.now) (place_of shape index)))) b.now.kind) result }
+    fn repeat_elements<T: Element + Send + Sync>(
+        &self,
+        shape: Shape,
+        b: &Array,
+        elements: &[T],
+    ) -> Result<Array, OpFault>
+        requires kind { b.now.kind ≡ T.kind }
+        requires ravel { b.now.ravel ≡ map T.elem_of elements.now }
+        requires fits { (has_elements b.now || (count_of shape == 0)) ≡ true }
+        ensures { (element : List ℕ → Elem) → ((place : ℕ) → place < count_of shape → element_in b.now (reshape_source (size_of b.now) place) ≡ element (index_at shape place))
+            → IsAnswerOf (answer_of shape (λ index. Ok (element index)) b.now.kind) result }
     {
-        places_match_index_lists();
-        let count = shape.count();
-        let size = b.shape().count();
-        if count <= size {
-            array_of_elements(self.rt, self.alloc, self.pool, shape, b)
-        } else if size == 1 {
-            self.gather(shape, b, Only { count })
-        } else {
-            let size = size as u32;
-            self.gather(shape, b, Round { count, size })
+        // An array that was asked something is known to be lawful.
+        let _size = b.shape().count();
+        let kernel = ByLines::new(Round::new(elements, T::fill(), shape.count()));
+        fill_array(self.rt, self.alloc, self.pool, shape, &kernel)
+    }
+
+    /// The array of this shape with the elements of an argument in row order, again and again.
+    fn repeat(&self, shape: Shape, b: &Array) -> Result<Array, OpFault>
+        requires fits { (has_elements b.now || (count_of shape == 0)) ≡ true }
+        ensures { (element : List ℕ → Elem) → ((place : ℕ) → place < count_of shape → element_in b.now (reshape_source (size_of b.now) place) ≡ element (index_at shape place))
+            → IsAnswerOf (answer_of shape (λ index. Ok (element index)) b.now.kind) result }
+    {
+        match b.numbers() {
+            Some(numbers) => self.repeat_elements(shape, b, numbers),
+            None => {
+                let Some(characters) = b.characters() else {
+                    unreachable!()
+                };
+                self.repeat_elements(shape, b, characters)
+            }
         }
     }
 }
@@ -217,7 +186,8 @@ pub fn reshape<R: Threads + Sync, C: Cut + Sync, G: Gate + Sync>(
     if !can_fill(b.shape(), &shape) {
         return Err(OpFault::Length);
     }
-    workers.gather_round(shape, b)
+    places_match_index_lists();
+    workers.repeat(shape, b)
 }
 
 /// Numbers one after the other.

@@ -27,6 +27,7 @@ mod scalars;
 mod searching;
 mod selecting;
 mod shapes;
+mod slices;
 mod sorting;
 mod taking;
 mod workers;

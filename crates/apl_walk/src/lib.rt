@@ -3,7 +3,9 @@
 
 mod fronts;
 mod gathering;
+mod joined;
 mod joints;
+mod lined;
 mod listed;
 mod listed_or_none;
 mod map;
@@ -11,12 +13,16 @@ mod maps;
 mod repeated;
 mod reversed;
 mod rotated;
+mod round;
 mod runs;
+mod stretches;
 mod walk;
 mod window;
 mod workers;
 
 pub use gathering::gather;
+pub use joined::{Joined, Part};
+pub use lined::{ByLines, Lined};
 pub use listed::Listed;
 pub use listed_or_none::ListedOrNone;
 pub use map::{AxisMap, MOST_STEP};
@@ -24,6 +30,7 @@ pub use maps::{MOST_MAPS, Map};
 pub use repeated::Repeated;
 pub use reversed::Reversed;
 pub use rotated::Rotated;
+pub use round::Round;
 pub use runs::Runs;
 pub use walk::Walk;
 pub use window::Window;

@@ -65,6 +65,8 @@ fn small_arrays(rt: HostRuntime) -> Result<(), Fail> {
         (walks::MOVED, 25),
         (walks::REPEATED, 35),
         (walks::EXPANDED, 17),
+        (walks::JOINED, 67),
+        (walks::BUILT, 28),
     ];
     check_small(&rt, rt.alloc(), &tables)?;
     one_grade();

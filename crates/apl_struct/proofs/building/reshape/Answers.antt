@@ -22,5 +22,7 @@ returns g c =
     let shapes : c.in_ok-shape.shape ≡ shape = c.in_ok-shape.ensures.1 ∙ ap (map place_number) (sym numbers) in
     let lawful : is_shape shape ≡ true = ap (λ ns. is_shape (map place_number ns)) numbers ∙ c.in_ok-shape.ensures.0 in
     let fits : (has_elements b || (count_of shape == 0)) ≡ true = search rules in
-    let P : List ℕ → Type 0 = λ s. IsAnswerOf (answer_of s (λ index. Ok (element_in b (reshape_source (size_of b) (place_of s index)))) b.kind) c.gather_round.result in
-    answered row.checks (answer_of row.shape row.outcome row.kind) c.gather_round.result (list, (c.in-Some.ensures.0, (natural, (lawful, (fits, tt))))) (subst P shapes c.gather_round.ensures)
+    let P : List ℕ → Type 0 = λ s. IsAnswerOf (answer_of s (λ index. Ok (element_in b (reshape_source (size_of b) (place_of s index)))) b.kind) c.repeat.result in
+    let repeated : P c.in_ok-shape.shape =
+    c.repeat.ensures _ (λ place inside. ap (λ p. element_in b (reshape_source (size_of b) p)) (sym (c.places_match_index_lists.ensures.same_place c.in_ok-shape.shape place inside))) in
+    answered row.checks (answer_of row.shape row.outcome row.kind) c.repeat.result (list, (c.in-Some.ensures.0, (natural, (lawful, (fits, tt))))) (subst P shapes repeated)

@@ -4,7 +4,7 @@ use Rattle.apl_answer.specs.Arguments.{is_same_shape}
 use Rattle.apl_struct.specs.Joining.{slices_shape}
 use Rattle.apl_struct.proofs.Filled.{get_or-within}
 use Rattle.apl_struct.proofs.Joints.{slices_length, set_by_insert}
-use Rattle.apl_struct.proofs.joining.joint_of.Goals as goal
+use Rattle.apl_struct.proofs.slices.joint_of.Goals as goal
 
 pub returns : goal.returns
 returns c =
@@ -30,4 +30,5 @@ returns c =
           ∙ ap (λ n. insert (remove own k) k (n + c.remove-right.result)) lefts ∙ ap (λ n. insert (remove own k) k (slice_index own k + n)) rights
           ∙ sym (set_by_insert own k (slice_index own k + slice_index other k) axis),
       lefts,
+      rights,
     )

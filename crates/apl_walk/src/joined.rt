@@ -1,0 +1,103 @@
+//! Lines that each have a part of one argument and then a part of another.
+ghost use Rattle.std.specs.Prelude.{◌≡◌, ℕ, ◌+◌, ◌*◌, ◌<◌, ◌≤◌, length, slice_index_or};
+ghost use Rattle.apl_pool.specs.declared.kernel.TheConstants.{MOST_PLACES};
+ghost use Rattle.apl_walk.specs.Steps.{BeginsWith};
+
+use crate::lined::Lined;
+use crate::stretches::{element_or, write_or};
+
+/// An argument's part of each line: its next elements, and past the last of them always the same.
+#[derive(Drop)]
+pub struct Part<'a, T> {
+    pub elements: &'a [T],
+    pub past: T,
+    pub length: usize,
+    ghost most: { length ≤ MOST_PLACES },
+}
+
+impl<'a, T: Copy> Part<'a, T> {
+    /// So many elements in each line, past the last of which there is always the first one.
+    pub fn new(elements: &'a [T], fill: T, length: usize) -> Part<'a, T>
+        requires { length ≤ MOST_PLACES }
+        ensures elements { result.elements.now ≡ elements.now }
+        ensures past { result.past ≡ slice_index_or elements.now 0 fill }
+        ensures length { result.length ≡ length }
+    {
+        let past = element_or(elements, 0, fill);
+        Part {
+            elements,
+            past,
+            length,
+        }
+    }
+
+    #[inline(always)]
+    fn at(&self, line: usize, index: usize) -> T
+        requires line { line ≤ MOST_PLACES }
+        requires index { index < self.now.length }
+        ensures { result ≡ slice_index_or self.now.elements.now (line * self.now.length + index) self.now.past }
+    {
+        element_or(self.elements, line * self.length + index, self.past)
+    }
+
+    #[inline(always)]
+    fn write(&self, line: usize, from: usize, count: usize, room: &mut [T])
+        requires line { line ≤ MOST_PLACES }
+        requires within { from ≤ MOST_PLACES }
+        requires room { count ≤ length room.old }
+        ensures values { BeginsWith (λ k. slice_index_or self.now.elements.now (line * self.now.length + from + k) self.now.past) count room.new }
+        ensures len { length room.new ≡ length room.old }
+    {
+        let first = line * self.length + from;
+        write_or(self.elements, self.past, first, count, room);
+    }
+}
+
+/// The parts of two arguments, one after the other.
+#[derive(Drop)]
+pub struct Joined<'a, T> {
+    pub left: Part<'a, T>,
+    pub right: Part<'a, T>,
+    pub count: usize,
+    ghost some: { 0 < left.length + right.length },
+    ghost extent_most: { left.length + right.length ≤ MOST_PLACES },
+    ghost count_most: { count ≤ MOST_PLACES },
+}
+
+impl<T: Copy> Lined for Joined<'_, T> {
+    ghost use Rattle.apl_walk.specs.Seams.{joined_value};
+
+    type Out = T;
+
+    ghost place_count = { λ j. j.count };
+
+    ghost extent = { λ j. j.left.length + j.right.length };
+
+    ghost value = { λ j line index. joined_value j.left.elements.now j.right.elements.now j.left.past j.right.past j.left.length j.right.length line index };
+
+    fn count(&self) -> usize {
+        self.count
+    }
+
+    fn extent(&self) -> usize {
+        self.left.length + self.right.length
+    }
+
+    #[inline(always)]
+    fn at(&self, line: usize, index: usize) -> T {
+        if index < self.left.length {
+            self.left.at(line, index)
+        } else {
+            self.right.at(line, index - self.left.length)
+        }
+    }
+
+    #[inline(always)]
+    fn write(&self, line: usize, from: usize, count: usize, room: &mut [T]) {
+        let first = count.min(self.left.length.saturating_sub(from));
+        self.left.write(line, from, first, room);
+        let start = from.saturating_sub(self.left.length);
+        self.right
+            .write(line, start, count - first, &mut room[first..]);
+    }
+}
