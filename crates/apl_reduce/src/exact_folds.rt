@@ -35,9 +35,9 @@ pub fn limits_are_answered()
     places_match_index_lists();
 }
 
-/// A reduction by `+`, `-` or `×` of numbers is `Limit` exactly where the exact fold of some end of a
-/// line is outside the range, and else the exact fold of each line. So it is of an inner product, which
-/// is also `Limit` where some exact item is outside the range.
+/// A reduction by `+`, `-` or `×` of numbers is `Limit` exactly where some end of a line has an exact fold
+/// outside the range. Otherwise it has the exact fold of each line. So it is of an inner product, which is
+/// `Limit` also where some exact item is outside the range.
 pub fn exact_folds_decide()
     ensures list { (f : ScalarFunction) (exact : ℤ → ℤ → ℤ) (identity : ℤ) (numbers : List ℤ) → IsExactly f exact identity → All IsInRange numbers
         → IsRefusedOr Limit (HasEndOutside exact identity numbers) (Int (exact_fold_of exact identity numbers)) (reduction f (map Int numbers)) }
