@@ -1,5 +1,5 @@
 -- Reductions and inner products of number arrays by + - and ×.
-use Rattle.std.proofs.Common.{◌≡◌, ◌↔◌, ℕ, suc, ◌+◌, ◌<◌, ℤ, pos, true, false, Bool, List, [], ◌∷◌, ◌++◌, map, length, Result, Ok, Err, Some, get_or, refl, ap, sym, subst, ◌∙◌, inl, inr, ⊎_elim, arith}
+use Rattle.std.proofs.Common.{◌≡◌, ◌↔◌, ℕ, suc, ◌+◌, ◌<◌, ℤ, pos, true, false, Bool, List, [], ◌∷◌, ◌++◌, map, length, Result, Some, get_or, refl, ap, sym, subst, ◌∙◌, inl, inr, ⊎_elim, arith}
 use Rattle.std.specs.Prelude.{◌⊎◌, All, ◌||◌, ◌==◌, if◌then◌else◌, insert, remove, slice_index, take, drop, ◌-◌}
 use Rattle.std.specs.List.{range_with_len}
 use Rattle.std.proofs.lemmas.Bool.{cases_Bool, cases_lt}
@@ -23,7 +23,7 @@ use Rattle.apl_answer.specs.declared.fault.OpFault.{OpFault}
 use Rattle.apl_answer.specs.declared.fault.OpFault.TheVariants.{Limit as Refused}
 use Rattle.apl_answer.specs.Arguments.{number_of, only_element, is_scalar, rank_of}
 use Rattle.apl_answer.specs.Pointwise.{index_lists, all_or_first, answer_of}
-use Rattle.apl_answer.specs.Rows.{Check, Row, HavePassed, first_failure_or, result_of}
+use Rattle.apl_answer.specs.Rows.{Check, HavePassed, first_failure_or, result_of}
 use Rattle.apl_scalar.specs.Scalar.{exact, as_element}
 use Rattle.apl_reduce.specs.Folding.{pair_of, reduction}
 use Rattle.apl_reduce.specs.Partial.{exact_function}
@@ -31,8 +31,8 @@ use Rattle.apl_reduce.specs.Reducing.{items_along, reduced_kind, reduce_row}
 use Rattle.apl_reduce.specs.Products.{is_single, common_length, left_shape, right_shape, left_element, right_element, items_of, judged_reduction, inner_row}
 use Rattle.apl_reduce.specs.Refusals.{IsRefusedOr}
 use Rattle.apl_reduce.specs.ExactFolds.{IsExactly, exact_fold_of, HasEndOutside, line_at, HasLineOutside, exact_reduction, exact_item, exact_items, HasItemOutside, HasProductOutside, exact_inner_product}
-use Rattle.apl_reduce.proofs.Refusals.{IsAtSome, all_told}
-use Rattle.apl_reduce.proofs.ExactFolds.{IsExact, exactly, function_is, exact_told, reduction_told}
+use Rattle.apl_reduce.proofs.Refusals.{all_told}
+use Rattle.apl_reduce.proofs.ExactFolds.{exactly, function_is, exact_told, reduction_told}
 
 -- what `answers_told` says
 abbrev pub AnswerLaw : Type 1

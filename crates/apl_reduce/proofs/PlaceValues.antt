@@ -1,6 +1,6 @@
 -- The value of digits as a sum over their places.
 use Rattle.std.proofs.Common.{◌≡◌, ℕ, zero, suc, ◌+◌, ◌<◌, ◌≤◌, ℤ, pos, ◌+ℤ◌, ◌*ℤ◌, Bool, true, false, List, [], ◌∷◌, map, take, drop, length, get_or, add-one, refl, ap, sym, ◌∙◌, subst, inl, inr, ⊎_elim, arith}
-use Rattle.std.specs.Prelude.{◌⊎◌, ◌&&◌, Result, Ok, Err}
+use Rattle.std.specs.Prelude.{Ok}
 use Rattle.std.specs.List.{list_all, range_with_len}
 use Rattle.std.proofs.Math.IntN.{*ℤ-one}
 use Rattle.std.proofs.lemmas.Bool.{cases_Bool, cases_lt}

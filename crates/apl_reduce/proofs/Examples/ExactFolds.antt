@@ -1,5 +1,5 @@
 -- Worked examples of exact folds and of the values of digits.
-use Rattle.std.proofs.Common.{◌≡◌, ℤ, pos, ◌+ℤ◌, ◌-ℤ◌, ◌*ℤ◌, List, [], ◌∷◌, map, refl}
+use Rattle.std.proofs.Common.{◌≡◌, ℤ, pos, ◌+ℤ◌, ◌-ℤ◌, ◌*ℤ◌, [], ◌∷◌, map, refl}
 use Rattle.std.specs.List.{range_with_len}
 use Rattle.apl_reduce.specs.ExactFolds.{exact_fold_of, HasEndOutside, line_at, exact_reduction, exact_items, exact_inner_product}
 use Rattle.apl_reduce.specs.Digits.{exact_digit, exact_carry, place_values}
