@@ -7,6 +7,7 @@ pub mod OuterProducts
 pub mod InnerProducts
 pub mod Decoding
 pub mod Encoding
+pub mod ExactFolds
 
 -- numbers from 0 up
 abbrev pub numbers : List ℕ → List ℕ → ArrayValue

@@ -4,6 +4,9 @@ pub mod FoldedRows
 pub mod Reductions
 pub mod ReducedRows
 pub mod Ends
+pub mod Refusals
+pub mod ExactFolds
+pub mod ExactRows
 pub mod RowLimits
 pub mod Runs
 pub mod Casts
@@ -16,6 +19,8 @@ pub mod Values
 pub mod Numbers
 pub mod Encoded
 pub mod Digits
+pub mod OnlyDigits
+pub mod PlaceValues
 pub mod JudgedItems
 pub mod Joined
 pub mod OuterPlaces

@@ -26,7 +26,7 @@ next_times m k = ap (λ x. x *ℤ k) (+ℤ_one m) ∙ suc_ℤ-*ℤ m k
 back_times : (m k : ℤ) → (m -ℤ pos 1) *ℤ k ≡ m *ℤ k -ℤ k
 back_times m k = ap (λ x. x *ℤ k) (-ℤ_one m) ∙ pred_ℤ-*ℤ m k
 
-times_sum : (x y z : ℤ) → (x +ℤ y) *ℤ z ≡ x *ℤ z +ℤ y *ℤ z
+pub times_sum : (x y z : ℤ) → (x +ℤ y) *ℤ z ≡ x *ℤ z +ℤ y *ℤ z
 times_sum (pos zero) y z =
     let e : pos zero +ℤ y ≡ y = omega (arith, ints) in
     rw (e, zero-*ℤ z) (omega (arith, ints))
@@ -45,13 +45,13 @@ times_sum (negsuc (suc n)) y z =
     let own = pred_ℤ-*ℤ (negsuc n) z in
     ap (λ x. x *ℤ z) e ∙ back_times (negsuc n +ℤ y) z ∙ omega (arith, ints, before, own)
 
-times_difference : (x y z : ℤ) → (x -ℤ y) *ℤ z ≡ x *ℤ z -ℤ y *ℤ z
+pub times_difference : (x y z : ℤ) → (x -ℤ y) *ℤ z ≡ x *ℤ z -ℤ y *ℤ z
 times_difference x y z =
     let e : (x -ℤ y) +ℤ y ≡ x = omega (arith, ints) in
     let all : x *ℤ z ≡ (x -ℤ y) *ℤ z +ℤ y *ℤ z = ap (λ v. v *ℤ z) (sym e) ∙ times_sum (x -ℤ y) y z in
     omega (arith, ints, all)
 
-times_grouped : (x y z : ℤ) → (x *ℤ y) *ℤ z ≡ x *ℤ (y *ℤ z)
+pub times_grouped : (x y z : ℤ) → (x *ℤ y) *ℤ z ≡ x *ℤ (y *ℤ z)
 times_grouped (pos zero) y z = ap (λ x. x *ℤ z) (zero-*ℤ y) ∙ zero-*ℤ z ∙ sym (zero-*ℤ (y *ℤ z))
 times_grouped (pos (suc n)) y z =
     ap (λ x. x *ℤ z) (suc_ℤ-*ℤ (pos n) y) ∙ times_sum (pos n *ℤ y) y z ∙ ap (λ x. x +ℤ y *ℤ z) (times_grouped (pos n) y z) ∙ sym (suc_ℤ-*ℤ (pos n) (y *ℤ z))

@@ -1,9 +1,12 @@
 pub mod Folding
 pub mod Reducing
 pub mod Partial
+pub mod Refusals
+pub mod ExactFolds
 pub mod Products
 pub mod Decoding
 pub mod Encoding
+pub mod Digits
 pub mod Folded
 pub mod Fronts
 pub mod Carrying

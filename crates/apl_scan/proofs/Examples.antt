@@ -6,7 +6,9 @@ use Rattle.apl_array.specs.declared.function.ScalarFunction.TheVariants.{Plus, M
 use Rattle.apl_array.specs.Array.{ArrayValue, number_array, character_array}
 use Rattle.apl_answer.specs.declared.fault.OpFault.TheVariants.{Index, Domain, Limit}
 use Rattle.apl_answer.specs.Rows.{result_of}
+use Rattle.apl_summary.specs.ConsecutiveSums.{total}
 use Rattle.apl_scan.specs.Scanning.{scan_row}
+use Rattle.apl_scan.specs.RunningSums.{line_through, running_sums as exact_sums}
 
 abbrev numbers : List ℕ → List ℕ → ArrayValue
 numbers shape ns = number_array shape (map pos ns)
@@ -92,3 +94,17 @@ domain_first = refl
 
 limit_first : result_of (scan_row Divide (number_array (2 ∷ 2 ∷ []) (negative 9223372036854775808 ∷ negative 1 ∷ pos 6 ∷ pos 4 ∷ [])) Last) ≡ Err Limit
 limit_first = refl
+
+-- the same sums in exact numbers
+exact_sums_along_rows : exact_sums two_by_three 1 ≡ numbers (2 ∷ 3 ∷ []) (1 ∷ 3 ∷ 6 ∷ 4 ∷ 9 ∷ 15 ∷ [])
+exact_sums_along_rows = refl
+
+exact_sums_along_columns : exact_sums two_by_three 0 ≡ numbers (2 ∷ 3 ∷ []) (1 ∷ 2 ∷ 3 ∷ 5 ∷ 7 ∷ 9 ∷ [])
+exact_sums_along_columns = refl
+
+-- the third column of 2 3⍴⍳6, and the sum of its items
+third_column : line_through two_by_three 0 (1 ∷ 2 ∷ []) ≡ (pos 3 ∷ pos 6 ∷ [])
+third_column = refl
+
+sum_of_third_column : total (line_through two_by_three 0 (1 ∷ 2 ∷ [])) ≡ pos 9
+sum_of_third_column = refl

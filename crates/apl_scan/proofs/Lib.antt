@@ -7,3 +7,4 @@ pub mod ScannedLines
 pub mod ScannedPlaces
 pub mod ScannedRows
 pub mod ScanLimits
+pub mod RunningSums

@@ -1,4 +1,5 @@
 pub mod Scanning
+pub mod RunningSums
 pub mod Lines
 pub mod Lined
 pub mod Running

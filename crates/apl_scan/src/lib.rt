@@ -9,8 +9,10 @@ mod laws;
 mod lined;
 mod lines;
 mod running;
+mod running_sums;
 mod scanning;
 mod summarized;
 
 pub use laws::scanned_answers_are_within_limits;
+pub use running_sums::consecutive_sums_decide;
 pub use scanning::scan;
