@@ -1,16 +1,16 @@
 -- Scalars that serve as vectors.
-use Rattle.std.proofs.Common.{◌≡◌, pos, ℕ, ◌+◌, ◌*◌, ◌%◌, ◌<◌, true, false, Bool, List, [], ◌∷◌, length, take, drop, slice_index, refl, ap, sym, ◌∙◌, ⊎_elim, eq-eqb, arith}
-use Rattle.std.specs.Prelude.{nat_lt, slice_set, Option, Some, None, option_map, IfSome, ◌≤◌, ◌^◌, max, All, replicate, if◌then◌else◌}
-use Rattle.std.proofs.Math.Nat.{div-one, mod-eq_of_lt, mul-le-mul}
-use Rattle.std.proofs.lemmas.Bool.{eqb-true, cases_Bool, lt-ltb, ltb-true}
-use Rattle.std.proofs.lemmas.List.{get_or-replicate, length-set, nil_from_length}
-use Rattle.std.proofs.lemmas.List.Elements.{All-set, All-get_or, All-replicate}
+use Rattle.std.proofs.Common.{◌≡◌, pos, ℕ, ◌+◌, ◌*◌, ◌%◌, ◌<◌, true, false, Bool, List, [], ◌∷◌, length, slice_index, refl, ap, sym, ◌∙◌, ⊎_elim, eq-eqb, arith}
+use Rattle.std.specs.Prelude.{nat_lt, slice_set, Option, Some, None, option_map, IfSome, max, All, replicate, if◌then◌else◌}
+use Rattle.std.proofs.Math.Nat.{div-one, mod-eq_of_lt}
+use Rattle.std.proofs.lemmas.Bool.{cases_Bool, lt-ltb, ltb-true}
+use Rattle.std.proofs.lemmas.List.{get_or-replicate, nil_from_length}
+use Rattle.std.proofs.lemmas.List.Elements.{All-replicate}
 use Rattle.apl_array.specs.declared.array.Elem.{Elem}
 use Rattle.apl_array.specs.declared.array.Elem.TheVariants.{Int}
 use Rattle.apl_array.specs.Range.{IsElementInRange, HasNumbersInRange}
 use Rattle.apl_array.specs.Array.{ArrayValue, IsArray}
-use Rattle.apl_array.specs.Shape.{IsShape, count_of, index_at}
-use Rattle.apl_answer.specs.Arguments.{is_scalar, rank_of, fill_of, only_element}
+use Rattle.apl_array.specs.Shape.{count_of, index_at}
+use Rattle.apl_answer.specs.Arguments.{is_scalar, fill_of, only_element}
 use Rattle.apl_struct.specs.Compressing.{as_vector}
 use Rattle.apl_walk.specs.Gathered.{filled_at}
 use Rattle.apl_walk.specs.Steps.{and_step, entry_step}

@@ -1,7 +1,6 @@
 -- Lists of bits, as counts.
-use Rattle.std.proofs.Common.{◌≡◌, ℕ, ℤ, pos, negsuc, zero, suc, ◌+◌, ◌*◌, ◌<◌, true, false, Bool, int_eq, List, [], ◌∷◌, ◌++◌, map, take, length, slice_index, slice_index_or, refl, ap, sym, ◌∙◌, ⊎_elim, inl, inr, to_z, of_z, w64, arith}
-use Rattle.std.specs.Prelude.{◌≤◌, ◌^◌, ◌==◌, ◌&&◌, ◌||◌, ◌⊎◌, if◌then◌else◌, sum, replicate, slice_set}
-use Rattle.std.specs.List.{list_all}
+use Rattle.std.proofs.Common.{◌≡◌, ℕ, ℤ, pos, negsuc, zero, suc, ◌+◌, ◌*◌, ◌<◌, true, false, Bool, int_eq, List, [], ◌∷◌, ◌++◌, map, take, length, slice_index, slice_index_or, refl, ap, sym, ⊎_elim, inl, inr, arith}
+use Rattle.std.specs.Prelude.{◌≤◌, ◌^◌, ◌==◌, ◌||◌, ◌⊎◌, sum, replicate}
 use Rattle.std.proofs.lemmas.Bool.{true≢false, cases_Bool, eqb-true, le-ltb}
 use Rattle.std.proofs.lemmas.Bool.Decides.{Decides-int_eq}
 use Rattle.std.proofs.lemmas.List.Sums.{sum_by_more, sum_by-take-le}

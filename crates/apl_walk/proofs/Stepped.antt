@@ -1,11 +1,10 @@
 -- The elements that the indexes of an axis take.
-use Rattle.std.proofs.Common.{◌≡◌, ℕ, ℤ, pos, zero, suc, ◌+◌, ◌-◌, ◌*◌, ◌<◌, ◌≤◌, true, List, [], ◌∷◌, length, slice_index_or, refl, sym, ap, ◌∙◌, arith, inl, inr}
-use Rattle.std.specs.Prelude.{◌&&◌, nat_le, nat_lt, min, Option, Some, None, ◌-ℤ◌}
+use Rattle.std.proofs.Common.{◌≡◌, ℕ, zero, suc, ◌+◌, ◌-◌, ◌*◌, ◌<◌, ◌≤◌, List, [], ◌∷◌, length, slice_index_or, refl, sym, ap, ◌∙◌, arith, inl, inr}
+use Rattle.std.specs.Prelude.{min, Some}
 use Rattle.std.proofs.lemmas.Bool.{le-leb, le-ltb, lt-ltb, cases_lt}
 use Rattle.std.proofs.Math.Nat.{mul-le-mul_right}
-use Rattle.apl_array.specs.Axes.{place_number}
 use Rattle.apl_walk.specs.Gathered.{value_or}
-use Rattle.apl_walk.specs.Steps.{and_step, window_step, reversed_step, rotated_step, wrapped, listed_step, BeginsWith}
+use Rattle.apl_walk.specs.Steps.{and_step, window_step, reversed_step, rotated_step, wrapped, BeginsWith}
 
 pub get_or-within : {T : Type 0} (xs : List T) (k : ℕ) (c d : T) → k < length xs → slice_index_or xs k c ≡ slice_index_or xs k d
 get_or-within [] k c d inside = absurd (omega arith)

@@ -1,5 +1,5 @@
 use Rattle.std.proofs.Common.{◌≡◌, ◌<◌, ℕ, List, Ok, true, length, map, slice_index, ap, sym, subst, ◌∙◌, ⊎_elim, eq-eqb, arith, rules}
-use Rattle.std.specs.Prelude.{◌&&◌, ◌==◌, ◌≤◌, max, slice_set, sum, option_map}
+use Rattle.std.specs.Prelude.{◌&&◌, ◌==◌, max, slice_set, sum, option_map}
 use Rattle.std.specs.List.{list_all}
 use Rattle.std.proofs.lemmas.List.{length-map, length-set, get_or-set_same}
 use Rattle.apl_array.specs.Axes.{place_number, has_axis, axis_of}

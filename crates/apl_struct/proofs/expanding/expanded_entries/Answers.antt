@@ -1,6 +1,5 @@
-use Rattle.std.proofs.Common.{◌≡◌, pos, true, ◌+◌, ◌++◌, [], ◌∷◌, map, take, length, to_z, of_z, w64, nat_abs, slice_index, slice_index_or, int_eq, ap, sym, ◌∙◌, arith, rules}
-use Rattle.std.specs.Prelude.{◌&&◌, ◌==◌, ◌≤◌, if◌then◌else◌, sum}
-use Rattle.std.specs.List.{list_all}
+use Rattle.std.proofs.Common.{◌≡◌, pos, true, ◌++◌, [], ◌∷◌, to_z, of_z, w64, nat_abs, slice_index, slice_index_or, int_eq, ap, sym, ◌∙◌, arith, rules}
+use Rattle.std.specs.Prelude.{◌&&◌, ◌==◌, if◌then◌else◌}
 use Rattle.std.proofs.lemmas.List.Folds.{list_all_more}
 use Rattle.apl_array.specs.Axes.{place_number}
 use Rattle.apl_answer.specs.Arguments.{is_bit}

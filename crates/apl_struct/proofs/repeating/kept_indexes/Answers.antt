@@ -1,6 +1,5 @@
-use Rattle.std.proofs.Common.{◌≡◌, pos, true, ◌+◌, ◌++◌, map, length, replicate, to_z, of_z, w64, nat_abs, slice_index_or, ap, sym, ◌∙◌, arith, rules}
-use Rattle.std.specs.Prelude.{◌&&◌, ◌≤◌, vec_len}
-use Rattle.std.specs.List.{list_all}
+use Rattle.std.proofs.Common.{◌≡◌, pos, true, ◌++◌, length, replicate, to_z, of_z, w64, nat_abs, slice_index_or, ap, sym, ◌∙◌, arith, rules}
+use Rattle.std.specs.Prelude.{◌&&◌}
 use Rattle.std.proofs.lemmas.List.{length-append, length-replicate}
 use Rattle.std.proofs.lemmas.List.Folds.{list_all_more}
 use Rattle.apl_array.specs.Axes.{place_number}

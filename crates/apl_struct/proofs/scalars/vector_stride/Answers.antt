@@ -1,4 +1,4 @@
-use Rattle.std.proofs.Common.{◌≡◌, ◌<◌, true, false, [], ◌∷◌, length, slice_index, ap, ◌∙◌, eq-eqb, arith}
+use Rattle.std.proofs.Common.{◌≡◌, true, false, [], ◌∷◌, length, slice_index, ap, eq-eqb, arith}
 use Rattle.apl_array.specs.Shape.{count_of}
 use Rattle.apl_answer.specs.Arguments.{is_scalar}
 use Rattle.apl_struct.proofs.scalars.vector_stride.Goals as goal

@@ -1,4 +1,4 @@
-use Rattle.std.proofs.Common.{◌≡◌, ◌<◌, Err, false, length, map, ap, sym, ◌∙◌, ⊎_elim, inl, inr, rules}
+use Rattle.std.proofs.Common.{◌≡◌, Err, false, length, map, ap, sym, ◌∙◌, ⊎_elim, inl, inr, rules}
 use Rattle.apl_answer.specs.declared.fault.OpFault.TheVariants.{Memory, Limit}
 use Rattle.std.specs.Prelude.{◌⊎◌, slice_set, sum}
 use Rattle.apl_array.specs.Axes.{place_number}

@@ -1,7 +1,7 @@
-use Rattle.std.proofs.Common.{◌≡◌, ◌<◌, ℕ, pos, List, Ok, to_z, of_z, w64, subst, ap, ◌∙◌, rules}
+use Rattle.std.proofs.Common.{◌≡◌, ℕ, pos, List, Ok, to_z, of_z, w64, subst, ap, ◌∙◌, rules}
 use Rattle.apl_array.specs.declared.array.Elem.TheVariants.{Int}
 use Rattle.apl_array.specs.declared.array.Kind.TheVariants.{Number}
-use Rattle.apl_array.specs.Shape.{count_of, index_at}
+use Rattle.apl_array.specs.Shape.{index_at}
 use Rattle.apl_answer.specs.Pointwise.{answer_of, IsAnswerOf}
 use Rattle.apl_struct.proofs.workers.Workers.everywhere.Goals as goal
 

@@ -1,5 +1,5 @@
-use Rattle.std.proofs.Common.{◌≡◌, ◌+◌, ◌*◌, ◌/◌, ◌%◌, ◌<◌, [], ◌∷◌, true, false, length, slice_index, ap, sym, ◌∙◌, eq-eqb, arith}
-use Rattle.std.specs.Prelude.{slice_set, drop, IfSome, Some, option_map}
+use Rattle.std.proofs.Common.{◌≡◌, ◌*◌, ◌/◌, ◌%◌, ◌<◌, [], ◌∷◌, true, false, length, slice_index, ap, sym, ◌∙◌, eq-eqb, arith}
+use Rattle.std.specs.Prelude.{slice_set, IfSome, Some, option_map}
 use Rattle.std.proofs.Math.Nat.{div-one, mod-eq_of_lt}
 use Rattle.apl_array.specs.Shape.{count_of, index_at}
 use Rattle.apl_answer.specs.Arguments.{is_scalar}

@@ -12,7 +12,7 @@ use Rattle.apl_struct.specs.Compressing.{as_vector, repeated_indexes}
 use Rattle.apl_struct.specs.Gathering.{along_axis}
 use Rattle.apl_struct.proofs.AsVectors.{vector_shape_is, vector_axis}
 use Rattle.apl_struct.proofs.Bits.{sum_same}
-use Rattle.apl_struct.proofs.CappedAxes.{capped_shape, capped_exact, capped_most}
+use Rattle.apl_struct.proofs.CappedAxes.{capped_shape, capped_most}
 use Rattle.apl_struct.proofs.Naturals.{natural_is, cast_is}
 use Rattle.apl_struct.proofs.Repeated.{repeated_same}
 use Rattle.apl_struct.proofs.workers.Workers.replicate_all.Goals as goal

@@ -1,4 +1,4 @@
-use Rattle.std.proofs.Common.{◌≡◌, ℕ, ◌+◌, ◌-◌, ◌*◌, ◌<◌, length, slice_index_or, ap, arith, ◌∙◌}
+use Rattle.std.proofs.Common.{◌+◌, ◌*◌, slice_index_or, ap, arith, ◌∙◌}
 use Rattle.apl_walk.proofs.Stepped.{far_within, values_within}
 use Rattle.apl_walk.proofs.window.Window.write_within.Goals as goal
 
