@@ -1,5 +1,5 @@
 -- Values of a run of places, one more at a time.
-use Rattle.std.proofs.Common.{◌≡◌, ℕ, ℤ, ◌+◌, ◌<◌, List, length, slice_set, Result, Ok, ap, ◌∙◌, ⊎_elim, arith}
+use Rattle.std.proofs.Common.{◌≡◌, ℕ, ℤ, ◌+◌, ◌<◌, List, length, slice_set, Result, Ok, ap, sym, ◌∙◌, ⊎_elim, arith}
 use Rattle.std.proofs.lemmas.List.{length-set, get_or-set_other}
 use Rattle.std.proofs.lemmas.Grind.{get_or-set_at}
 use Rattle.std.proofs.lemmas.Bool.{cases_lt}

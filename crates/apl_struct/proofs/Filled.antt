@@ -2,6 +2,8 @@
 use Rattle.std.proofs.Common.{◌≡◌, get_or, pos, ℕ, zero, suc, ◌+◌, ◌*◌, ◌/◌, ◌%◌, ◌<◌, List, [], ◌∷◌, length, drop, slice_index, refl, ap, ◌∙◌, arith}
 use Rattle.std.specs.Prelude.{slice_set, Option, Some, None, option_map, IfSome, ◌≤◌, ◌^◌}
 use Rattle.std.proofs.lemmas.List.{nil_from_length}
+use Rattle.std.proofs.lemmas.Nat.{div-mul-add}
+use Rattle.std.proofs.Math.Nat.{le-mul_of_pos_right}
 use Rattle.apl_array.specs.declared.array.Elem.TheVariants.{Int}
 use Rattle.apl_array.specs.Array.{ArrayValue, IsArray, element_at}
 use Rattle.apl_array.specs.Shape.{IsIndexOf, count_of, place_of, index_at}
@@ -72,3 +74,10 @@ filled_scalar b index place array none inside =
     let only : place ≡ 0 = omega (arith, inside, one) in
     let first : place_of b.shape index ≡ 0 = ap (λ s. place_of s index) scalar in
     rw (only, first) (get_or-within b.ravel 0 (fill_of b.kind) (Int (pos 0)) (omega (arith, array.len, one)))
+
+-- how many index lists the axes to the left of one have
+pub outer_is : (outer m inner count : ℕ) → count ≡ outer * m * inner → 0 < m → 0 < inner → count / (m * inner) ≡ outer
+outer_is outer m inner count is some wide =
+    let block_some : 0 < m * inner = omega (arith, le-mul_of_pos_right m wide, some) in
+    let all : count ≡ outer * (m * inner) + 0 = omega (arith, is) in
+    rw all (div-mul-add outer (m * inner) 0 block_some)

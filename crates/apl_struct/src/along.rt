@@ -158,6 +158,7 @@ impl<R: Threads + Sync, C: Cut + Sync, G: Gate + Sync> Workers<'_, R, C, G> {
     {
         places_match_index_lists();
         changed_axis_has_place();
+        replaced_index_has_place();
         // An array that was asked something is known to be lawful.
         let _kind = b.kind();
         let Steps {

@@ -1,6 +1,6 @@
 use Rattle.std.proofs.Common.{◌≡◌, ℕ, ◌+◌, ◌*◌, ◌/◌, ◌%◌, ◌<◌, Some, ap, ◌∙◌, arith}
 use Rattle.std.proofs.lemmas.Result.{IfOk-weaker}
-use Rattle.std.proofs.Math.Nat.{mod-lt, mod-eq_of_lt, div-one, div-lt_iff_lt-mul, mul-lt-mul_of_pos_right}
+use Rattle.std.proofs.Math.Nat.{mod-lt, mod-eq_of_lt, div-one, div-lt_iff_lt-mul, le-mul_of_pos_right}
 use Rattle.apl_walk.specs.declared.walk.Walk.{Walk}
 use Rattle.apl_walk.specs.Steps.{and_step}
 use Rattle.apl_walk.specs.Maps.{step_of, map_extent, map_step, extent_of, walked}
@@ -37,7 +37,7 @@ returns-clause-place c =
     c.in_ok-walk-2.ensures.place place
     ∙ ap (λ s. and_step s (map_step m (place / extent_of (maps_of one) % e))) (first place)
     ∙ ap (λ n. and_step (Some (place % inner)) (map_step m (place / n % e))) line in
-    let some : 0 < e * inner = mul-lt-mul_of_pos_right {m = 0} {n = e} {k = inner} c.requires.some c.requires.inner in
+    let some : 0 < e * inner = omega (arith, le-mul_of_pos_right e c.requires.inner, c.requires.some) in
     let third : (place : ℕ) → place < outer * (e * inner) → step_of far (place / extent_of (maps_of two) % far.extent) ≡ Some (place / (e * inner) * block) = λ place inside.
     let below : place / (e * inner) < outer = (div-lt_iff_lt-mul {k = e * inner} {x = place} {y = outer} some).1 inside in
     ap (λ n. step_of far (place / n % far.extent)) lines

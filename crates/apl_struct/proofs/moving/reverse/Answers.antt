@@ -31,7 +31,7 @@ returns g c =
     let P : List ℕ → Type 0 = λ s. IsAnswerOf (answer_of s (λ index. Ok (element index)) b.kind) c.gather_mapped.result in
     let rank : c.rank.result ≡ rank_of b = c.rank.ensures.rank ∙ ap length c.shape.ensures.shape in
     let has : has_axis c.args.axis (rank_of b) ≡ true = ap (has_axis c.args.axis) (sym rank) ∙ c.in-Some.ensures.0 in
-    let axis : k ≡ axis_of c.args.axis (rank_of b) = c.in-Some.ensures.1.0 ∙ ap (axis_of c.args.axis) rank in
+    let axis : k ≡ axis_of c.args.axis (rank_of b) = c.in-Some.ensures.1 ∙ ap (axis_of c.args.axis) rank in
     rw (has, sym axis)
     (subst P shapes
     (c.gather_mapped.ensures (λ i. Some (n - 1 - i)) element
