@@ -4,3 +4,4 @@ pub mod Spelled
 pub mod Parsed
 pub mod Readings
 pub mod Total
+mod Examples
