@@ -2,13 +2,13 @@
 use Rattle.std.proofs.Common.{◌≡◌, true, ℕ, pos, ◌<◌, ◌%◌, ◌==◌, List, [], ◌∷◌, length, map, get_or, sym, ap, ◌∙◌, arith}
 use Rattle.std.specs.Prelude.{Some, ◌||◌, slice_index_or}
 use Rattle.std.proofs.lemmas.Bool.Decides.{nat_tests}
-use Rattle.std.proofs.Math.Nat.{mod-lt, mod-eq_of_lt}
+use Rattle.std.proofs.Math.Nat.{mod-lt}
 use Rattle.std.proofs.Math.ListN.{get_or-map}
 use Rattle.std.proofs.lemmas.List.{nil_from_length, length-map}
 use Rattle.apl_array.specs.declared.array.Elem.{Elem}
 use Rattle.apl_array.specs.declared.array.Elem.TheVariants.{Int}
 use Rattle.apl_array.specs.Axes.{place_number}
-use Rattle.apl_array.specs.Shape.{count_of, place_of, index_at}
+use Rattle.apl_array.specs.Shape.{count_of}
 use Rattle.apl_array.specs.Array.{ArrayValue, IsArray, element_in}
 use Rattle.apl_answer.specs.Arguments.{fill_of, has_elements, size_of, number_of, numbers_of, only_element}
 use Rattle.apl_struct.specs.Building.{reshape_source}

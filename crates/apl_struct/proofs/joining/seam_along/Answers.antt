@@ -1,4 +1,4 @@
-use Rattle.std.proofs.Common.{◌≡◌, ◌*◌, ◌∙◌, take, arith}
+use Rattle.std.proofs.Common.{◌≡◌, ◌*◌, take, arith}
 use Rattle.apl_array.specs.Shape.{count_of}
 use Rattle.apl_struct.proofs.Joints.{SeamFacts, seam_facts}
 use Rattle.apl_struct.proofs.joining.seam_along.Goals as goal

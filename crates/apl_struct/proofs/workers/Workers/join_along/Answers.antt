@@ -1,4 +1,4 @@
-use Rattle.std.proofs.Common.{◌≡◌, ◌<◌, arith}
+use Rattle.std.proofs.Common.{◌<◌, arith}
 use Rattle.apl_array.specs.Shape.{count_of}
 use Rattle.apl_struct.proofs.Joints.{joined_place, joined_axis}
 use Rattle.apl_struct.proofs.workers.Workers.join_along.Goals as goal
