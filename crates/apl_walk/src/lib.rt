@@ -17,7 +17,7 @@ mod workers;
 pub use gathering::gather;
 pub use listed::Listed;
 pub use map::{AxisMap, MOST_STEP};
-pub use maps::{MOST_MAPS, Map};
+pub use maps::{MOST_MAPS, Map, start_at};
 pub use reversed::Reversed;
 pub use rotated::Rotated;
 pub use runs::Runs;

@@ -63,6 +63,8 @@ fn small_arrays(rt: HostRuntime) -> Result<(), Fail> {
         (walks::TURNED, 22),
         (walks::PARTS, 25),
         (walks::MOVED, 25),
+        (walks::SELECTED, 40),
+        (walks::REPLACED, 16),
     ];
     check_small(&rt, rt.alloc(), &tables)?;
     one_grade();
