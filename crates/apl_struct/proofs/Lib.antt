@@ -12,8 +12,8 @@ pub mod Numbering
 pub mod Without
 pub mod Rotations
 pub mod Picks
-pub mod Choices
 pub mod Sources
+pub mod Selections
 pub mod Replacement
 pub mod Taken
 pub mod Permuted

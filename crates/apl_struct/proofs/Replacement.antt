@@ -1,8 +1,13 @@
 -- The number at each place is that of the last choice of its index list.
-use Rattle.std.proofs.Common.{◌≡◌, ℕ, pos, zero, suc, ◌+◌, ◌*◌, ◌<◌, ◌≤◌, Bool, true, false, List, [], ◌∷◌, length, Some, slice_index_or, refl, ap, sym, ◌∙◌, arith}
+use Rattle.std.proofs.Common.{◌≡◌, ℕ, pos, zero, suc, ◌+◌, ◌-◌, ◌*◌, ◌/◌, ◌%◌, ◌<◌, ◌≤◌, Bool, true, false, List, [], ◌∷◌, length, take, drop, Option, Some, None, slice_index, slice_index_or, refl, ap, sym, ◌∙◌, arith}
 use Rattle.std.specs.Prelude.{nat_eq, ◌||◌, if◌then◌else◌}
 use Rattle.std.specs.Cmp.Lexicographic.{same_text}
 use Rattle.std.proofs.lemmas.Bool.{eq-eqb, eqb-true, and_from}
+use Rattle.std.proofs.lemmas.Grind.{get_or-set_at}
+use Rattle.std.proofs.lemmas.List.{get_or-set_other}
+use Rattle.std.proofs.lemmas.Nat.{mod-mul-add, div-mul-add}
+use Rattle.std.proofs.Math.ListN.{set}
+use Rattle.std.proofs.Math.Nat.{mul-le-mul_right}
 use Rattle.apl_array.specs.declared.array.Elem.TheVariants.{Int}
 use Rattle.apl_array.specs.declared.array.Elem.{Elem}
 use Rattle.apl_array.specs.declared.axis.Origin.{Origin}
@@ -10,16 +15,67 @@ use Rattle.apl_array.specs.Shape.{IsIndexOf, count_of, place_of, index_at}
 use Rattle.apl_array.specs.Array.{ArrayValue, IsArray, element_at, element_in}
 use Rattle.apl_answer.specs.Arguments.{fill_of, has_one_element, is_same_shape}
 use Rattle.apl_struct.specs.Indexing.{Slots, selected_shape, select_source, last_choice, replaced_element}
-use Rattle.apl_struct.specs.Numbering.{last_number, element_numbered, value_step, IsReplacement}
+use Rattle.apl_walk.specs.declared.maps.Map.{Map}
+use Rattle.apl_walk.specs.declared.maps.Map.TheVariants.{Window, Reversed, Rotated, Listed}
+use Rattle.apl_walk.specs.Steps.{and_step}
+use Rattle.apl_walk.specs.Maps.{map_extent, map_step, walked}
+use Rattle.apl_struct.specs.Numbering.{IsReached, last_number, element_numbered, value_step, IsReplacement}
 use Rattle.apl_struct.specs.Selecting.{chosen_place, AreArrays, IsSelection}
 use Rattle.apl_struct.proofs.Filled.{get_or-within}
-use Rattle.apl_struct.proofs.Sources.{place_chosen, lawful_index}
+use Rattle.apl_struct.proofs.Sources.{place_chosen, lawful_index, rest_of}
 
 pub same_numbers : (f g : ℕ → ℕ) (step p n : ℕ) → ((m : ℕ) → m < n → f m ≡ g m) → last_number f step p n ≡ last_number g step p n
 same_numbers f g step p zero same = refl
 same_numbers f g step p (suc n) same =
     let deeper = same_numbers f g step p n (λ m inside. same m (omega arith)) in
     ap (λ q. if nat_eq q p then n * step + 1 else last_number f step p n) (same n (omega arith)) ∙ ap (λ r. if nat_eq (g n) p then n * step + 1 else r) deeper
+
+-- one more number, at its place
+pub number_more : (choice : ℕ → ℕ) (step n q v : ℕ) (numbers : List ℕ) → q < length numbers → q ≡ choice n → v ≡ n * step + 1
+    → ((p : ℕ) → p < length numbers → slice_index numbers p ≡ last_number choice step p n)
+    → (p : ℕ) → p < length numbers → slice_index (set numbers q v) p ≡ last_number choice step p (suc n)
+number_more choice step n q v numbers within is value before p inside = by_test (nat_eq (choice n) p) refl
+  where
+    by_test : (b : Bool) → nat_eq (choice n) p ≡ b → slice_index (set numbers q v) p ≡ (if b then n * step + 1 else last_number choice step p n)
+    by_test true same = get_or-set_at numbers q p v 0 (sym (is ∙ eqb-true (choice n) p same)) within ∙ value
+    by_test false other =
+        get_or-set_other numbers q p v 0 (λ same. let test : nat_eq (choice n) p ≡ true = eq-eqb (choice n) p (sym is ∙ sym same) in absurd cc) ∙ before p inside
+
+-- ---- lines of a walk
+
+pub line_reached : (last : Map) (outer : List Map) (line i : ℕ) → i < map_extent last → walked (last ∷ outer) (line * map_extent last + i) ≡ and_step (map_step last i) (walked outer line)
+line_reached last outer line i inside =
+    let e = map_extent last in
+    ap (λ j. and_step (map_step last j) (walked outer ((line * e + i) / e))) (mod-mul-add line e i inside)
+    ∙ ap (λ l. and_step (map_step last i) (walked outer l)) (div-mul-add line e i inside)
+
+pub map_some : (m : Map) → 0 < map_extent m
+map_some (Window w) = w.extent_some
+map_some (Reversed r) = r.some
+map_some (Rotated r) = r.some
+map_some (Listed l) = l.count_some
+
+pub first_reached : (last : Map) (outer : List Map) → walked (last ∷ outer) 0 ≡ and_step (map_step last 0) (walked outer 0)
+first_reached last outer =
+    let first : 0 ≡ 0 * map_extent last + 0 = omega arith in
+    ap (walked (last ∷ outer)) first ∙ line_reached last outer 0 0 (map_some last)
+
+-- the map of the last axis and the others, as a slice pattern gives them
+pub walked_parts : (maps : List Map) (last : Map) (place : ℕ) → 0 < length maps → last ≡ slice_index_or maps 0 last → walked (last ∷ take (length maps - 1) (drop 1 maps)) place ≡ walked maps place
+walked_parts [] last place some is = absurd (omega arith)
+walked_parts (m ∷ ms) last place some is =
+    ap (λ l. walked (l ∷ take (length (m ∷ ms) - 1) ms) place) is ∙ ap (λ os. walked (m ∷ os) place) (rest_of (m ∷ ms))
+
+pub line_within : (line i lines e : ℕ) → line < lines → i < e → line * e + i < e * lines
+line_within line i lines e below inside =
+    let next : line + 1 ≤ lines = omega arith in
+    omega (arith, mul-le-mul_right e next)
+
+pub not_reached : (n : ℕ) (step : Option ℕ) → IsReached n (and_step step None) → ⊥
+not_reached n (Some m) is = is
+not_reached n None is = is
+
+-- ---- values
 
 one_of_two : {X Y : Type 0} (f : X → Elem) (g : Y → Elem) (t : Bool) (x y : X) (u v : Y) → f x ≡ g u → f y ≡ g v → f (if t then x else y) ≡ g (if t then u else v)
 one_of_two f g true x y u v here there = here

@@ -1,6 +1,8 @@
 -- The place that the slots choose is that of the index list that they choose.
 use Rattle.std.proofs.Common.{◌≡◌, ℕ, pos, zero, suc, ◌+◌, ◌-◌, ◌*◌, ◌/◌, ◌%◌, ◌<◌, true, List, [], ◌∷◌, ◌++◌, length, take, drop, map, Option, Some, None, slice_index, slice_index_or, refl, ap, subst, sym, ◌∙◌, arith}
-use Rattle.std.proofs.Math.Nat.{div-div-eq-div-mul, mod-one, mod-lt, add_comm, mul_comm}
+use Rattle.std.specs.Prelude.{All, ◌≤◌, Bool}
+use Rattle.std.specs.List.{list_all}
+use Rattle.std.proofs.Math.Nat.{div-div-eq-div-mul, mod-one, mod-lt, add_comm, le-mul_of_pos_right}
 use Rattle.std.proofs.Math.Arith.{mod-mul}
 use Rattle.std.proofs.Math.Seq.{take-append_seam, drop-append_seam, take-length}
 use Rattle.std.proofs.Math.ListN.{get_or-map, length-map}
@@ -11,12 +13,14 @@ use Rattle.apl_array.specs.Axes.{from_origin, place_number, is_below}
 use Rattle.apl_array.specs.Shape.{IsIndexOf, count_of, place_of, index_at}
 use Rattle.apl_array.specs.Array.{ArrayValue, IsArray, element_at, element_in}
 use Rattle.apl_answer.specs.Arguments.{rank_of, number_of, numbers_of}
-use Rattle.apl_struct.specs.declared.selecting.Choice.{Choice}
 use Rattle.apl_struct.specs.Indexing.{Slots, are_slots_within, is_slot_within, slot_shape, selected_shape, select_source}
-use Rattle.apl_struct.specs.Selecting.{total_place, IsMore, slot_count, slot_index, chosen_place, AreArrays, AreChosen, IsSelection}
+use Rattle.apl_struct.specs.Selecting.{slot_count, slot_index, chosen_place, AreArrays, IsSelection}
+use Rattle.apl_walk.specs.declared.maps.Map.{Map}
 use Rattle.apl_walk.specs.Gathered.{filled_at}
+use Rattle.apl_walk.specs.Steps.{and_step}
+use Rattle.apl_walk.specs.Maps.{map_extent, map_step}
 use Rattle.apl_struct.proofs.Filled.{filled_within}
-use Rattle.apl_struct.proofs.Choices.{positive_left, positive_right}
+use Rattle.apl_struct.proofs.Taken.{pos_left, pos_right}
 use Rattle.apl_struct.proofs.Picks.{all_at, place_below}
 
 -- ---- places and index lists, whatever the place
@@ -39,8 +43,8 @@ index_joined (n ∷ ns) b p =
 place_of_index : (shape : List ℕ) (p : ℕ) → 0 < count_of shape → place_of shape (index_at shape p) ≡ p % count_of shape
 place_of_index [] p some = sym (mod-one p)
 place_of_index (n ∷ ns) p some =
-    ap (λ r. p / count_of ns % n * count_of ns + r) (place_of_index ns p (positive_right n (count_of ns) some))
-    ∙ sym (mod-mul p (positive_left n (count_of ns) some) (positive_right n (count_of ns) some))
+    ap (λ r. p / count_of ns % n * count_of ns + r) (place_of_index ns p (pos_right n (count_of ns) some))
+    ∙ sym (mod-mul p (pos_left n (count_of ns) some) (pos_right n (count_of ns) some))
 
 -- ---- slots
 
@@ -68,6 +72,54 @@ rest_of (x ∷ xs) =
     let fewer : length (x ∷ xs) - 1 ≡ length xs = omega arith in
     ap (λ n. take n xs) fewer ∙ take-length xs
 
+-- ---- axes
+
+count_shape : (n : ℕ) (s : Option ArrayValue) → count_of (slot_shape n s) ≡ slot_count n s
+count_shape n (Some s) = refl
+count_shape n None = omega arith
+
+count_more : (n : ℕ) (s : Option ArrayValue) (ns : List ℕ) (slots : Slots) → count_of (selected_shape (n ∷ ns) (s ∷ slots)) ≡ slot_count n s * count_of (selected_shape ns slots)
+count_more n s ns slots = count_joined (slot_shape n s) (selected_shape ns slots) ∙ ap (λ t. t * count_of (selected_shape ns slots)) (count_shape n s)
+
+-- how many index lists the slots choose along the first axis and along the others
+pub count_first : {X : Type 0} (f : X → Option ArrayValue) (slot : X) (shape : List ℕ) (slots : List X) → 0 < length shape → 0 < length slots → slot ≡ slice_index_or slots 0 slot
+    → count_of (selected_shape shape (map f slots)) ≡ slot_count (slice_index shape 0) (f slot) * count_of (selected_shape (drop 1 shape) (map f (drop 1 slots)))
+count_first f slot [] slots axis some is = absurd (omega arith)
+count_first f slot (n ∷ ns) [] axis some is = absurd (omega arith)
+count_first f slot (n ∷ ns) (x ∷ xs) axis some is =
+    count_more n (f x) ns (map f xs) ∙ ap (λ y. slot_count n (f y) * count_of (selected_shape ns (map f xs))) (sym is)
+
+-- ---- what holds of the axes behind the first one
+
+pub length_rest : {X Y : Type 0} (xs : List X) (ys : List Y) → 0 < length xs → 0 < length ys → length ys ≡ length xs → length (drop 1 ys) ≡ length (drop 1 xs)
+length_rest [] ys some other same = absurd (omega arith)
+length_rest (x ∷ xs) [] some other same = absurd (omega arith)
+length_rest (x ∷ xs) (y ∷ ys) some other same = omega (arith, same)
+
+pub length_fewer : {X : Type 0} (xs : List X) → length (drop 1 xs) ≤ length xs
+length_fewer [] = omega arith
+length_fewer (x ∷ xs) = omega arith
+
+pub all_rest : {X : Type 0} (f : X → Option ArrayValue) (p : Option ArrayValue → Bool) (xs : List X) → list_all p (map f xs) ≡ true → list_all p (map f (drop 1 xs)) ≡ true
+all_rest f p [] all = all
+all_rest f p (x ∷ xs) all = (and_parts (p (f x)) (list_all p (map f xs)) all).1
+
+pub within_rest : {X : Type 0} (origin : Origin) (f : X → Option ArrayValue) (ns : List ℕ) (xs : List X) → 0 < length ns → 0 < length xs
+    → are_slots_within origin ns (map f xs) ≡ true → are_slots_within origin (drop 1 ns) (map f (drop 1 xs)) ≡ true
+within_rest origin f [] xs axis some all = absurd (omega arith)
+within_rest origin f (n ∷ ns) [] axis some all = absurd (omega arith)
+within_rest origin f (n ∷ ns) (x ∷ xs) axis some all = (and_parts (is_slot_within origin n (f x)) (are_slots_within origin ns (map f xs)) all).1
+
+pub most_rest : (ns : List ℕ) (most : ℕ) → All (λ n. n ≤ most) ns → All (λ n. n ≤ most) (drop 1 ns)
+most_rest [] most all = all
+most_rest (n ∷ ns) most all = λ k d inside. all (suc k) d (omega arith)
+
+pub count_rest : (ns : List ℕ) (most : ℕ) → 0 < count_of ns → count_of ns ≤ most → (0 < count_of (drop 1 ns)) × (count_of (drop 1 ns) ≤ most)
+count_rest [] most some below = (some, below)
+count_rest (n ∷ ns) most some below =
+    let fewer : count_of ns ≤ count_of ns * n = le-mul_of_pos_right (count_of ns) (pos_left n (count_of ns) some) in
+    (pos_right n (count_of ns) some, omega (arith, fewer, below))
+
 module _ (origin : Origin) where
   -- the index list that the slots choose at a place of the selected shape
   abbrev pub chosen_index : List ℕ → Slots → ℕ → List ℕ
@@ -76,7 +128,7 @@ module _ (origin : Origin) where
   some_part : (s : ArrayValue) (rest : List ℕ) → 0 < count_of (s.shape ++ rest) → (0 < count_of s.shape) × (0 < count_of rest)
   some_part s rest some =
       let both : 0 < count_of s.shape * count_of rest = omega (arith, some, count_joined s.shape rest) in
-      (positive_left (count_of s.shape) (count_of rest) both, positive_right (count_of s.shape) (count_of rest) both)
+      (pos_left (count_of s.shape) (count_of rest) both, pos_right (count_of s.shape) (count_of rest) both)
 
   chosen_by_array : (n : ℕ) (ns : List ℕ) (s : ArrayValue) (slots : Slots) (p : ℕ) → 0 < count_of s.shape
       → chosen_index (n ∷ ns) (Some s ∷ slots) p ≡ slot_index origin (Some s) (p / count_of (selected_shape ns slots) % count_of s.shape) ∷ chosen_index ns slots p
@@ -90,7 +142,7 @@ module _ (origin : Origin) where
   place_chosen [] slots p len some = refl
   place_chosen (n ∷ ns) [] p len some = absurd (omega arith)
   place_chosen (n ∷ ns) (None ∷ slots) p len some =
-      ap (λ r. p / count_of (selected_shape ns slots) % n * count_of ns + r) (place_chosen ns slots p (omega arith) (positive_right n (count_of (selected_shape ns slots)) some))
+      ap (λ r. p / count_of (selected_shape ns slots) % n * count_of ns + r) (place_chosen ns slots p (omega arith) (pos_right n (count_of (selected_shape ns slots)) some))
   place_chosen (n ∷ ns) (Some s ∷ slots) p len some =
       let parts = some_part s (selected_shape ns slots) some in
       ap (place_of (n ∷ ns)) (chosen_by_array n ns s slots p parts.0)
@@ -109,9 +161,9 @@ module _ (origin : Origin) where
   index_chosen [] (s ∷ slots) p len some arrays within = absurd (omega arith)
   index_chosen (n ∷ ns) [] p len some arrays within = absurd (omega arith)
   index_chosen (n ∷ ns) (None ∷ slots) p len some arrays within =
-      let axis = positive_left n (count_of (selected_shape ns slots)) some in
+      let axis = pos_left n (count_of (selected_shape ns slots)) some in
       one_more_index n (p / count_of (selected_shape ns slots) % n) ns (chosen_index ns slots p) (mod-lt (p / count_of (selected_shape ns slots)) axis)
-      (index_chosen ns slots p (omega arith) (positive_right n (count_of (selected_shape ns slots)) some) arrays within)
+      (index_chosen ns slots p (omega arith) (pos_right n (count_of (selected_shape ns slots)) some) arrays within)
   index_chosen (n ∷ ns) (Some s ∷ slots) p len some arrays within =
       let parts = some_part s (selected_shape ns slots) some in
       let i = p / count_of (selected_shape ns slots) % count_of s.shape in
@@ -126,31 +178,24 @@ module _ (origin : Origin) where
       (one_more_index n (slot_index origin (Some s) i) ns (chosen_index ns slots p) (place_below n (from_origin origin number) below)
       (index_chosen ns slots p (omega arith) parts.1 arrays.1 tests.1))
 
-  -- ---- choices
-
-  count_shape : (n : ℕ) (s : Option ArrayValue) → count_of (slot_shape n s) ≡ slot_count n s
-  count_shape n (Some s) = refl
-  count_shape n None = omega arith
-
-  pub one_more_slot : {X : Type 0} (f : X → Option ArrayValue) (slot : X) (shape : List ℕ) (slots : List X) (before after : List Choice) (stride : ℕ) → 0 < length shape → 0 < length slots → slot ≡ slice_index_or slots 0 slot
-      → AreChosen origin (drop 1 shape) (map f (drop 1 slots)) before → stride ≡ count_of (drop 1 shape)
-      → IsMore before after (slot_count (slice_index shape 0) (f slot)) (λ i. slot_index origin (f slot) i * stride)
-      → AreChosen origin shape (map f slots) after
-  one_more_slot f slot [] slots before after stride axis some is chosen stride_is added = absurd (omega arith)
-  one_more_slot f slot (n ∷ ns) [] before after stride axis some is chosen stride_is added = absurd (omega arith)
-  one_more_slot {X = X} f slot (n ∷ ns) (x ∷ xs) before after stride axis some is chosen stride_is added =
-      let P : X → Type 0 = λ y. IsMore before after (slot_count n (f y)) (λ i. slot_index origin (f y) i * stride) in
-      let more : P x = subst P is added in
-      let rest = selected_shape ns (map f xs) in
-      let m = slot_count n (f x) in
-      record {
-        count = more.count ∙ ap (λ t. t * m) chosen.count ∙ mul_comm (count_of rest) m ∙ ap (λ t. t * count_of rest) (sym (count_shape n (f x))) ∙ sym (count_joined (slot_shape n (f x)) rest);
-        place = λ p. more.place p ∙ ap (λ q. total_place before p + slot_index origin (f x) (p / q % m) * stride) chosen.count
-            ∙ ap (λ t. total_place before p + slot_index origin (f x) (p / count_of rest % m) * t) stride_is
-            ∙ ap (λ t. t + slot_index origin (f x) (p / count_of rest % m) * count_of ns) (chosen.place p)
-            ∙ add_comm (chosen_place origin ns (map f xs) p) (slot_index origin (f x) (p / count_of rest % m) * count_of ns);
-        few = omega (arith, more.few, chosen.few, length-map xs f);
-      }
+  -- the place with one more axis before the others
+  pub place_first : {X : Type 0} (f : X → Option ArrayValue) (slot : X) (shape : List ℕ) (slots : List X) (m : Map) (rest : Option ℕ) (e place : ℕ) → 0 < length shape → 0 < length slots
+      → slot ≡ slice_index_or slots 0 slot → e ≡ count_of (selected_shape (drop 1 shape) (map f (drop 1 slots))) → rest ≡ Some (chosen_place origin (drop 1 shape) (map f (drop 1 slots)) place)
+      → 0 < slot_count (slice_index shape 0) (f slot) → map_extent m ≡ slot_count (slice_index shape 0) (f slot)
+      → ((i : ℕ) → i < slot_count (slice_index shape 0) (f slot) → map_step m i ≡ Some (slot_index origin (f slot) i * count_of (drop 1 shape)))
+      → and_step rest (map_step m (place / e % map_extent m)) ≡ Some (chosen_place origin shape (map f slots) place)
+  place_first f slot [] slots m rest e place axis some is count chosen inside extent steps = absurd (omega arith)
+  place_first f slot (n ∷ ns) [] m rest e place axis some is count chosen inside extent steps = absurd (omega arith)
+  place_first f slot (n ∷ ns) (x ∷ xs) m rest e place axis some is count chosen inside extent steps =
+      let others = chosen_place origin ns (map f xs) place in
+      let i = place / count_of (selected_shape ns (map f xs)) % slot_count n (f slot) in
+      let index : place / e % map_extent m ≡ i = ap (λ c. place / c % map_extent m) count ∙ ap (λ c. place / count_of (selected_shape ns (map f xs)) % c) extent in
+      let below : i < slot_count n (f slot) = mod-lt (place / count_of (selected_shape ns (map f xs))) inside in
+      ap (λ r. and_step r (map_step m (place / e % map_extent m))) chosen
+      ∙ ap (λ j. and_step (Some others) (map_step m j)) index
+      ∙ ap (and_step (Some others)) (steps i below)
+      ∙ ap Some (add_comm others (slot_index origin (f slot) i * count_of ns))
+      ∙ ap (λ y. Some (slot_index origin (f y) (place / count_of (selected_shape ns (map f xs)) % slot_count n (f y)) * count_of ns + others)) is
 
   module _ (below : (shape index : List ℕ) → IsIndexOf shape index → place_of shape index < count_of shape) where
     module _ (a : ArrayValue) (slots : Slots) (selected : IsSelection a slots origin (selected_shape a.shape slots)) (arrays : AreArrays slots)

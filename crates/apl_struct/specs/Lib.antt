@@ -14,7 +14,6 @@ pub mod Ordering
 pub mod Along
 pub mod Joined
 pub mod Rotation
-pub mod Picking
 pub mod Selecting
 pub mod Numbering
 pub mod Shaped

@@ -1,11 +1,21 @@
 -- The choice that stays at a place. No contract of a public function cites this file.
-use Rattle.std.specs.Prelude.{◌≡◌, ℕ, zero, suc, ◌+◌, ◌*◌, ◌<◌, ◌==◌, ◌||◌, true, not, List, [], ◌∷◌, length, if◌then◌else◌, slice_index_or}
+use Rattle.std.specs.Prelude.{◌≡◌, ℕ, zero, suc, ◌+◌, ◌*◌, ◌<◌, ◌==◌, ◌||◌, true, not, List, [], ◌∷◌, length, Option, Some, None, if◌then◌else◌, slice_index_or}
 use Rattle.apl_array.specs.declared.array.Elem.{Elem}
 use Rattle.apl_array.specs.Shape.{count_of}
 use Rattle.apl_array.specs.Array.{ArrayValue}
 use Rattle.apl_answer.specs.Arguments.{fill_of, rank_of, has_elements, has_one_element, is_same_kind, is_same_shape}
 use Rattle.apl_answer.specs.declared.fault.OpFault.TheVariants.{Rank, Length, Domain}
 use Rattle.apl_answer.specs.Rows.{Check}
+
+-- the place that a walk reaches, and 0 where it reaches none
+abbrev pub reached : Option ℕ → ℕ
+reached (Some place) = place
+reached None = 0
+
+-- it reaches a place below n
+abbrev pub IsReached : ℕ → Option ℕ → Type 0
+IsReached n (Some place) = place < n
+IsReached n None = ⊥
 
 -- of the first n choices the last that is of place p: the number of its value from 1, or 0 for none. The values of
 -- neighbouring choices are `step` apart

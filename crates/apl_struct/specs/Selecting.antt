@@ -10,33 +10,6 @@ use Rattle.apl_answer.specs.declared.fault.OpFault.TheVariants.{Memory}
 use Rattle.apl_answer.specs.Arguments.{rank_of, numbers_of}
 use Rattle.apl_answer.specs.Rows.{Check, first_failure_or}
 use Rattle.apl_struct.specs.Indexing.{Slots, is_slot_of_numbers, are_slots_within, selected_shape}
-use Rattle.apl_struct.specs.Picking.{picked_place}
-use Rattle.apl_struct.specs.declared.selecting.Choice.{Choice}
-use Rattle.apl_struct.specs.declared.selecting.Choice.TheVariants.{Picked, Stretch}
-
--- ---- choices, each along neighbouring axes, the last axes first
-
-abbrev pub choice_count : Choice → ℕ
-choice_count (Picked c) = length c.numbers.now
-choice_count (Stretch c) = c.count
-
-abbrev pub choice_place : Choice → ℕ → ℕ
-choice_place (Picked c) i = picked_place c.first c.stride c.numbers.now i
-choice_place (Stretch c) i = i * c.stride
-
-abbrev pub total_count : List Choice → ℕ
-total_count [] = 1
-total_count (c ∷ cs) = choice_count c * total_count cs
-
-abbrev pub total_place : List Choice → ℕ → ℕ
-total_place [] place = 0
-total_place (c ∷ cs) place = choice_place c (place % choice_count c) + total_place cs (place / choice_count c)
-
--- one more choice, of the axes to the left
-pub record IsMore (before after : List Choice) (n : ℕ) (added : ℕ → ℕ) : Type 0 where
-  pub count : total_count after ≡ total_count before * n
-  pub place : (p : ℕ) → total_place after p ≡ total_place before p + added (p / total_count before % n)
-  pub few : length after ≤ length before + 1
 
 -- ---- slots
 
@@ -53,12 +26,6 @@ abbrev pub chosen_place : Origin → List ℕ → Slots → ℕ → ℕ
 chosen_place origin (n ∷ ns) (s ∷ slots) place =
     slot_index origin s (place / count_of (selected_shape ns slots) % slot_count n s) * count_of ns + chosen_place origin ns slots place
 chosen_place origin _ _ place = 0
-
--- choices that give the places which the slots choose
-pub record AreChosen (origin : Origin) (shape : List ℕ) (slots : Slots) (choices : List Choice) : Type 0 where
-  pub count : total_count choices ≡ count_of (selected_shape shape slots)
-  pub place : (p : ℕ) → total_place choices p ≡ chosen_place origin shape slots p
-  pub few : length choices ≤ length slots
 
 -- each slot is an array or empty
 abbrev pub AreArrays : Slots → Type 0

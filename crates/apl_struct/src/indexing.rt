@@ -1,20 +1,16 @@
 //! Elements at chosen indexes.
-ghost use Rattle.std.specs.Prelude.{◌≡◌, ℕ, ◌*◌, ◌<◌, ◌≤◌, [], ◌++◌, pos, ◌≤ℤ◌, true, length, map, All, Ok, option_copied, IfOk};
+ghost use Rattle.std.specs.Prelude.{◌≡◌, ◌++◌, true, map, Ok, option_copied, IfOk};
 ghost use Rattle.std.specs.List.{list_all};
 ghost use Rattle.apl_array.specs.Axes.{from_origin, is_below};
-ghost use Rattle.apl_array.specs.declared.shape.TheConstants.{MOST_AXES};
-ghost use Rattle.apl_array.specs.Shape.{count_of};
-ghost use Rattle.apl_pool.specs.declared.kernel.TheConstants.{MOST_PLACES};
 ghost use Rattle.apl_array.specs.Array.{element_at};
 ghost use Rattle.apl_answer.specs.Pointwise.{answer_of, IsAnswerOf};
 ghost use Rattle.apl_answer.specs.Rows.{Answers};
 ghost use Rattle.apl_struct.specs.Indexing.{is_slot_of_numbers, is_slot_within, are_slots_within, selected_shape, selection_checks, select_source, select_row};
-ghost use Rattle.apl_struct.specs.Selecting.{AreArrays, AreChosen, IsJudged, IsMore, IsSelection, slot_count, slot_index};
+ghost use Rattle.apl_struct.specs.Selecting.{IsJudged, IsSelection};
 
 use crate::arguments::numbers_among;
-use crate::choose::Picked;
 use crate::gather::Absent;
-use crate::selecting::{Choice, push_choice, push_stretch};
+use crate::selecting::{are_arrays, selected_walk};
 use crate::workers::Workers;
 use apl_answer::OpFault;
 use apl_array::{Array, Origin, Shape, places_match_index_lists};
@@ -133,100 +129,6 @@ pub(crate) fn selected_shape(
     Ok(Shape::new(alloc, selected.as_slice())?)
 }
 
-/// An array that was asked something is known to be lawful.
-pub(crate) fn are_arrays(slots: &[Option<&Array>])
-    ensures { AreArrays (map option_copied slots.now) }
-{
-    match slots {
-        [] => {}
-        [slot, slots @ ..] => {
-            if let Some(array) = slot {
-                let _kind = array.kind();
-            }
-            are_arrays(slots);
-        }
-    }
-}
-
-/// Adds what a slot chooses along an axis whose neighbours are `stride` apart.
-fn push_slot<'a>(
-    choices: &mut Vec<Choice<'a>>,
-    slot: Option<&'a Array>,
-    origin: Origin,
-    axis_length: usize,
-    stride: usize,
-) -> Result<(), AllocError>
-    requires numbers { is_slot_of_numbers (option_copied slot) ≡ true }
-    requires within { is_slot_within origin axis_length (option_copied slot) ≡ true }
-    requires length { axis_length ≤ MOST_PLACES }
-    requires length_some { 0 < axis_length }
-    requires stride_some { 0 < stride }
-    requires most { axis_length * stride ≤ MOST_PLACES }
-    ensures { IfOk result (λ u. IsMore choices.old.items choices.new.items
-        (slot_count axis_length (option_copied slot.entry)) (λ i. slot_index origin (option_copied slot.entry) i * stride)) }
-{
-    let Some(array) = slot else {
-        return push_stretch(choices, axis_length, stride);
-    };
-    let Some(numbers) = numbers_among(array) else {
-        unreachable!()
-    };
-    // An array that was asked something is known to be lawful.
-    let _kind = array.kind();
-    let picked = Picked {
-        numbers,
-        first: origin.number(),
-        axis_length,
-        stride,
-    };
-    push_choice(choices, Choice::Picked(picked))
-}
-
-/// Adds what the slots choose, the last axis first. It answers how many places the axes have.
-fn push_choices<'a>(
-    choices: &mut Vec<Choice<'a>>,
-    lengths: &[usize],
-    slots: &[Option<&'a Array>],
-    origin: Origin,
-) -> Result<usize, AllocError>
-    requires none { choices.old.items ≡ [] }
-    requires slots { length slots.now ≡ length lengths.now }
-    requires numbers { list_all is_slot_of_numbers (map option_copied slots.now) ≡ true }
-    requires within { are_slots_within origin lengths.now (map option_copied slots.now) ≡ true }
-    requires axes { All (λ n. n ≤ MOST_PLACES) lengths.now }
-    requires some { 0 < count_of lengths.now }
-    requires most { count_of lengths.now ≤ MOST_PLACES }
-    ensures count { IfOk result (λ count. count ≡ count_of lengths.now) }
-    ensures chosen { IfOk result (λ u. AreChosen origin lengths.now (map option_copied slots.now) choices.new.items) }
-{
-    let [axis_length, lengths @ ..] = lengths else {
-        return Ok(1);
-    };
-    let [slot, slots @ ..] = slots else {
-        return Ok(1);
-    };
-    let stride = push_choices(choices, lengths, slots, origin)?;
-    push_slot(choices, *slot, origin, *axis_length, stride)?;
-    Ok(*axis_length * stride)
-}
-
-/// What the slots choose, the last axes first.
-pub(crate) fn choices_of<'a>(
-    alloc: Global,
-    a: &Array,
-    slots: &[Option<&'a Array>],
-    origin: Origin,
-) -> Result<Vec<Choice<'a>>, AllocError>
-    requires selection { IsSelection a.now (map option_copied slots.now) origin (selected_shape a.now.shape (map option_copied slots.now)) }
-    requires some { 0 < count_of a.now.shape }
-    ensures chosen { IfOk result (λ choices. AreChosen origin a.now.shape (map option_copied slots.now) choices.items) }
-    ensures few { IfOk result (λ choices. length choices.items ≤ MOST_AXES) }
-{
-    let mut choices = Vec::new(alloc);
-    push_choices(&mut choices, a.shape().lengths(), slots, origin)?;
-    Ok(choices)
-}
-
 impl<R: Threads + Sync, C: Cut + Sync, G: Gate + Sync> Workers<'_, R, C, G> {
     /// The array of the shape that slots choose, with an argument's elements at the index lists that
     /// they choose.
@@ -248,8 +150,8 @@ impl<R: Threads + Sync, C: Cut + Sync, G: Gate + Sync> Workers<'_, R, C, G> {
         are_arrays(slots);
         // An array that was asked something is known to be lawful.
         let _kind = a.kind();
-        let choices = choices_of(self.alloc, a, slots, origin)?;
-        self.gather_choices(shape, a, choices.as_slice())
+        let walk = selected_walk(self.alloc, a, slots, origin)?;
+        self.gather_walk(shape, a, walk)
     }
 }
 

@@ -7,7 +7,6 @@ mod along;
 mod arguments;
 mod axes;
 mod building;
-mod choose;
 mod compressing;
 mod expanding;
 mod finding;

@@ -1,7 +1,6 @@
 //! Elements in the place of chosen ones.
-ghost use Rattle.std.specs.Prelude.{◌≡◌, ℕ, ◌*◌, ◌<◌, ◌≤◌, List, Ok, length, map, option_copied, slice_index, slice_index_or};
+ghost use Rattle.std.specs.Prelude.{◌≡◌, ℕ, ◌+◌, ◌<◌, ◌≤◌, List, ◌∷◌, Ok, Some, length, map, option_copied, slice_index, slice_index_or};
 ghost use Rattle.apl_array.specs.declared.array.Elem.{Elem};
-ghost use Rattle.apl_array.specs.declared.shape.TheConstants.{MOST_AXES};
 ghost use Rattle.apl_array.specs.Shape.{count_of, index_at};
 ghost use Rattle.apl_array.specs.Array.{IsArray, element_at};
 ghost use Rattle.apl_pool.specs.declared.kernel.TheConstants.{MOST_PLACES};
@@ -9,17 +8,21 @@ ghost use Rattle.apl_answer.specs.Arguments.{fill_of};
 ghost use Rattle.apl_answer.specs.Pointwise.{answer_of, IsAnswerOf};
 ghost use Rattle.apl_answer.specs.Rows.{Answers};
 ghost use Rattle.apl_struct.specs.Indexing.{last_choice, replaced_element, replace_row};
-ghost use Rattle.apl_struct.specs.Selecting.{choice_count, choice_place, total_count, total_place, IsJudged, IsSelection};
-ghost use Rattle.apl_struct.specs.Numbering.{last_number, value_numbered, element_numbered, replacement_checks, value_step, IsReplacement};
+ghost use Rattle.apl_walk.specs.declared.maps.TheConstants.{MOST_MAPS};
+ghost use Rattle.apl_walk.specs.Maps.{map_extent, map_step, extent_of, walked};
+ghost use Rattle.apl_walk.specs.Steps.{and_step};
+ghost use Rattle.apl_struct.specs.Selecting.{IsJudged, IsSelection};
+ghost use Rattle.apl_struct.specs.Numbering.{reached, IsReached, last_number, value_numbered, element_numbered, replacement_checks, value_step, IsReplacement};
 
 use crate::arguments::is_same_shape;
 use crate::gather::element_or;
-use crate::indexing::{are_arrays, choices_of, selected_shape};
-use crate::selecting::{Choice, Places, Several, Single};
+use crate::indexing::selected_shape;
+use crate::selecting::{are_arrays, selected_walk};
 use crate::workers::Workers;
 use apl_answer::{Element, OpFault, array_of_elements, fill_array};
 use apl_array::{Array, Origin, Shape, places_match_index_lists};
 use apl_pool::{Cut, Fault, Gate, Kernel, Pool};
+use apl_walk::{AxisMap, Map, start_at};
 use std::alloc::Global;
 use std::thread::Threads;
 
@@ -120,15 +123,42 @@ impl<T: Element, N: Numbers> Kernel for Replaced<'_, T, N> {
     }
 }
 
-/// Writes at each place the number of the last choice of it.
-fn number_places<P: Places>(places: &P, step: u32, numbers: &mut [u32])
+/// Writes the numbers of the choices of a line, from the number `from` on, each at its place. The line begins at
+/// the place `base`.
+fn number_line(last: Map, base: usize, from: usize, step: u32, numbers: &mut [u32])
     requires step { step ≤ 1 }
-    requires within { (place : ℕ) → place < P.place_count places.now → P.chosen places.now place < length numbers.old }
-    requires none { (p : ℕ) → p < length numbers.old → slice_index numbers.old p ≡ 0 }
-    ensures { (p : ℕ) → p < length numbers.old → slice_index numbers.new p ≡ last_number (P.chosen places.now) step p (P.place_count places.now) }
+    requires most { from + map_extent last ≤ MOST_PLACES }
+    requires within { (i : ℕ) → i < map_extent last → IsReached (length numbers.old) (and_step (map_step last i) (Some base)) }
+    ensures numbers { (choice : ℕ → ℕ) → ((i : ℕ) → i < map_extent last.entry → reached (and_step (map_step last.entry i) (Some base)) ≡ choice (from + i))
+        → ((p : ℕ) → p < length numbers.old → slice_index numbers.old p ≡ last_number choice step p from)
+        → (p : ℕ) → p < length numbers.old → slice_index numbers.new p ≡ last_number choice step p (from + map_extent last.entry) }
+    ensures len { length numbers.new ≡ length numbers.old }
 {
-    for place in 0..places.count() {
-        numbers[places.at(place)] = place as u32 * step + 1;
+    for i in 0..last.extent() {
+        match last.step(i) {
+            Some(taken) => numbers[taken + base] = (from + i) as u32 * step + 1,
+            None => unreachable!(),
+        }
+    }
+}
+
+/// Writes at each place the number of the last choice of it.
+fn number_lines(last: &Map, outer: &[Map], lines: usize, step: u32, numbers: &mut [u32])
+    requires few { length outer.now ≤ MOST_MAPS }
+    requires lines { lines ≡ extent_of outer.now }
+    requires most { extent_of (last.now ∷ outer.now) ≤ MOST_PLACES }
+    requires step { step ≤ 1 }
+    requires within { (place : ℕ) → place < extent_of (last.now ∷ outer.now) → IsReached (length numbers.old) (walked (last.now ∷ outer.now) place) }
+    requires none { (p : ℕ) → p < length numbers.old → slice_index numbers.old p ≡ 0 }
+    ensures { (p : ℕ) → p < length numbers.old
+        → slice_index numbers.new p ≡ last_number (λ place. reached (walked (last.now ∷ outer.now) place)) step p (extent_of (last.now ∷ outer.now)) }
+{
+    let extent = last.extent();
+    for line in 0..lines {
+        match start_at(outer, line) {
+            Some(base) => number_line(*last, base, line * extent, step, numbers),
+            None => unreachable!(),
+        }
     }
 }
 
@@ -182,69 +212,48 @@ impl<R: Threads + Sync, C: Cut + Sync, G: Gate + Sync> Workers<'_, R, C, G> {
     }
 }
 
-/// Writes at each place the number of the last of some choices of it.
-fn number_choices(choices: &[Choice], count: usize, step: u32, numbers: &mut [u32])
-    requires few { length choices.now ≤ MOST_AXES }
-    requires count { count ≡ total_count choices.now }
-    requires most { count ≤ MOST_PLACES }
-    requires step { step ≤ 1 }
-    requires within { (place : ℕ) → place < total_count choices.now → total_place choices.now place < length numbers.old }
-    requires none { (p : ℕ) → p < length numbers.old → slice_index numbers.old p ≡ 0 }
-    ensures { (p : ℕ) → p < length numbers.old → slice_index numbers.new p ≡ last_number (total_place choices.now) step p (total_count choices.now) }
-{
-    match choices {
-        [choice] => number_single(*choice, step, numbers),
-        _ => number_places(&Several { choices, count }, step, numbers),
-    }
-}
-
-/// The same for one choice.
-fn number_single(choice: Choice, step: u32, numbers: &mut [u32])
-    requires step { step ≤ 1 }
-    requires within { (place : ℕ) → place < choice_count choice → choice_place choice place < length numbers.old }
-    requires none { (p : ℕ) → p < length numbers.old → slice_index numbers.old p ≡ 0 }
-    ensures { (p : ℕ) → p < length numbers.old → slice_index numbers.new p ≡ last_number (choice_place choice.entry) step p (choice_count choice.entry) }
-{
-    match choice {
-        Choice::Picked(choice) => number_places(&Single { choice }, step, numbers),
-        Choice::Stretch(choice) => number_places(&Single { choice }, step, numbers),
-    }
-}
-
 impl<R: Threads + Sync, C: Cut + Sync, G: Gate + Sync> Workers<'_, R, C, G> {
     /// The same with the value of the last choice at each place, where the values of neighbouring
     /// choices are `step` apart.
-    fn replace_choices(
+    fn replace_walk(
         &self,
         shape: Shape,
         a: &Array,
         b: &Array,
-        choices: &[Choice],
+        last: &Map,
+        outer: &[Map],
         count: usize,
         step: u32,
     ) -> Result<Array, OpFault>
-        requires few { length choices.now ≤ MOST_AXES }
-        requires count { count ≡ total_count choices.now }
-        requires some { 0 < count }
+        requires few { length outer.now ≤ MOST_MAPS }
+        requires count { count ≡ extent_of (last.now ∷ outer.now) }
         requires most { count ≤ MOST_PLACES }
         requires step { step ≤ 1 }
-        requires within { (place : ℕ) → place < total_count choices.now → total_place choices.now place < count_of shape }
+        requires within { (place : ℕ) → place < count → IsReached (count_of shape) (walked (last.now ∷ outer.now) place) }
         requires kinds { a.now.kind ≡ b.now.kind }
         ensures { (element : List ℕ → Elem) → ((place : ℕ) → place < count_of shape
-            → element_numbered a.now b.now (last_number (total_place choices.now) step place (total_count choices.now)) place ≡ element (index_at shape place))
+            → element_numbered a.now b.now (last_number (λ p. reached (walked (last.now ∷ outer.now) p)) step place count) place ≡ element (index_at shape place))
             → IsAnswerOf (answer_of shape (λ index. Ok (element index)) a.now.kind) result }
     {
         let place_count = shape.count();
-        if count == 1 {
-            let chosen = Several { choices, count }.at(0);
+        if count == 1
+            && let Some(taken) = last.step(0)
+            && let Some(base) = start_at(outer, 0)
+        {
             let numbers = OnlyPlace {
                 count: place_count,
-                chosen,
+                chosen: taken + base,
             };
             return self.replace_numbered(shape, a, b, numbers);
         }
         let mut numbers = vec![in self.alloc; 0; place_count]?;
-        number_choices(choices, count, step, numbers.as_mut_slice());
+        number_lines(
+            last,
+            outer,
+            count / last.extent(),
+            step,
+            numbers.as_mut_slice(),
+        );
         let table = Table {
             numbers: numbers.as_slice(),
         };
@@ -311,9 +320,13 @@ impl<R: Threads + Sync, C: Cut + Sync, G: Gate + Sync> Workers<'_, R, C, G> {
         places_match_index_lists();
         are_arrays(slots);
         let shape = a.shape().copy(self.alloc)?;
-        let choices = choices_of(self.alloc, a, slots, origin)?;
+        let walk = selected_walk(self.alloc, a, slots, origin)?;
+        let maps = walk.into_maps()?;
         let step = value_step(b);
-        self.replace_choices(shape, a, b, choices.as_slice(), count, step)
+        match maps.as_slice() {
+            [last, outer @ ..] => self.replace_walk(shape, a, b, last, outer, count, step),
+            [] => unreachable!(),
+        }
     }
 }
 

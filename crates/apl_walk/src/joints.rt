@@ -119,7 +119,7 @@ impl<'a> Walk<'a> {
     }
 
     /// The axes, the last one first.
-    pub(crate) fn into_maps(self) -> Result<Vec<Map<'a>>, AllocError>
+    pub fn into_maps(self) -> Result<Vec<Map<'a>>, AllocError>
         ensures maps { IfOk result (λ maps. maps.items ≡ maps_of self.entry) }
         ensures few { IfOk result (λ maps. vec_len maps ≤ MOST_MAPS + 1) }
     {

@@ -26,7 +26,7 @@ pub use lined::{ByLines, Lined};
 pub use listed::Listed;
 pub use listed_or_none::ListedOrNone;
 pub use map::{AxisMap, MOST_STEP};
-pub use maps::{MOST_MAPS, Map};
+pub use maps::{MOST_MAPS, Map, start_at};
 pub use repeated::Repeated;
 pub use reversed::Reversed;
 pub use rotated::Rotated;

@@ -93,7 +93,7 @@ pub const MOST_MAPS: usize = 16;
 
 /// What the index list at a place of some axes adds, the last axis first.
 #[inline(always)]
-pub(crate) fn start_at(maps: &[Map], place: usize) -> Option<usize>
+pub fn start_at(maps: &[Map], place: usize) -> Option<usize>
     requires few { length maps.now ≤ MOST_MAPS }
     requires within { place < extent_of maps.now }
     requires most { place ≤ MOST_PLACES }

@@ -67,6 +67,8 @@ fn small_arrays(rt: HostRuntime) -> Result<(), Fail> {
         (walks::EXPANDED, 17),
         (walks::JOINED, 67),
         (walks::BUILT, 28),
+        (walks::SELECTED, 40),
+        (walks::REPLACED, 16),
     ];
     check_small(&rt, rt.alloc(), &tables)?;
     one_grade();
