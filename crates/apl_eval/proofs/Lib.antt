@@ -5,3 +5,4 @@ pub mod Endings
 pub mod LawfulLemmas
 pub mod LimitLemmas
 pub mod GlyphLemmas
+mod Examples

@@ -1,5 +1,5 @@
 -- The number at each place is that of the last choice of its index list.
-use Rattle.std.proofs.Common.{◌≡◌, ℕ, pos, zero, suc, ◌+◌, ◌-◌, ◌*◌, ◌/◌, ◌%◌, ◌<◌, ◌≤◌, Bool, true, false, List, [], ◌∷◌, length, take, drop, Option, Some, None, slice_index, slice_index_or, refl, ap, sym, ◌∙◌, arith}
+use Rattle.std.proofs.Common.{◌≡◌, ℕ, pos, zero, suc, ◌+◌, ◌-◌, ◌*◌, ◌/◌, ◌<◌, ◌≤◌, Bool, true, false, List, [], ◌∷◌, length, take, drop, Option, Some, None, slice_index, slice_index_or, refl, ap, sym, ◌∙◌, arith}
 use Rattle.std.specs.Prelude.{nat_eq, ◌||◌, if◌then◌else◌}
 use Rattle.std.specs.Cmp.Lexicographic.{same_text}
 use Rattle.std.proofs.lemmas.Bool.{eq-eqb, eqb-true, and_from}
@@ -7,7 +7,7 @@ use Rattle.std.proofs.lemmas.Grind.{get_or-set_at}
 use Rattle.std.proofs.lemmas.List.{get_or-set_other}
 use Rattle.std.proofs.lemmas.Nat.{mod-mul-add, div-mul-add}
 use Rattle.std.proofs.Math.ListN.{set}
-use Rattle.std.proofs.Math.Nat.{mul-le-mul_right}
+use Rattle.std.proofs.Math.Nat.{mul-le-mul_right, le-mul_of_pos_right}
 use Rattle.apl_array.specs.declared.array.Elem.TheVariants.{Int}
 use Rattle.apl_array.specs.declared.array.Elem.{Elem}
 use Rattle.apl_array.specs.declared.axis.Origin.{Origin}
@@ -16,7 +16,7 @@ use Rattle.apl_array.specs.Array.{ArrayValue, IsArray, element_at, element_in}
 use Rattle.apl_answer.specs.Arguments.{fill_of, has_one_element, is_same_shape}
 use Rattle.apl_struct.specs.Indexing.{Slots, selected_shape, select_source, last_choice, replaced_element}
 use Rattle.apl_walk.specs.declared.maps.Map.{Map}
-use Rattle.apl_walk.specs.declared.maps.Map.TheVariants.{Window, Reversed, Rotated, Listed}
+use Rattle.apl_walk.specs.declared.maps.Map.TheVariants.{Window, Reversed, Rotated, Listed, ListedOrNone, Repeated}
 use Rattle.apl_walk.specs.Steps.{and_step}
 use Rattle.apl_walk.specs.Maps.{map_extent, map_step, walked}
 use Rattle.apl_struct.specs.Numbering.{IsReached, last_number, element_numbered, value_step, IsReplacement}
@@ -54,6 +54,8 @@ map_some (Window w) = w.extent_some
 map_some (Reversed r) = r.some
 map_some (Rotated r) = r.some
 map_some (Listed l) = l.count_some
+map_some (ListedOrNone l) = l.count_some
+map_some (Repeated r) = omega (arith, le-mul_of_pos_right r.axis_length r.times_some, r.length_some)
 
 pub first_reached : (last : Map) (outer : List Map) → walked (last ∷ outer) 0 ≡ and_step (map_step last 0) (walked outer 0)
 first_reached last outer =

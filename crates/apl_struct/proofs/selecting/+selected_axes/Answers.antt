@@ -1,4 +1,4 @@
-use Rattle.std.proofs.Common.{◌≡◌, ℕ, ◌-◌, ◌*◌, ◌/◌, ◌%◌, ◌<◌, ◌≤◌, List, Option, length, map, take, drop, slice_index, Some, rules, ap, ◌∙◌, arith}
+use Rattle.std.proofs.Common.{◌≡◌, ℕ, ◌-◌, ◌*◌, ◌<◌, ◌≤◌, List, Option, length, map, take, drop, slice_index, Some, rules, ap, ◌∙◌, arith}
 use Rattle.std.specs.Prelude.{option_copied, All, true}
 use Rattle.std.specs.List.{list_all}
 use Rattle.std.specs.Borrow.{Bor}
@@ -9,7 +9,7 @@ use Rattle.apl_array.specs.declared.shape.TheConstants.{MOST_AXES}
 use Rattle.apl_pool.specs.declared.kernel.TheConstants.{MOST_PLACES}
 use Rattle.apl_array.specs.Array.{ArrayValue}
 use Rattle.apl_walk.specs.Steps.{and_step}
-use Rattle.apl_walk.specs.Maps.{extent_of, map_extent, map_step, walked}
+use Rattle.apl_walk.specs.Maps.{extent_of, map_step, walked}
 use Rattle.apl_walk.specs.Walks.{maps_of}
 use Rattle.apl_struct.specs.Indexing.{is_slot_of_numbers, are_slots_within, selected_shape}
 use Rattle.apl_struct.specs.Selecting.{slot_count, slot_index, chosen_place}

@@ -1,4 +1,4 @@
-use Rattle.std.proofs.Common.{◌<◌, Some, map, ap, sym, ◌∙◌, arith}
+use Rattle.std.proofs.Common.{◌<◌, map, ap, sym, ◌∙◌, arith}
 use Rattle.std.specs.Prelude.{option_copied}
 use Rattle.apl_array.specs.Shape.{count_of, index_at}
 use Rattle.apl_array.specs.Array.{element_at}

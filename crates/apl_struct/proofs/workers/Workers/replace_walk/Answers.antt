@@ -1,8 +1,8 @@
 use Rattle.std.proofs.Math.Seq.{take-append_seam}
-use Rattle.std.proofs.Common.{◌≡◌, ℕ, ◌+◌, ◌*◌, ◌<◌, ◌∷◌, ◌++◌, length, take, drop, Some, slice_index, sym, ap, ◌∙◌, arith, if◌then◌else◌}
+use Rattle.std.proofs.Common.{◌≡◌, ℕ, ◌+◌, ◌*◌, ◌∷◌, ◌++◌, length, take, drop, Some, slice_index, sym, ap, ◌∙◌, arith, if◌then◌else◌}
 use Rattle.std.specs.Prelude.{nat_eq}
 use Rattle.apl_walk.specs.Steps.{and_step}
-use Rattle.apl_walk.specs.Maps.{map_extent, map_step, walked}
+use Rattle.apl_walk.specs.Maps.{map_step, walked}
 use Rattle.apl_struct.specs.Numbering.{reached, last_number, element_numbered}
 use Rattle.apl_struct.proofs.Replacement.{first_reached}
 use Rattle.apl_struct.proofs.workers.Workers.replace_walk.Goals as goal
