@@ -5,4 +5,3 @@ pub mod Endings
 pub mod LawfulLemmas
 pub mod LimitLemmas
 pub mod GlyphLemmas
-mod Examples
