@@ -1,9 +1,9 @@
 -- Worked examples of what a pool answers, for kernels whose values are written out.
-use Rattle.std.proofs.Common.{◌≡◌, ℕ, zero, suc, ◌*◌, ◌<◌, ℤ, pos, negsuc, List, [], ◌∷◌, Result, Ok, Err, arith, refl, lit<}
+use Rattle.std.proofs.Common.{◌≡◌, ℕ, zero, suc, ◌*◌, ◌<◌, ℤ, pos, negsuc, [], ◌∷◌, Result, Ok, Err, arith, refl, lit<}
 use Rattle.std.specs.Prelude.{◌-ℤ◌, IsOk, slice_index_or}
 use Rattle.apl_pool.specs.declared.kernel.Fault.{Fault}
 use Rattle.apl_pool.specs.declared.kernel.Fault.TheVariants.{Domain, Limit, Index}
-use Rattle.apl_pool.specs.declared.kernel.Stop.TheVariants.{Fault as FaultAt, Memory}
+use Rattle.apl_pool.specs.declared.kernel.Stop.TheVariants.{Fault as FaultAt}
 use Rattle.apl_pool.specs.Pool.{AreValues, IsStopOf}
 use Rattle.apl_pool.specs.Summaries.{fold_onto, and_then}
 

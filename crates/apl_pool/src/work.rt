@@ -10,7 +10,7 @@ use super::pieces::{Piece, piece_end};
 use std::alloc::Global;
 
 /// The most places that one worker makes room for at once: so many numbers are still in a processor's cache when they are written over.
-const STRETCH: usize = 4096;
+const STRETCH: usize = 32_768;
 
 /// The stop at a place that has a fault.
 pub(crate) fn stop_at(place: usize, fault: Fault) -> Stop
@@ -164,7 +164,7 @@ where
     Ok(all)
 }
 
-/// Puts the values of a piece behind those of all places before.
+/// Puts the values of a piece, or of several, behind those of all places before.
 fn append_piece<K: Kernel>(
     kernel: &K,
     piece: Piece,
@@ -184,6 +184,27 @@ where
         all = append_stretch(kernel, piece, all)?;
     }
     Ok(all)
+}
+
+/// Passes the gate with a piece and with those after it that a stretch has room for, and answers the next one.
+fn pass_pieces<C: Cut, G: Gate>(cut: &C, gate: &G, worker: u8, piece: Piece, count: usize) -> Piece
+    requires number { piece.number < piece.to }
+    requires order { piece.from ≤ piece.to }
+    requires within { piece.to ≤ count }
+    requires most { count ≤ MOST_PLACES }
+    ensures number { result.number ≤ result.from }
+    ensures after { piece.to ≤ result.from }
+    ensures order { result.from ≤ result.to }
+    ensures some { result.from < count → result.from < result.to }
+    ensures within { result.to ≤ count }
+{
+    gate.pass(worker, piece.number);
+    let mut next = next_piece(cut, piece, count);
+    while next.from < count && next.to - piece.from <= STRETCH {
+        gate.pass(worker, next.number);
+        next = next_piece(cut, next, count);
+    }
+    next
 }
 
 /// The values at all places, by one worker who has all pieces. The first one ends at `end`.
@@ -209,9 +230,14 @@ where
         to: end,
     };
     while piece.from < count {
-        gate.pass(worker, piece.number);
-        values = append_piece(kernel, piece, values)?;
-        piece = next_piece(cut, piece, count);
+        let next = pass_pieces(cut, gate, worker, piece, count);
+        let pieces = Piece {
+            number: piece.number,
+            from: piece.from,
+            to: next.from,
+        };
+        values = append_piece(kernel, pieces, values)?;
+        piece = next;
     }
     Ok(values)
 }

@@ -33,14 +33,15 @@ pub struct Thief {
     ghost possible: { IsPossible (view pass) },
 }
 
-/// What a thief's try came to.
+/// What a thief's try came to. No clause says which of the last two comes: a state in which the deque is empty is possible for a thief
+/// whatever it knows, since the others may have taken all the rest. Tests show it.
 #[derive(Clone, Copy, Debug, PartialEq, Eq)]
 pub enum Taken {
     /// The piece that was the first. The thief has it now, and no other end gets it.
     Piece(u32),
-    /// Nothing was taken: the deque was empty at one moment of the call.
+    /// Nothing was taken: it is meant for a deque that was empty at one moment of the call.
     Nothing,
-    /// Nothing was taken: another end took a piece meanwhile. The next try may find one.
+    /// Nothing was taken: it is meant for a call in which another end took a piece. The next try may find one.
     Busy,
 }
 
