@@ -21,7 +21,7 @@ from aplcalc.run import main  # noqa: E402
 APLRUN = TOP / "tools" / "aplrun"
 BLANKS = " " * 6
 LONG_WORK = "(3000 3000⍴1)+.×3000 3000⍴1"
-SESSIONS = sorted([*TOP.glob("sessions/*.apl"), *TOP.glob("examples/*.apl")])
+SESSIONS = sorted([*TOP.glob("checks/sessions/*.apl"), *TOP.glob("examples/*.apl")])
 
 
 def stream(data=b""):

@@ -205,7 +205,7 @@ class Card(unittest.TestCase):
 
 
 class Cookbook(unittest.TestCase):
-    """The shape of the cookbook; docs/run runs its examples."""
+    """The shape of the cookbook; checks/pages/run runs its examples."""
 
     def recipes(self) -> Dict[str, str]:
         """The text of each recipe by its heading."""

@@ -141,7 +141,7 @@ class Reports(WithCalculator):
                 self.assertEqual(str(report_of(line, self.apl.text(line))) + "\n", self.apl.text(line))
 
     def test_every_line_of_the_sessions_is_refused_where_the_calculator_refuses_it(self):
-        for path in sorted([*TOP.glob("sessions/*.apl"), *TOP.glob("examples/*.apl")]):
+        for path in sorted([*TOP.glob("checks/sessions/*.apl"), *TOP.glob("examples/*.apl")]):
             lines = path.read_bytes().decode("utf-8", "surrogateescape").split("\n")
             with self.subTest(session=path.name), Calculator(PROGRAM) as apl, Calculator(PROGRAM) as other:
                 for line in lines:

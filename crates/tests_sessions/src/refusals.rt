@@ -1,4 +1,4 @@
-//! Calls that take memory, each by itself. With enough of it each answers as here. `faults/run` refuses each growth of memory of these
+//! Calls that take memory, each by itself. With enough of it each answers as here. `checks/faults/run` refuses each growth of memory of these
 //! tests in turn: then a call says so, and nothing else.
 use super::doors::Door;
 use super::gates::AllOnes;
