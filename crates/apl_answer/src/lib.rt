@@ -1,7 +1,10 @@
-//! What a function of arrays answers: the array of what there is at each index list, or the fault
+//! What a function of arrays answers: the array of the outcomes at all index lists, or the fault
 //! at the least place that has one.
 //!
-//! The words for it, the elements of either kind, and the answer of a kernel that a pool fills.
+//! Here are the words for it, the elements of either kind, and the array of what a pool fills.
+//!
+//! Below it: `apl_array` for arrays and shapes, and `apl_pool`, which fills kernels.
+//! Begin with `specs/Rows.antt`, and then `fill.rt`.
 #![tactic(auto)]
 
 mod element;

@@ -1,4 +1,4 @@
--- Transposition: `axes` gives to each axis of a source the axis of the result that it becomes. Source axes that become one axis make a diagonal.
+-- Transposition: `axes` says which axis of the result each axis of a source becomes. Source axes that become one axis make a diagonal.
 use Rattle.std.specs.Prelude.{◌≡◌, ℕ, ◌+◌, ◌*◌, ◌<◌, ◌≤◌, ◌==◌, if◌then◌else◌, min, List, [], ◌∷◌, length, map, sum, slice_index}
 use Rattle.std.specs.List.{range_with_len}
 use Rattle.apl_array.specs.Shape.{count_of}
@@ -8,7 +8,7 @@ abbrev pub strides : List ℕ → List ℕ
 strides [] = []
 strides (n ∷ ns) = count_of ns ∷ strides ns
 
--- the sum of the products of the numbers at the same places
+-- the sum of the products of two lists, number by number
 abbrev pub inner_product : List ℕ → List ℕ → ℕ
 inner_product [] ys = 0
 inner_product (x ∷ xs) [] = 0

@@ -13,8 +13,8 @@ pub fn elements_determine_array()
     ensures { (a b : ArrayValue) → IsArray a → IsArray b → HaveSameElements a b → a ≡ b }
 {}
 
-/// The places and the index lists of a shape correspond one to one: each index list has a place
-/// below the count, each such place an index list, and each is found again from the other.
+/// The places and the index lists of a shape correspond one to one. Each index list has a place
+/// below the count, each such place has an index list, and each gives the other back.
 pub fn places_match_index_lists()
     ensures below { (shape index : List ℕ) → IsIndexOf shape index → place_of shape index < count_of shape }
     ensures same_index { (shape index : List ℕ) → IsIndexOf shape index → index_at shape (place_of shape index) ≡ index }
@@ -22,8 +22,8 @@ pub fn places_match_index_lists()
     ensures same_place { (shape : List ℕ) (place : ℕ) → place < count_of shape → place_of shape (index_at shape place) ≡ place }
 {}
 
-/// An index put in at an axis of an index list of the shape without that axis: the place is counted
-/// in steps of the axis, and back again the index is left out.
+/// An index is put in at an axis of an index list of the shape without that axis. The place is
+/// counted in steps of the axis, and leaving the index out gives the list back.
 pub fn inserted_index_has_place()
     ensures count { (shape : List ℕ) (k : ℕ) → k < length shape
         → count_of (remove shape k) ≡ count_of (take k shape) * count_of (drop (k + 1) shape) }
@@ -36,7 +36,7 @@ pub fn inserted_index_has_place()
         ≡ (place / count_of (drop (k + 1) shape) * slice_index shape k + i) * count_of (drop (k + 1) shape) + place % count_of (drop (k + 1) shape) }
 {}
 
-/// An index put in the place of another along an axis.
+/// An index takes the place of another along an axis.
 pub fn replaced_index_has_place()
     ensures count { (shape : List ℕ) (k : ℕ) → k < length shape
         → count_of shape ≡ count_of (take k shape) * slice_index shape k * count_of (drop (k + 1) shape) }
@@ -98,8 +98,8 @@ pub fn place_is_sum_of_strides()
 {}
 
 /// Index lists of a source whose axes become axes of another shape: they are lawful, and their
-/// places are counted with one stride for each axis of that shape. In the shape of a transposition
-/// no axis is too long, and it is a shape where each of its axes is named. The axes in reverse order
+/// places are counted with one stride for each axis of that shape. No axis of a transposition is
+/// too long, and it has a lawful shape if each of its axes is named. The axes in reverse order
 /// reverse the index list.
 pub fn transposed_index_has_place()
     ensures lawful { (source axes result index : List ℕ) → AreAxesInto source axes result → IsIndexOf result index
@@ -113,12 +113,12 @@ pub fn transposed_index_has_place()
     ensures reversed { (index : List ℕ) → source_index (reverse (range_with_len 0 (length index))) index ≡ reverse index }
 {}
 
-/// The test decides what is a shape.
+/// `is_shape` decides what is a shape.
 pub fn shape_is_decided()
     ensures { (lengths : List ℕ) → (is_shape lengths ≡ true) ↔ IsShape lengths }
 {}
 
-/// The test decides what is in the range, and the range is what 64 bits hold.
+/// `in_range` decides what is in the range, and the range is what 64 bits hold.
 pub fn range_is_decided()
     ensures decided { (z : ℤ) → (in_range z ≡ true) ↔ IsInRange z }
     ensures bits { (z : ℤ) → IsInRange z ↔ FitsSigned w64 z }

@@ -39,7 +39,7 @@ seen_in x views = total (λ v. times x v.seen) views
 
 -- what holds of one seat, where this is the next number
 pub record IsLawfulSeat (extent : Extent) (next : ℕ) (v : View) : Type 0 where
-  -- a seat is told only where no piece is left
+  -- a seat is told only when no piece is left
   pub told : v.told ≡ true → extent.pieces ≤ next
   -- it makes no step past the end before it is told, and at most as many as its share
   pub few_past : v.past ≤ v.share

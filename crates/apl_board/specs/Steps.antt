@@ -1,4 +1,4 @@
--- What each step on the board's words tells the seat that makes it: of the step, the seat before, the number found and the seat after.
+-- What a seat learns by each step on the board's words: of the step, the seat before, the number found and the seat after.
 use Rattle.std.specs.Prelude.{◌≡◌, ℕ, ◌<◌, ◌≤◌, All}
 use Rattle.atomic_table.specs.Table.{Me, Step}
 use Rattle.apl_board.specs.declared.view.View.{View}

@@ -16,7 +16,7 @@ once_below x n = cond (nat_lt x n) 1 0
 abbrev pub extent_of : ℕ → ℕ → Extent
 extent_of pieces seats = record { pieces = pieces; seats = seats }
 
--- a seat with this share that was given and told nothing, and that reported and saw nothing
+-- a seat with this share that has got, reported and seen nothing
 abbrev pub blank : ℕ → ℕ → ℕ → View
 blank pieces seats share = record {
   pieces = pieces;
@@ -53,8 +53,8 @@ after_none v = cond v.told v (with_told v)
 abbrev pub rest_of : View → ℕ → View
 rest_of v share = record v { share = v.share - share; past = min v.past (v.share - share) }
 
--- the seat that is cut off knows what the old one saw and was told. A seat has at most as many steps past the end as its share, so those
--- that are too many for the old one go along
+-- The seat that is cut off knows what the old one saw and was told. A seat has at most as many steps past the end as its share: those
+-- that are too many for the old one go to this one
 abbrev pub part_of : View → ℕ → View
 part_of v share = record {
   pieces = v.pieces;

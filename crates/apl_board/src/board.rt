@@ -8,10 +8,10 @@ use super::view::{Extent, LEAST, MOST_SHARES, NEXT, NOWHERE, View};
 use atomic_table::Table;
 use std::alloc::{AllocError, Global};
 
-/// Hands out the numbers below its pieces, each once, and keeps the least place that was reported.
+/// Gives each number below its pieces once, and keeps the least place that was reported.
 ///
-/// Threads use a board through seats. All seats have together the shares that the board was made with, and
-/// only a seat that has all of them again can close it.
+/// Threads use a board through seats, among which its shares are divided. Only a seat that has all shares
+/// again can close it.
 #[derive(Drop)]
 pub struct Board {
     pub(crate) table: Table<(), View, Extent, BoardRule, Global>,
@@ -34,9 +34,9 @@ pub struct Closed {
 impl Board {
     ghost use Rattle.apl_board.specs.Seats.{view, pieces_of, seats_of, IsSeatOf};
 
-    /// A board of so many pieces, and the seat that has all of its shares, of which there are `seats`: 1 to 64.
+    /// A board of `pieces` pieces, and the seat that has all of its `seats` shares, 1 to 64.
     ///
-    /// It is the one call that takes memory, and an error says that there is none. It makes no atomic step and
+    /// It is the one call that takes memory, and an error says that this is out. It makes no atomic step and
     /// never waits.
     pub fn new(alloc: Global, pieces: u32, seats: u8) -> Result<(Board, BoardSeat), AllocError>
         requires some { 0 < seats }
@@ -60,10 +60,10 @@ impl Board {
         Ok((board, seat))
     }
 
-    /// The number of a piece that no seat was given before, or `None` where all have been given. The numbers
-    /// that a seat is given grow.
+    /// The number of a piece that no seat has got before, or `None` if none is left. The numbers that a seat
+    /// gets grow.
     ///
-    /// It makes one atomic step, and none for a seat that was told `None` before. It takes no memory and never
+    /// It makes one atomic step, and none for a seat that has got `None` before. It takes no memory and never
     /// waits.
     pub fn claim(&self, seat: &mut BoardSeat) -> Option<u32>
         requires { IsSeatOf self.now seat.old }
@@ -88,7 +88,7 @@ impl Board {
         }
     }
 
-    /// The board's least place becomes this place, where that is less or is the first.
+    /// The board's least place becomes this place, if that is less or is the first.
     ///
     /// It makes one atomic step, takes no memory and never waits.
     pub fn report(&self, seat: &mut BoardSeat, place: u32)
@@ -101,7 +101,7 @@ impl Board {
             .fetch_min::<Report>(&mut seat.seat, LEAST, u64::from(place));
     }
 
-    /// The least of all places that seats have reported, or `None` where there is none yet. It is at most each
+    /// The least of all places that seats have reported, or `None` if there is none yet. It is at most each
     /// that this seat reported or saw before.
     ///
     /// It makes one atomic step, takes no memory and never waits.
@@ -154,7 +154,7 @@ fn lesser(next: u64, pieces: u32) -> u32
     }
 }
 
-/// The place that the word of the least place has.
+/// The place in the word of the least place, if there is one.
 fn place_of(word: u64) -> Option<u32>
     ensures { MatchOption result (NOWHERE ≤ word) (λ p. (p ≡ word) × (word < NOWHERE)) }
 {

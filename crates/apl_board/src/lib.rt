@@ -1,4 +1,7 @@
-//! A board that hands out piece numbers to several threads, each number once, and keeps the least place that was reported.
+//! A board gives the numbers of pieces to several threads, each number once, and keeps the least place that was reported.
+//!
+//! Below it: `atomic_table`, whose words are the next number and the least place.
+//! Begin with `board.rt`. What holds between any two steps is in `specs/Rule.antt`.
 #![tactic(auto)]
 
 mod board;

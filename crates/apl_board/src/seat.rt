@@ -7,8 +7,8 @@ use atomic_table::Seat;
 
 /// The right to use a board, or a part of it. A seat has from 1 share to all shares of its board.
 ///
-/// The contracts see what the seat was given, reported, saw and was told. At run time it has its share, and
-/// whether it was told that no piece is left.
+/// The contracts see what the seat was given, what it reported and saw, and whether no piece is left for it.
+/// At run time it has only its share and the last of these.
 #[derive(Drop)]
 pub struct BoardSeat {
     pub(crate) seat: Seat<(), View>,
@@ -31,7 +31,7 @@ pub enum SplitStop {
 impl BoardSeat {
     ghost use Rattle.apl_board.specs.Seats.{view};
 
-    /// How many shares it has. It makes no atomic step, takes no memory and never waits.
+    /// How many shares the seat has. It makes no atomic step, takes no memory and never waits.
     pub fn share(&self) -> u8
         ensures value { result ≡ (view self.now).share }
         ensures some { 0 < result }

@@ -9,10 +9,10 @@ use super::steps::{CutShare, JoinSeats, ShareBound};
 use super::view::{MOST_SHARES, NEXT};
 
 impl Board {
-    /// Two seats of one: the second has this share, and the first the rest. The first keeps what the seat was
-    /// given and reported; both keep what it saw and was told.
+    /// Makes two seats of one: the second has this share, and the first the rest. The first keeps what the seat
+    /// was given and reported. Both keep what it saw, and whether no piece was left.
     ///
-    /// It makes one atomic step, and none where it answers an error. It takes no memory and never waits.
+    /// It makes one atomic step, and none if it answers an error. It takes no memory and never waits.
     pub fn split(&self, seat: BoardSeat, share: u8) -> Result<(BoardSeat, BoardSeat), SplitStop>
         requires { IsSeatOf self.now seat }
         ensures board { IfOk result (λ s. IsSeatOf self.now s.0 × IsSeatOf self.now s.1) }
@@ -38,7 +38,7 @@ impl Board {
         })
     }
 
-    /// One seat of two: the shares add up, and it was given, reported, saw and was told what either was.
+    /// Makes one seat of two: the shares add up, and it has what either was given, reported or saw.
     ///
     /// It makes one atomic step, takes no memory and never waits.
     pub fn join(&self, first: BoardSeat, second: BoardSeat) -> BoardSeat
@@ -60,7 +60,7 @@ impl Board {
         self.table.shared.join_seat::<JoinSeats>(&mut seat, other);
         let share = share + more;
         if share > MOST_SHARES {
-            // No run comes here. A join tells nothing of the shares of both, and this step would.
+            // No run comes here. A join doesn't show that both seats have no more than all shares, and this step would.
             self.table.shared.load::<ShareBound>(&mut seat, NEXT);
             unreachable!();
         }

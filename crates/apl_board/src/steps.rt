@@ -1,4 +1,4 @@
-//! The rule of the board's table, and what each kind of step tells its seat.
+//! The rule of the board's table, and what a seat learns by each kind of step.
 ghost use Rattle.apl_board.specs.Rule.{IsLawfulBoard, first_view};
 ghost use Rattle.apl_board.specs.Steps.{TellsClaim, TellsReport, TellsLook, TellsShareBound};
 ghost use Rattle.apl_board.specs.View.{joined, spent};
@@ -35,14 +35,14 @@ impl Play<(), View> for Look {
     ghost then = { TellsLook };
 }
 
-/// A step that no run makes: it says that no seat has more shares than a board can have.
+/// A step that no run makes: by it no seat has more shares than a board can have.
 pub(crate) struct ShareBound;
 
 impl Play<(), View> for ShareBound {
     ghost then = { TellsShareBound };
 }
 
-/// Cuts off a share of 8 × `HIGH` + `LOW`: what a split does is fixed by its type.
+/// Cuts off a share of 8 × `HIGH` + `LOW`: the type of a split fixes what it does.
 pub(crate) struct CutShare<const HIGH: u8, const LOW: u8>;
 
 impl<const HIGH: u8, const LOW: u8> Split<View> for CutShare<HIGH, LOW> {

@@ -13,7 +13,7 @@ pub(crate) const LEAST: usize = 1;
 /// The least place while nothing was reported.
 pub(crate) const NOWHERE: u64 = 1 << 32;
 
-/// How many pieces a board hands out, and how many shares its seats have together.
+/// How many pieces a board has, and how many shares its seats have together.
 #[derive(Clone, Copy)]
 pub(crate) struct Extent {
     pub pieces: u32,
@@ -22,7 +22,7 @@ pub(crate) struct Extent {
 
 /// What a seat knows, for contracts alone: no value of it is ever made.
 pub(crate) struct View {
-    /// How many pieces the board hands out.
+    /// How many pieces the board has.
     pub pieces: u32,
     /// How many shares all seats of the board have together.
     pub seats: u8,
@@ -34,8 +34,8 @@ pub(crate) struct View {
     pub reported: LinkedList<u32>,
     /// The least places that it saw, in order.
     pub seen: LinkedList<u32>,
-    /// Whether it was told that no piece is left.
+    /// Whether it knows that no piece is left.
     pub told: bool,
-    /// How many of its steps took a number past the end, which is no piece.
+    /// How many of its steps took a number past the end, where there is no piece.
     pub past: u8,
 }

@@ -1,4 +1,7 @@
 //! What is printed reads back: printing and reading agree on numbers and texts of one line.
+//!
+//! Below it: `apl_print` and `apl_syntax`, with `apl_array`, `apl_tokens` and `apl_grammar`, for their definitions.
+//! Begin with `laws.rt`.
 #![tactic(auto)]
 
 mod laws;

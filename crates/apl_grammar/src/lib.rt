@@ -1,4 +1,7 @@
 //! Programs from tokens: the grammar, and the column of a grammar fault.
+//!
+//! Below it: `apl_tokens` for tokens, and `apl_array` for the names of scalar functions.
+//! Begin with `specs/Tree.antt`, which is the grammar, and then `reader.rt`.
 #![tactic(auto)]
 
 mod functions;

@@ -1,4 +1,7 @@
 //! The options of the program's command line.
+//!
+//! Below it: `clap`, which reads the words, and `apl_pool` for the most workers and for the schedules.
+//! Begin with `options.rt`.
 #![tactic(auto)]
 
 mod command_line;

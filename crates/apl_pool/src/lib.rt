@@ -1,8 +1,11 @@
 //! Work over the places of an array, cut into pieces and shared out to workers.
 //!
-//! What a pass over all places answers is what one worker answers who goes from place 0 upwards:
-//! the value at each place, or the least place that has a fault. Neither the number of workers
-//! nor the cutting is seen in it.
+//! A pass over all places answers what one worker would who goes from place 0 upwards: the value at each place,
+//! or the least place that has a fault. Neither the number of workers nor the cutting changes it.
+//!
+//! Below it: `apl_board` and `apl_yard` give pieces to workers, and in `apl_rooms` they write the values.
+//! The slots of `core` and the lists of `std_alloc` are the room for these.
+//! Begin with `kernel.rt`, and then `pool.rt`.
 #![tactic(auto)]
 
 mod complete;

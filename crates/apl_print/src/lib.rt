@@ -1,4 +1,7 @@
 //! What the calculator writes: printed values, reports, and the sinks that take them.
+//!
+//! Below it: `apl_array` for arrays, `itoa` for the digits of numbers, and `arrayvec` for short reports.
+//! Begin with `specs/Shown.antt`, which says how an array is printed, and then `values.rt`.
 #![tactic(auto)]
 
 mod countdowns;

@@ -11,7 +11,7 @@ use Rattle.core.specs.Mem.Slots.Ownership.{bytes_of}
 use Rattle.apl_rooms.specs.declared.room.Room.{Room}
 use Rattle.apl_rooms.specs.contracts.room.Room.{the_row}
 
--- the room with other values. Where they are more or fewer, they are cut, or filled up from the room's, so that the length stays
+-- the room with other values. They are cut, or filled up from the room's, so that the length stays
 abbrev pub with_items : {X : Type 0} → Room X → List X → Room X
 with_items r ws = record { ptr = r.ptr; len = r.len; items = take r.len (ws ++ drop (length ws) r.items); ok = length_refill r.len r.items ws r.ok; small = r.small }
 

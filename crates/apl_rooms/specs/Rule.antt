@@ -13,7 +13,7 @@ module _ {X : Type 0} where
   total f [] = 0
   total f (v ∷ vs) = f v + total f vs
 
-  -- both are the same places
+  -- both rooms have the same places
   abbrev pub IsSameRoom : Option (Room X) → Option (Room X) → Type 0
   IsSameRoom (Some a) (Some b) = (b.ptr ≡ a.ptr) × (b.len ≡ a.len)
   IsSameRoom (Some a) None = ⊥

@@ -30,7 +30,7 @@ pub(crate) fn lay_out<T, F: Task<T>>(
     homes
 }
 
-/// The rooms of all pieces, glued behind `front`, which has no place.
+/// The rooms of all pieces, glued after `front`, which has no place.
 pub(crate) fn glue_all<T, F: Task<T>>(
     front: Room<T>,
     task: &F,

@@ -1,4 +1,7 @@
-//! Rooms: a row of places is cut into pieces that are written where they lie, by whichever thread takes them.
+//! Rooms: a row of places is cut into pieces, and each is written in its place by the thread that takes it.
+//!
+//! Below it: `atomic_table`, in whose slots the rooms are, the slots of `core` for the row, and `std_alloc` for lists.
+//! Begin with `rooms.rt`. The unsafe code is in `room.rt`.
 #![tactic(auto)]
 
 mod layout;

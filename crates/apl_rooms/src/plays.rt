@@ -1,4 +1,4 @@
-//! The rule of a table of rooms, and what each kind of step tells its seat.
+//! The rule of a table of rooms, and what a seat learns by each kind of step.
 ghost use Rattle.apl_rooms.specs.Views.{rest_of, part_of, joined, spent};
 
 use crate::room::Room;
@@ -9,7 +9,7 @@ use core::slots::Slots;
 use std::marker::PhantomData;
 use std::snapshot::Snapshot;
 
-/// What a table of rooms is told when it is made, for proofs alone.
+/// What a table of rooms is made of, for proofs alone.
 #[derive(Drop)]
 pub struct Laid<T, F> {
     pub(crate) rooms: Snapshot<Vec<Option<Room<T>>>>,
@@ -18,7 +18,7 @@ pub struct Laid<T, F> {
     pub(crate) seats: u8,
 }
 
-/// A room is at home, or out with one seat; and where its word says that it is right, it has the values of its piece.
+/// A room is at home, or out with one seat. If its word says that it is right, it has the values of its piece.
 pub struct RoomRule<F> {
     task: PhantomData<F>,
 }

@@ -1,7 +1,7 @@
 //! Places side by side that are owned, so that they can be cut and glued and go to another thread.
 //!
-//! This is the only unsafe code of the crate: a borrowed row can't be laid into a table, since the proof would no longer know
-//! which row it was. So a room owns its places, as a pointer and a length.
+//! This is the only unsafe code of the crate. If a borrowed row were laid into a table, the proof would no longer know which row
+//! it was. So a room owns its places, as a pointer and a length.
 ghost use Rattle.std.specs.Prelude.{◌≡◌, ◌^◌, ◌<◌, ◌≤◌, List, length, replicate, true};
 ghost use Rattle.core.specs.Mem.Slots.{slots_items, slots_ptr, slots_len, IsFull};
 ghost use Rattle.core.specs.Mem.Slots.Ownership.{owned};
@@ -25,7 +25,7 @@ impl<T> Model for Room<T> {
 
 unsafe impl<T: Send> Send for Room<T> {}
 
-// A `&` to a room reaches none of its values.
+// No value of a room is reached through a `&`.
 unsafe impl<T: Send> Sync for Room<T> {}
 
 impl<T> Room<T> {
@@ -58,7 +58,7 @@ impl<T> Room<T> {
         )
     }
 
-    /// The places of both, where `other` begins behind `self`.
+    /// The places of both, where `other` begins at the end of `self`.
     pub fn glue(self, other: Room<T>) -> Room<T>
         requires { AreNeighbours T.row self other }
         ensures { IsGlued self other result }

@@ -38,8 +38,8 @@ pub struct Rooms<T, F: Task<T>> {
     ghost room: { length table.shared.key.rooms.value.items ≤ vec_capacity marks },
 }
 
-/// A part of the right to the rooms: each thread fills them with a seat of its own. A seat has one or more of the shares that the
-/// rooms were made with, and has no bytes. Where one is dropped its shares are lost, and the rooms can't be closed.
+/// The right to the rooms, or a part of it: each thread fills them with a seat of its own. A seat has one or more of the rooms'
+/// shares, and no bytes. If one is dropped, its shares are lost, and the rooms can't be closed.
 #[derive(Drop)]
 pub struct RoomSeat<T> {
     seat: Seat<Option<Room<T>>, View<T>>,
@@ -51,11 +51,11 @@ pub struct RoomSeat<T> {
 /// What became of a room that a seat wanted to fill.
 #[derive(Clone, Copy, Debug, PartialEq, Eq)]
 pub enum Filled {
-    /// It has the values of its piece, and stays as it is.
+    /// The room has the values of its piece, and stays as it is.
     Right,
     /// The task answered this place. The room is at home again, to be filled once more.
     Stopped(u32),
-    /// It wasn't there: another seat has it, it is right already, or there is no such piece. Nothing was written.
+    /// The room wasn't there: another seat has it, it is right already, or there is no such piece. Nothing was written.
     Gone,
 }
 
@@ -70,7 +70,7 @@ impl<T, F: Task<T>> Rooms<T, F> {
     ghost use Rattle.apl_rooms.specs.Seats.{share_of, seats_of, task_of, row_of, laid_out, IsSeatOf};
 
     /// The rooms of a row, cut where the task's pieces begin, and the seat that has all shares, as many as `seats`. None is right
-    /// yet. The row comes back, full and in its places, where the allocator refuses memory, and only then. No other call takes any.
+    /// yet. The row comes back, full and in its places, if the allocator refuses memory, and only then. No other call takes any.
     pub fn new(
         alloc: Global,
         row: Slots<T>,
@@ -119,9 +119,9 @@ impl<T, F: Task<T>> Rooms<T, F> {
         }
     }
 
-    /// Takes the room of the piece with this number, has the task write its values there, and lays it back: marked as right where
-    /// the task answers `Ok` (`Filled::Right`), and else not (`Filled::Stopped`, with the task's place). It answers `Filled::Gone`
-    /// at once where the room isn't there to be taken. It takes no memory and never waits for another thread, as long as the task's
+    /// Takes the room of the piece with this number, has the task write its values there, and lays it back. If the task answers
+    /// `Ok`, the room is marked as right (`Filled::Right`), and else not (`Filled::Stopped`, with the task's place). If the room
+    /// isn't there to be taken, the answer is `Filled::Gone`. It takes no memory and never waits for another thread, if the task's
     /// `write` does neither.
     pub fn fill(&self, seat: &mut RoomSeat<T>, task: &F, number: usize) -> Filled
         requires seat { IsSeatOf self.now seat.old }
@@ -144,7 +144,7 @@ impl<T, F: Task<T>> Rooms<T, F> {
         }
     }
 
-    /// One share is cut off, for another thread: the second seat has it, and the first keeps the others. It takes no memory and
+    /// Cuts off one share, for another thread: the second seat has it, and the first keeps the others. It takes no memory and
     /// never waits.
     pub fn split(&self, seat: RoomSeat<T>) -> (RoomSeat<T>, RoomSeat<T>)
         requires seat { IsSeatOf self.now seat }
@@ -157,7 +157,7 @@ impl<T, F: Task<T>> Rooms<T, F> {
         (RoomSeat { seat }, RoomSeat { seat: part })
     }
 
-    /// One seat of both, with the shares of both. It takes no memory and never waits.
+    /// Makes one seat of two, with the shares of both. It takes no memory and never waits.
     pub fn join(&self, first: RoomSeat<T>, second: RoomSeat<T>) -> RoomSeat<T>
         requires seats { IsSeatOf self.now first × IsSeatOf self.now second }
         ensures seat { IsSeatOf self.now result }
@@ -169,8 +169,8 @@ impl<T, F: Task<T>> Rooms<T, F> {
         RoomSeat { seat }
     }
 
-    /// The whole row, and for each piece a mark. Each place has a value, whatever the threads did; a marked piece has the values
-    /// of its piece, and of one that isn't marked nothing is known. It takes no memory: `new` took that of the marks.
+    /// The whole row, and for each piece a mark. Each place has a value, whatever the threads did. A marked piece has its values;
+    /// of one that isn't marked nothing is known. It takes no memory: `new` took that of the marks.
     pub fn close(self, seat: RoomSeat<T>) -> (Slots<T>, Vec<bool>)
         requires seat { IsSeatOf self seat }
         requires all { share_of seat ≡ seats_of self }
@@ -200,7 +200,7 @@ impl<T, F: Task<T>> Rooms<T, F> {
         (whole.into_slots(), marks)
     }
 
-    // Takes the room of a piece out of its slot, where it is at home and not right.
+    /// Takes the room of a piece out of its slot, if it is at home and not right.
     fn take(&self, seat: &mut Seat<Option<Room<T>>, View<T>>, number: usize) -> Option<Room<T>>
         requires number { number < self.now.table.shared.table_id.words }
         requires seat { seat.old.table_id ≡ self.now.table.shared.table_id }
@@ -219,7 +219,7 @@ impl<T, F: Task<T>> Rooms<T, F> {
         self.table.shared.exchange(seat, number, None)
     }
 
-    // Lays a room back into its slot. Where it is right it stays there.
+    /// Lays a room back into its slot. If it is right, it stays there.
     fn lay(
         &self,
         seat: &mut Seat<Option<Room<T>>, View<T>>,

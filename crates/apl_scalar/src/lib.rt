@@ -2,6 +2,9 @@
 //!
 //! They are those of the APL\360 User's Manual (1968), over whole numbers of 64 bits; the integer
 //! cases are those of ISO 8485:1989. Only a function's exact result is tested against the range.
+//!
+//! Below it: `apl_array` for arrays, `apl_pool` for passes over them, and `apl_answer` for answers.
+//! Begin with the tables of `specs/Scalar.antt`, and then `arrays.rt`.
 #![tactic(auto)]
 
 mod arithmetic;

@@ -1,4 +1,7 @@
-//! Summaries of numbers that are folded from the right by a scalar function.
+//! Summaries of numbers that are folded from the right by a scalar function, so that a fold can be cut anywhere.
+//!
+//! Below it: `apl_array` for the names of functions, `apl_pool` for its trait `Summary`, and `apl_scalar` for the functions.
+//! Begin with `signed_sum.rt`, the summary under `+` and `-`, and then `folding.rt`, which chooses a summary.
 #![tactic(auto)]
 
 mod answers;

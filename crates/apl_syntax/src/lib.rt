@@ -1,4 +1,7 @@
-//! Lines of a session, read.
+//! Lines of a session, read: a command, a blank line, the program of a statement, or a fault at a column.
+//!
+//! Below it: `apl_tokens` and `apl_grammar`, which it puts together, and `apl_array` for the origin.
+//! Begin with `lines.rt`, and then `reader.rt`.
 #![tactic(auto)]
 
 mod commands;

@@ -1,4 +1,7 @@
 //! The listed symbols, the front of a line, and the tokens of a line.
+//!
+//! Below it: `apl_array`, whose arrays are the values of constants.
+//! Begin with `specs/Lexis.antt`, which says what a token is, and then `lexer.rt`.
 #![tactic(auto)]
 
 mod fronts;

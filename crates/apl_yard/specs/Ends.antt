@@ -21,10 +21,10 @@ room hand = hand.room
 abbrev pub IsThiefOf : Hand → Thief → Type 0
 IsThiefOf hand thief = stealer_deque thief.stealer ≡ worker_deque hand.worker
 
--- it is the owner's end of the same deque, so its thieves stay its thieves
+-- it is the owner's end of the deque that it was, so its thieves stay its thieves
 abbrev pub IsSameDeque : Hand → Hand → Type 0
 IsSameDeque old new = worker_deque new.worker ≡ worker_deque old.worker
 
--- it is a thief's end of the same deque
+-- it is a thief's end of the deque that it was
 abbrev pub StealsFromSame : Thief → Thief → Type 0
 StealsFromSame old new = stealer_deque new.stealer ≡ stealer_deque old.stealer

@@ -23,14 +23,14 @@ once_below position n = cond (nat_lt position n) 1 0
 abbrev pub IsTakenFrom : List ℕ → TakerView → Type 0
 IsTakenFrom pushed v = All (λ t. get_elem? pushed t.0 ≡ some t.1) v.taken × AllPairs (λ s t. s.0 < t.0) v.taken
 
--- the pieces in the deque, the first first, and what each end knows, the owner first, make a state of the rule
+-- the pieces in the deque, in order, and what each end knows, the owner first, make a state of the rule
 pub record IsDequeState (items : List ℕ) (views : List TakerView) : Type 0 where
   -- what the owner knows
   pub owner : TakerView
   pub owner_is_first : get_elem? views 0 ≡ some owner
   -- there is an end for each thief, and no other
   pub ends : length views ≡ owner.thieves + 1
-  -- the deque contains the ending of what was pushed, behind the pieces that are gone
+  -- the deque contains the ending of what was pushed, after the pieces that are gone
   pub gone : List ℕ
   pub pushed : owner.pushed ≡ gone ++ items
   -- each piece that is gone was taken once, by one end, and no other piece was taken

@@ -1,4 +1,4 @@
-//! The rule of a deque of pieces, and what each kind of step tells. It is all for proofs: no value of these types is made.
+//! The rule of a deque of pieces, and what each kind of step tells. All of it is for proofs: no value of these types is made.
 ghost use Rattle.apl_yard.specs.Views.{opening_view, with_thief};
 ghost use Rattle.apl_yard.specs.Rule.{IsDequeState, PushTells, PopTells, StealTells};
 

@@ -9,12 +9,12 @@ use crate::rule::{DequeRule, PopStep, PushStep, StealStep, TakerView, ThiefSplit
 use crossbeam_deque::{Pass, Steal, Stealer, Worker};
 use std::alloc::{AllocError, Global};
 
-/// Where deques are made. A deque of pieces is the lock-free one of Chase and Lev, as the crate `crossbeam_deque` has it, with all ends
-/// at work on its front: what was pushed first is taken first, by whoever comes.
+/// Makes deques of pieces. They are the lock-free ones of Chase and Lev, in the FIFO flavor of the crate `crossbeam_deque`. Every end
+/// takes the piece that was pushed first.
 #[derive(Clone, Copy, Debug, PartialEq, Eq)]
 pub struct Yard;
 
-/// The owner's end of a deque: it alone pushes, and it takes as the thieves do.
+/// The owner's end of a deque. It alone pushes, and it takes as the thieves do.
 #[derive(Drop)]
 pub struct Hand {
     worker: Worker<u32, Global, TakerView, DequeRule>,
@@ -24,7 +24,7 @@ pub struct Hand {
     ghost fits: { length (worker_view worker).pushed + room ≤ worker_capacity worker },
 }
 
-/// A thief's end of a deque: it takes, and can't push. It may be sent to another thread.
+/// A thief's end of a deque. It takes, and can't push. It may be sent to another thread.
 #[derive(Drop)]
 pub struct Thief {
     stealer: Stealer<u32, Global, TakerView, DequeRule>,
@@ -33,23 +33,23 @@ pub struct Thief {
     ghost possible: { IsPossible (view pass) },
 }
 
-/// What a thief's try came to. No clause says which of the last two comes: a state in which the deque is empty is possible for a thief
-/// whatever it knows, since the others may have taken all the rest. Tests show it.
+/// What a thief's try came to. No clause says which of the last two comes: whatever a thief knows, the others may have taken all
+/// the rest. Tests show it.
 #[derive(Clone, Copy, Debug, PartialEq, Eq)]
 pub enum Taken {
     /// The piece that was the first. The thief has it now, and no other end gets it.
     Piece(u32),
-    /// Nothing was taken: it is meant for a deque that was empty at one moment of the call.
+    /// Nothing was taken. It is meant for a deque that was empty at one moment of the call.
     Nothing,
-    /// Nothing was taken: it is meant for a call in which another end took a piece. The next try may find one.
+    /// Nothing was taken. It is meant for a call in which another end took a piece. The next try may find one.
     Busy,
 }
 
 impl Yard {
     ghost use Rattle.apl_yard.specs.Ends.{hand_view, thief_view, room, IsThiefOf};
 
-    /// A deque for at most `capacity` pieces in all, empty at first: its owner's end, and as many thieves' ends as `thieves` says. The only
-    /// error is want of memory. All memory of the deque is taken here, and given back with its last end.
+    /// An empty deque, for at most `capacity` pushes: its owner's end, and `thieves` thieves' ends. The only error is out of memory.
+    /// All memory of the deque is taken here, and given back with its last end.
     #[tactic(auto, using(crate::proofs::Keeps::begins))]
     pub fn new(alloc: Global, capacity: u32, thieves: u8) -> Result<(Hand, Vec<Thief>), AllocError>
         ensures view { IfOk result (λ ends. hand_view ends.0 ≡ opening_view thieves) }
@@ -73,7 +73,7 @@ impl Yard {
 impl Hand {
     ghost use Rattle.apl_yard.specs.Ends.{hand_view, thief_view, room, IsThiefOf, IsSameDeque};
 
-    /// One more thief's end of the same deque.
+    /// One more thief's end of the deque.
     fn thief(&mut self) -> Result<Thief, AllocError>
         ensures same { IsSameDeque self.old self.new }
         ensures view { IfOk result (λ _. hand_view self.new ≡ with_thief (hand_view self.old)) }
@@ -85,7 +85,7 @@ impl Hand {
         Ok(Thief { stealer, pass })
     }
 
-    /// Puts a piece behind all others. The first `capacity` pushes succeed, whatever was taken meanwhile. Each later one is refused: the
+    /// Puts a piece after all others. The first `capacity` pushes succeed, whatever was taken meanwhile. Each later one is refused: the
     /// piece comes back as the error, and nothing changes. It takes no memory and doesn't wait.
     pub fn push(&mut self, piece: u32) -> Result<(), u32>
         ensures same { IsSameDeque self.old self.new }
@@ -106,7 +106,7 @@ impl Hand {
         }
     }
 
-    /// Takes the first piece. None says that the deque was empty at one moment of the call. It takes no memory and doesn't wait.
+    /// Takes the first piece. `None` means that the deque was empty at one moment of the call. It takes no memory and doesn't wait.
     pub fn pop(&mut self) -> Option<u32>
         ensures same { IsSameDeque self.old self.new }
         ensures room { room self.new ≡ room self.old }
@@ -120,7 +120,7 @@ impl Thief {
     ghost use Rattle.apl_yard.specs.Ends.{thief_view, StealsFromSame};
     ghost use Rattle.apl_yard.specs.Steals.{IsTry};
 
-    /// Takes the first piece, where there is one and no other end takes it at this moment. It takes no memory and doesn't wait.
+    /// Takes the first piece, if there is one and no other end takes it at this moment. It takes no memory and doesn't wait.
     pub fn steal(&mut self) -> Taken
         ensures same { StealsFromSame self.old self.new }
         ensures took { IsTry (thief_view self.old) result (thief_view self.new) }

@@ -1,4 +1,7 @@
 //! Answers a session from standard input on standard output.
+//!
+//! Below it: `apl_options` for the words of the command line, `apl_pool` for the workers, `apl_print` for the sink,
+//! and `apl_session`, whose `run` answers the session. Its theorem is in `apl_session/src/answering.rt`.
 #![tactic(auto)]
 
 use apl_options::{Settings, refusal, settings};
@@ -26,7 +29,7 @@ fn main(rt: HostRuntime) -> ExitCode {
     ExitCode::from(status)
 }
 
-/// What the words of the command line ask for. Where the system gives no word, the program's name stands for it.
+/// What the words of the command line ask for. Where the system gives no word, it is the program's name.
 fn given_settings<R: Env + AllocGlobal>(rt: &R) -> Result<Settings, Error> {
     let alloc = rt.alloc();
     let words: Vec<String> = match env::args(rt) {
@@ -40,7 +43,7 @@ fn given_settings<R: Env + AllocGlobal>(rt: &R) -> Result<Settings, Error> {
     settings(alloc, texts.as_slice())
 }
 
-/// Why the system gives no words: want of memory, or a word that is no text.
+/// Why the system gives no words: it is out of memory, or a word is no text.
 fn words_refused(alloc: Global, error: &io::Error) -> Result<Error, AllocError> {
     match error.kind() {
         io::ErrorKind::OutOfMemory => Err(AllocError),
