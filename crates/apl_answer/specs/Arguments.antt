@@ -25,7 +25,7 @@ has_elements a = not (size_of a == 0)
 abbrev pub has_one_element : List ℕ → Bool
 has_one_element shape = count_of shape == 1
 
--- two shapes are the same, as a test
+-- the test whether two shapes are equal
 abbrev pub is_same_shape : List ℕ → List ℕ → Bool
 is_same_shape = pointwise nat_eq
 
@@ -42,7 +42,7 @@ abbrev pub is_number_kind : Kind → Bool
 is_number_kind Number = true
 is_number_kind Character = false
 
--- both kinds are the same
+-- both kinds are equal
 abbrev pub is_same_kind : Kind → Kind → Bool
 is_same_kind Number kind = is_number_kind kind
 is_same_kind Character kind = not (is_number_kind kind)
@@ -69,7 +69,7 @@ is_natural (negsuc n) = false
 abbrev pub is_bit : ℤ → Bool
 is_bit z = int_eq z (pos 0) || int_eq z (pos 1)
 
--- the element that fills up an array of this kind: 0, or the blank
+-- the fill of this kind: 0, or the blank
 abbrev pub fill_of : Kind → Elem
 fill_of Number = Int (pos 0)
 fill_of Character = Chr 32

@@ -36,6 +36,6 @@ first_failure_or (check ∷ checks) answer = if check.0 then first_failure_or ch
 abbrev pub result_of : Row → Result ArrayValue OpFault
 result_of row = first_failure_or row.checks (answer_of row.shape row.outcome row.kind)
 
--- the row's result, or want of memory in its place
+-- the row's result, or `Memory` in its place
 abbrev pub Answers : Row → Result ArrayValue OpFault → Type 0
 Answers row result = IsAnswerOf (result_of row) result

@@ -1,7 +1,7 @@
 //! Numbers and characters.
 use apl_array::{Array, Elem, Shape};
 
-/// What an array of one kind contains: a number or a character.
+/// An element of an array of one kind: a number or a character.
 pub trait Element: Copy {
     ghost use Rattle.std.specs.Prelude.{◌≡◌, vec_len};
     ghost use Rattle.apl_array.specs.declared.array.Elem.{Elem};
@@ -10,17 +10,17 @@ pub trait Element: Copy {
     ghost use Rattle.apl_answer.specs.Elements.{array_with};
     ghost use Rattle.apl_answer.specs.Arguments.{fill_of};
 
-    // The same as an element of any kind.
+    // The value as an element of any kind.
     ghost elem_of: { Self → Elem };
 
     // Of this kind.
     ghost kind: { Kind };
 
-    /// The same as an element of any kind.
+    /// The value as an element of any kind.
     fn elem(self) -> Elem
         ensures { result ≡ elem_of self };
 
-    /// What fills up an array: 0 or the blank.
+    /// The fill of the kind: 0 or the blank.
     fn fill() -> Self
         ensures { elem_of result ≡ fill_of kind };
 

@@ -7,7 +7,7 @@ use std::alloc::AllocError;
 /// Why a function of arrays has no value.
 #[derive(Clone, Copy, Debug, PartialEq, Eq)]
 pub enum OpFault {
-    /// The numbers of axes do not agree.
+    /// The ranks do not agree.
     Rank,
     /// The lengths do not agree.
     Length,
@@ -15,7 +15,7 @@ pub enum OpFault {
     Index,
     /// A function isn't defined there.
     Domain,
-    /// The exact value passes a limit.
+    /// The exact value exceeds a limit.
     Limit,
     /// A growth was refused.
     Memory,

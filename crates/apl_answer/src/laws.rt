@@ -13,8 +13,8 @@ ghost use Rattle.apl_answer.specs.Rows.{Row, HavePassed, result_of};
 
 use apl_array::places_match_index_lists;
 
-/// The answer is an array exactly where that array has the outcome at each index list, and a fault
-/// exactly where that is the fault of the least place that has one.
+/// The answer is an array exactly if that array has the outcome at each index list. It is a fault
+/// exactly if that is the fault of the least place that has one.
 pub fn answer_is_each_outcome()
     ensures array { (shape : List ℕ) (outcome : List ℕ → Result Elem Fault) (kind : Kind) (a : ArrayValue)
         → IsArray a → (answer_of shape outcome kind ≡ Ok a) ↔ IsArrayOf shape outcome kind a }
@@ -33,8 +33,8 @@ pub fn answer_is_in_range()
     places_match_index_lists();
 }
 
-/// An answer of a lawful shape whose outcomes are in the range is within all limits. Of a row, both
-/// are asked only where its checks have passed.
+/// An answer of a lawful shape whose outcomes are in the range is within all limits. So is that of a
+/// row, of which both are needed only if its checks have passed.
 pub fn answer_is_within_limits()
     ensures answer { (shape : List ℕ) (outcome : List ℕ → Result Elem Fault) (kind : Kind) (a : ArrayValue)
         → IsShape shape → ((index : List ℕ) → IsIndexOf shape index → IfOk (outcome index) IsElementInRange)

@@ -66,8 +66,8 @@ fn in_row_order<T: Element + Send + Sync, R: Threads + Sync, C: Cut + Sync, G: G
     fill_array(rt, alloc, pool, shape, &kernel)
 }
 
-/// The array of this shape with the elements of an array in row order, of which it takes no more than
-/// there are.
+/// The array of this shape with the elements of an array in row order. It needs no more elements than
+/// that array has.
 pub fn array_of_elements<R: Threads + Sync, C: Cut + Sync, G: Gate + Sync>(
     rt: &R,
     alloc: Global,

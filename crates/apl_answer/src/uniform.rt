@@ -1,4 +1,4 @@
-//! The same at each place.
+//! One number, or one fault, at all places.
 ghost use Rattle.std.specs.Prelude.{◌≡◌, ◌≤◌, IfOk, IfErr};
 ghost use Rattle.apl_pool.specs.declared.kernel.TheConstants.{MOST_PLACES};
 ghost use Rattle.apl_pool.specs.Pool.{AreValues, IsStopOf};
@@ -7,7 +7,7 @@ use apl_pool::{Cut, Fault, Gate, Kernel, Pool, Stop};
 use std::alloc::Global;
 use std::thread::Threads;
 
-/// The same number, or the same fault, at each place.
+/// One number, or one fault, at all places.
 #[derive(Drop)]
 struct Uniform {
     count: usize,
@@ -32,7 +32,7 @@ impl Kernel for Uniform {
     }
 }
 
-/// The same number at so many places, or the same fault at the first.
+/// The number at each of `count` places, or the fault at the first of them.
 pub fn fill_uniform<R: Threads + Sync, C: Cut + Sync, G: Gate + Sync>(
     rt: &R,
     alloc: Global,

@@ -4,12 +4,12 @@ ghost use Rattle.apl_pool.specs.declared.kernel.TheConstants.{MOST_PLACES};
 
 use std::marker::Model;
 
-/// A divisor with its reciprocal, by which a place is divided by a product, since a division takes
+/// A divisor with its reciprocal. A place is multiplied by the reciprocal, since a division takes
 /// several times as long. The contracts see the divisor.
 #[derive(Drop)]
 pub struct Divisor {
     by: usize,
-    /// 2^62 divided by it, and one.
+    /// 2^62 divided by the divisor, rounded down, and one more.
     reciprocal: u64,
 }
 
@@ -25,7 +25,7 @@ impl Model for Divisor {
 }
 
 impl Divisor {
-    /// The divisor of this number, which is not 0.
+    /// The divisor `by`, which is not 0.
     pub fn new(by: usize) -> Divisor
         requires some { 0 < by }
         requires most { by ≤ MOST_PLACES }
@@ -56,7 +56,7 @@ impl Divisor {
         ((place as u128 * self.reciprocal as u128) >> 62) as usize
     }
 
-    /// What is left of a place.
+    /// What is left of a place after the division.
     #[inline(always)]
     pub fn remainder(&self, place: usize) -> usize
         requires { place ≤ MOST_PLACES }

@@ -8,7 +8,7 @@ use Rattle.apl_rooms.specs.Seats.{share_of, task_of, row_of, laid_out, IsSeatOf 
 use Rattle.apl_rooms.specs.Layout.{AreRoomsOf}
 use Rattle.apl_pool.specs.declared.crew.Seats.{Seats}
 
--- the seats of so many workers
+-- the seats of some workers
 abbrev pub AreSeatsOf : {X F : Type 0} → Rooms X F → Board → Seats X → ℕ → Type 0
 AreSeatsOf rooms board s workers = IsRoomSeatOf rooms s.rooms × (share_of s.rooms ≡ workers) × IsSeatOf board s.board × ((view s.board).share ≡ workers)
 
@@ -16,6 +16,6 @@ AreSeatsOf rooms board s workers = IsRoomSeatOf rooms s.rooms × (share_of s.roo
 abbrev pub AreRoomsFor : (R : RattleType) → {F : Type 0} → (F → ℕ → ℕ) → (F → ℕ) → Rooms R.Denot F → F → Type 0
 AreRoomsFor R start count rooms task = (task_of rooms ≡ task) × AreRoomsOf R (start task) (row_of rooms) (count task) (laid_out rooms)
 
--- where a piece is marked its values are right
+-- the values of a marked piece are right
 abbrev pub AreMarks : {X : Type 0} → (ℕ → List X → Type 0) → (ℕ → ℕ) → ℕ → List X → List Bool → Type 0
 AreMarks is_right start count values marks = (length marks ≡ count) × ((n : ℕ) → n < count → slice_index_or marks n false ≡ true → is_right n (slice_range values (start n) (start (n + 1))))

@@ -19,7 +19,7 @@ module _ {T : Type 0} (outcome : ℕ → Result T Fault) where
     pub len : from + length values ≡ to
     pub each : (k : ℕ) (d : T) → k < length values → outcome (from + k) ≡ Ok (slice_index_or values k d)
 
-  -- the values at these places stand there in a list of those at all places
+  -- of a list for all places, the items at these places are the values there
   abbrev pub AreValuesAt : ℕ → ℕ → List T → Type 0
   AreValuesAt from to values = (k : ℕ) (d : T) → from ≤ k → k < to → outcome k ≡ Ok (slice_index_or values k d)
 

@@ -9,7 +9,7 @@ use Rattle.apl_pool.specs.Pool.{AreValues, IsLeastFault}
 abbrev pub IsI64 : ℤ → Type 0
 IsI64 z = (negsuc 9223372036854775807 ≤ℤ z) × (z ≤ℤ pos 9223372036854775807)
 
--- a function of a value, or the fault that there is in its place
+-- a function of a value, or the fault in its place
 abbrev pub and_then : Result ℤ Fault → (ℤ → Result ℤ Fault) → Result ℤ Fault
 and_then (Ok z) f = f z
 and_then (Err fault) f = Err fault
@@ -38,7 +38,7 @@ module _ {S X : Type 0} (step : X → ℤ → Result ℤ Fault) (item_count : S 
     pub values : AreValues (outcome row) count items
     pub summary : IsSummaryOf step item_count does s items
 
-  -- why there are no more: each row has one, or the next one has a fault, and this is its least. Want of memory says nothing
+  -- why there are no more: each row has one, or the next one has a fault, and this is its least. `Memory` says nothing
   abbrev pub IsEnd : ℕ → ℕ → ℕ → Result Unit Stop → Type 0
   IsEnd rows count row (Ok x) = row ≡ rows
   IsEnd rows count row (Err (FaultAt place fault)) = (row < rows) × IsLeastFault (outcome row) count place fault

@@ -13,8 +13,7 @@ use super::tasks::Values;
 use super::work::write_piece;
 use std::thread::Threads;
 
-/// The values of one piece at its places in the list. Where they don't stand there already the first worker writes them, who passes
-/// the gate before.
+/// The values of one piece at its places in the list. If they aren't there yet, the first worker passes the gate and writes them.
 fn complete_piece<K: Kernel, G: Gate>(
     kernel: &K,
     gate: &G,
@@ -41,7 +40,7 @@ where
     write_piece(kernel, piece, &mut values[piece.from..piece.to])
 }
 
-/// The values of all pieces: those that are marked stand already, and the first worker writes each other one, from place 0 upwards.
+/// The values of all pieces. Those of marked pieces are there already. The first worker writes the others, from place 0 upwards.
 fn complete<K: Kernel, G: Gate>(
     kernel: &K,
     gate: &G,

@@ -3,7 +3,7 @@ ghost use Rattle.std.specs.Prelude.{◌≡◌, ◌≤◌, IfOk, replicate, vec_l
 
 use std::alloc::{AllocError, Global};
 
-/// Room for so many copies of a number, none of which is written yet.
+/// Room for some copies of a number, none of which is written yet.
 #[derive(Drop)]
 pub(crate) struct Copies {
     list: Vec<i64>,
@@ -25,7 +25,7 @@ impl Copies {
         }
     }
 
-    /// Room for so many copies of a number.
+    /// Room for `count` copies of a number.
     pub(crate) fn with_room(alloc: Global, number: i64, count: usize) -> Result<Copies, AllocError>
         ensures { IfOk result (λ c. (c.number ≡ number) × (c.count ≡ count)) }
     {
@@ -37,7 +37,7 @@ impl Copies {
         })
     }
 
-    /// The list of them.
+    /// The copies.
     pub(crate) fn written(self) -> Vec<i64>
         ensures { result.items ≡ replicate self.count self.number }
     {

@@ -1,5 +1,5 @@
-//! What several workers do at once: the first in this thread, and each other one in a thread of its own. This thread starts them
-//! all: a thread that has only just begun tends to share its processor with what it starts.
+//! What several workers do at once: the first in this thread, and each other one in a thread of its own. This thread starts all
+//! of them, since a thread that has only just begun tends to share its processor with those that it starts.
 ghost use Rattle.std.specs.Thread.{IsSync};
 ghost use Rattle.std.specs.Prelude.{◌≡◌, ℕ, ◌+◌, ◌-◌, ◌<◌, ◌≤◌, ◌*◌, replicate};
 ghost use Rattle.apl_board.specs.Seats.{view, IsSeatOf};
@@ -21,7 +21,7 @@ pub(crate) struct Seats<T> {
     pub copies: Vec<i64>,
 }
 
-/// The number of the next piece: of the worker's deques where there are some, else from the board.
+/// The number of the next piece: from the worker's deques if it has some, else from the board.
 fn next_piece(ends: &mut Option<Ends>, board: &Board, seat: &mut BoardSeat) -> Option<u32>
     requires { IsSeatOf board.now seat.old }
     ensures seat { IsSeatOf board.now seat.new }
@@ -45,8 +45,8 @@ fn is_behind(board: &Board, seat: &mut BoardSeat, start: usize) -> bool
     }
 }
 
-/// What one worker does: piece by piece, it passes the gate, fills the piece's room, and reports the place at which that stopped. A piece
-/// that begins behind a place that was reported is left out.
+/// What one worker does. For each piece it passes the gate, fills the piece's room, and reports the place at which that stopped. It leaves
+/// out a piece that begins after a place that was reported.
 fn work<T, F: Task<T>, G: Gate>(
     rooms: &Rooms<T, F>,
     board: &Board,
@@ -80,7 +80,7 @@ fn work<T, F: Task<T>, G: Gate>(
     seats
 }
 
-/// One share is cut off the seats.
+/// Cuts one share off the seats.
 fn split_one<T, F: Task<T>>(
     rooms: &Rooms<T, F>,
     board: &Board,
@@ -132,8 +132,7 @@ fn join_seats<T, F: Task<T>>(
     }
 }
 
-/// What the first `workers` workers do, each with the ends of the deques that are its own where there are some. The first one writes the
-/// copies before.
+/// What the first `workers` workers do, each with its own ends of the deques if there are some. The first worker writes the copies before.
 #[cycle(crew)]
 pub(crate) fn work_together<T: Send, R: Threads + Sync, F: Task<T> + Sync, G: Gate + Sync>(
     rt: &R,

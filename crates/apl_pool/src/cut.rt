@@ -1,9 +1,9 @@
 //! How the places are cut into pieces.
 
-/// A cutting of places. Any answers give one: each is brought into `1..=rest`.
+/// A cutting of places. Any answers give one, since each is brought into `1..=rest`.
 pub trait Cut {
-    /// How many places the piece that begins at `start` has, where `rest` places are left from
-    /// there on. In a pass it is asked once for each piece.
+    /// How many places the piece that begins at `start` has, if `rest` places are left from there on.
+    /// In a pass it is asked once for each piece.
     fn first(&self, start: usize, rest: usize) -> usize;
 }
 

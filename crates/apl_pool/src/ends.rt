@@ -8,7 +8,7 @@ use std::alloc::{AllocError, Global};
 /// The most tries to take a piece from another worker's deque before the next one's turn.
 const MOST_TRIES: u8 = 8;
 
-/// A worker's own deque, and the thieves' ends of the others', those of the workers above it first.
+/// A worker's own deque, and thieves' ends of the others', those of the workers above it first.
 #[derive(Drop)]
 pub(crate) struct Ends {
     own: Hand,
@@ -16,7 +16,7 @@ pub(crate) struct Ends {
 }
 
 impl Ends {
-    /// The next piece: from the own deque, or else from another one. None ends the worker's part.
+    /// The next piece: from the worker's own deque, or else from another one. `None` ends the worker's part.
     pub(crate) fn next(&mut self) -> Option<u32> {
         match self.own.pop() {
             Some(number) => Some(number),
@@ -66,7 +66,7 @@ fn filled(
     Ok((hand, ends))
 }
 
-/// The deques of all workers who have a share, each filled with its pieces: the ends that each worker has.
+/// The ends that each worker who has a share gets, of deques that are filled with the workers' pieces.
 pub(crate) fn deal(alloc: Global, shares: &Shares) -> Result<Vec<Ends>, AllocError> {
     let tasks = shares.tasks();
     let mut ends = Vec::with_capacity(alloc, tasks)?;
@@ -83,7 +83,7 @@ pub(crate) fn deal(alloc: Global, shares: &Shares) -> Result<Vec<Ends>, AllocErr
     Ok(ends)
 }
 
-/// Gives each worker an end of the deque of the worker who is `step` above it, and after the last one comes the first.
+/// Gives each worker an end of the deque of the worker who is `step` above it. After the last worker comes the first.
 fn hand_out(
     ends: &mut Vec<Ends>,
     thieves: &mut Vec<Vec<Thief>>,

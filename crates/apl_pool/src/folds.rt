@@ -19,7 +19,7 @@ use super::work::{next_piece, stop_at};
 use std::alloc::{AllocError, Global};
 use std::thread::Threads;
 
-/// The summary of the items of both, where there are some.
+/// The summary of the items of both, if there are some.
 pub(crate) fn join_both<S: Summary + Drop>(left: Option<S>, right: Option<S>) -> Option<S>
     requires { items_in S.item_count left + items_in S.item_count right ≤ MOST_PLACES }
     ensures { (outcome : ℕ → Result S.Item Fault) (from mid to : ℕ) → IsFolded S.step S.item_count S.outcome outcome from mid left
@@ -34,7 +34,7 @@ pub(crate) fn join_both<S: Summary + Drop>(left: Option<S>, right: Option<S>) ->
     }
 }
 
-/// The summary of the items at the places from `from` up to before `to`, one by one, where there are some.
+/// The summary of the items at the places from `from` up to before `to`, one by one, if there are some.
 fn fold_items<S: Summary + Drop, K: Kernel<Out = S::Item>>(
     kernel: &K,
     from: usize,
@@ -73,8 +73,8 @@ fn fold_run<S: Summary + Drop, K: Kernel<Out = S::Item>>(
     }
 }
 
-/// The summary of the items at the places from `from` up to before `to`, where there are some, run by run from the last one: a run is
-/// summarized from its last item, so memory is read in one direction. Where an item has a fault they are looked at from the first.
+/// The summary of the items at the places from `from` up to before `to`, if there are some, run by run from the last one. A run too is
+/// summarized from its last item, so memory is read in one direction. If an item has a fault, the items are looked at from the first.
 pub(crate) fn fold_places<S: Summary + Drop, K: Kernel<Out = S::Item>>(
     kernel: &K,
     from: usize,
@@ -125,7 +125,7 @@ pub(crate) fn fold_all<S: Summary + Drop, K: Kernel<Out = S::Item>, C: Cut, G: G
     Ok(folded)
 }
 
-/// The summary of a piece, where it has some items. Where it isn't there already the first worker makes it, who passes the gate before.
+/// The summary of a piece, if it has some items. If it isn't there yet, the first worker passes the gate and makes it.
 fn complete_part<S: Summary + Drop, K: Kernel<Out = S::Item>, G: Gate>(
     kernel: &K,
     gate: &G,
@@ -155,8 +155,8 @@ fn take_part<S: Drop>(parts: &mut [Option<S>], index: usize) -> Option<S>
     parts[index].take()
 }
 
-/// The summary of the pieces of one of several rows, joined in their order. In the list the parts of the rows' first pieces come
-/// first: those that are marked stand there, and the first worker makes each other one.
+/// The summary of the pieces of one of several rows, joined in their order. The parts of the rows' first pieces are first in the list.
+/// Those that are marked are there already, and the first worker makes the others.
 fn join_parts<S: Summary + Drop, K: Kernel<Out = S::Item>, G: Gate>(
     kernel: &K,
     gate: &G,
@@ -280,7 +280,7 @@ fn no_parts<S: Drop>(alloc: Global, count: usize) -> Result<Vec<Option<S>>, Allo
     Ok(parts)
 }
 
-/// The summaries of all rows, by several workers, who put one of each piece into a list of as many parts; then those of each row are
+/// The summaries of all rows, by several workers, who put one of each piece into a list of as many parts. Then those of each row are
 /// joined. The first worker writes the copies before.
 fn fold_into_parts<
     R: Threads + Sync,

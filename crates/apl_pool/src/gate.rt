@@ -2,7 +2,7 @@
 
 /// A gate has no effect on answers.
 pub trait Gate {
-    /// Called by a worker before it begins a piece. Both are counted from 0.
+    /// A worker calls this before it begins a piece. Workers and pieces are counted from 0.
     fn pass(&self, worker: u8, piece: u32);
 }
 

@@ -8,7 +8,7 @@ use std::alloc::AllocError;
 pub enum Fault {
     /// A function isn't defined there.
     Domain,
-    /// The exact value passes a limit.
+    /// The exact value exceeds a limit.
     Limit,
     /// An index isn't one of the axis.
     Index,
@@ -43,13 +43,13 @@ pub trait Kernel {
     ghost use Rattle.apl_pool.specs.declared.kernel.Fault.{Fault};
     ghost use Rattle.apl_pool.specs.Runs.{AreFour, AreWritten};
 
-    /// What there is at a place without a fault.
+    /// The type of the values.
     type Out;
 
     // How many places there are.
     ghost place_count: { Self → ℕ };
 
-    // What there is at a place.
+    // The value or the fault at a place.
     ghost outcome: { Self → ℕ → Result Self.Out Fault };
 
     /// How many places there are.
@@ -57,14 +57,14 @@ pub trait Kernel {
         ensures value { result ≡ place_count self.now }
         ensures most { result ≤ MOST_PLACES };
 
-    /// What there is at a place: a function of the kernel and the place alone. It takes no memory.
+    /// The value or the fault at a place: a function of the kernel and the place alone. It takes no memory.
     fn at(&self, place: usize) -> Result<Self::Out, Fault>
         requires { place < place_count self.now }
         ensures { result ≡ outcome self.now place };
 
-    /// The values at a place and the three behind it, all before `to`, where the kernel gives them together
-    /// and none of them has a fault. It is there for kernels that take a few instructions at a place, so
-    /// that faults are looked for once in four. It takes no memory.
+    /// The values at a place and the three after it, all before `to`, if the kernel gives them together
+    /// and none of them has a fault. It is for kernels that take few instructions at a place, so that
+    /// faults are looked for once in four. It takes no memory.
     fn four(
         &self,
         _place: usize,
@@ -78,9 +78,9 @@ pub trait Kernel {
         None
     }
 
-    /// Writes the values at the places from `from` on into the room for those up to before `to`, up to before the place that it
-    /// answers: at most `to`, and `from` where it writes none. It is there for kernels that are faster
-    /// over a run of places than at each of them; values that it leaves out are asked for one by one.
+    /// Writes values into the room for the places from `from` up to before `to`. It answers the place at which it
+    /// stopped: at most `to`, and `from` if it wrote none. It is for kernels that are faster over a run of places
+    /// than at each of them. Values that it leaves out are asked for one by one.
     fn write_run(&self, from: usize, to: usize, _room: &mut [Self::Out]) -> usize
         requires order { from ≤ to }
         requires places { to ≤ place_count self.now }

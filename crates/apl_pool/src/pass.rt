@@ -17,7 +17,7 @@ use core::slots::{Slots, with_slots};
 use std::alloc::{AllocError, Global};
 use std::thread::Threads;
 
-/// What the workers of a pass share: their threads, memory, the gate, who has which pieces, and how these come to the workers.
+/// What the workers of a pass share: threads, memory, the gate, who has which pieces, and how these come to the workers.
 #[derive(Drop)]
 pub(crate) struct Pass<'a, R, G> {
     pub rt: &'a R,
@@ -34,7 +34,7 @@ pub(crate) struct Brought {
     pub copies: Vec<i64>,
 }
 
-/// All workers fill the rooms of a row, which comes back with what they bring besides. That is missing for want of memory.
+/// All workers fill the rooms of a row, which comes back with what they bring besides, or without that if memory is out.
 fn fill_row<T: Send, R: Threads + Sync, F: Task<T> + Sync, G: Gate + Sync>(
     rt: &R,
     alloc: Global,
@@ -74,8 +74,8 @@ fn fill_row<T: Send, R: Threads + Sync, F: Task<T> + Sync, G: Gate + Sync>(
     }
 }
 
-/// All workers fill the room of each piece where it lies in the list, and the first one writes the copies before. Of a piece that is marked
-/// the values are right; of another one nothing is known.
+/// All workers fill the rooms of the pieces in the list, and the first worker writes the copies before. The values of a piece that is
+/// marked are right; of another one nothing is known.
 pub(crate) fn fill_rooms<T: Send, R: Threads + Sync, F: Task<T> + Sync, G: Gate + Sync>(
     pass: &Pass<R, G>,
     task: &F,

@@ -7,7 +7,7 @@ use super::cut::Cut;
 use super::kernel::MOST_PLACES;
 use std::alloc::{AllocError, Global};
 
-/// The place behind the piece that begins at `start`, of `count` places.
+/// The place after the piece that begins at `start`, of `count` places.
 pub(crate) fn piece_end<C: Cut>(cut: &C, start: usize, count: usize) -> usize
     requires { start < count }
     ensures after { start < result }
@@ -25,7 +25,7 @@ pub(crate) struct Piece {
     pub to: usize,
 }
 
-/// A cutting of all places, of which the cut was asked once for each piece.
+/// All places cut into pieces. The cut was asked once for each piece.
 #[derive(Drop)]
 pub(crate) struct Pieces {
     places: usize,
@@ -38,7 +38,7 @@ pub(crate) struct Pieces {
 }
 
 impl Pieces {
-    /// The pieces of `places` places, where the first one ends at `end`. They take 4 bytes each, in a list that grows.
+    /// The pieces of `places` places, of which the first ends at `end`. They take 4 bytes each, in a list that grows.
     pub(crate) fn new<C: Cut>(
         alloc: Global,
         cut: &C,
@@ -79,7 +79,7 @@ impl Pieces {
         self.count
     }
 
-    /// Where the piece with this number begins, or, where it is the number of pieces, the last one ends.
+    /// Where the piece with this number begins or, at the number of pieces, where the last one ends.
     pub(crate) fn start(&self, number: usize) -> usize
         requires { number ≤ self.now.count }
         ensures start { result ≡ slice_index self.now.starts.items number }
@@ -104,7 +104,7 @@ impl Pieces {
         }
     }
 
-    /// The piece with this number, under another one that is told in its place.
+    /// The piece with this number, under another number.
     pub(crate) fn piece_as(&self, number: usize, told: u32) -> Piece
         requires { number < self.now.count }
         ensures from { result.from ≡ slice_index self.now.starts.items number }

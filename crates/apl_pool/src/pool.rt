@@ -24,7 +24,7 @@ use std::thread::Threads;
 /// The most workers.
 pub const MOST_WORKERS: u8 = 64;
 
-/// The most places for which room is taken with no value computed before.
+/// The most places for which room is taken before any value is computed.
 const MOST_UNTRIED: usize = 1 << 16;
 
 /// Workers, a cutting and a gate.
@@ -47,7 +47,7 @@ impl<C: Cut + Sync, G: Gate + Sync> Pool<C, G> {
         Pool::with(workers, Schedule::Deques, cut, gate)
     }
 
-    /// The same with a schedule, by which the pieces come to the workers. It takes no memory.
+    /// As `new`, but with a schedule, by which the pieces come to the workers. It takes no memory.
     pub fn with(workers: u8, schedule: Schedule, cut: C, gate: G) -> Self
         requires some { 1 ≤ workers }
         requires most { workers ≤ MOST_WORKERS }
@@ -60,7 +60,7 @@ impl<C: Cut + Sync, G: Gate + Sync> Pool<C, G> {
         }
     }
 
-    /// Whether several workers share a pass over so many places. One worker, or one piece, is shared by none. It takes no memory.
+    /// Whether several workers share a pass over `count` places. With one worker or one piece none do. It takes no memory.
     pub fn is_shared(&self, count: usize) -> bool
         requires most { count ≤ MOST_PLACES }
         ensures alone { self.now.workers ≡ 1 → result ≡ false }
@@ -69,13 +69,13 @@ impl<C: Cut + Sync, G: Gate + Sync> Pool<C, G> {
         self.workers > 1 && count > 0 && piece_end(&self.cut, 0, count) < count
     }
 
-    /// The value at each place, or the least place that has a fault, and that fault. Want of
-    /// memory may come in place of any answer, and then says nothing else.
+    /// The value at each place, or the least place that has a fault, and that fault. `Memory` may
+    /// come in place of any answer, and then no more is known.
     ///
-    /// Of p pieces and m workers worker w, counted from 0, begins under `Deques` with those from w × p / m up to before
-    /// (w + 1) × p / m, rounded down. No more workers get a thread than there are pieces, and one piece or one
-    /// worker needs none. Where there are more than 65,536 places, a kernel that has a fault at
-    /// place 0 is refused before the places are cut and room is taken.
+    /// Under `Deques`, of p pieces and m workers, worker w begins with those from w × p / m up to before
+    /// (w + 1) × p / m, rounded down. Workers are counted from 0. No more of them get a thread than there are
+    /// pieces, and one piece or one worker needs none. If there are more than 65,536 places, a kernel that has
+    /// a fault at place 0 is refused before the places are cut and room is taken.
     pub fn fill<R: Threads + Sync, K: Kernel + Sync>(
         &self,
         rt: &R,
@@ -104,7 +104,7 @@ impl<C: Cut + Sync, G: Gate + Sync> Pool<C, G> {
         self.fill_into(rt, alloc, kernel, values)
     }
 
-    /// The same, written into a list of as many values, whatever these are.
+    /// As `fill`, but the values are written over those of a list of the same length.
     pub fn fill_into<R: Threads + Sync, K: Kernel + Sync>(
         &self,
         rt: &R,
@@ -134,11 +134,11 @@ impl<C: Cut + Sync, G: Gate + Sync> Pool<C, G> {
     }
 
     /// The summary of the items at all places, in their order, or the least place that has a fault, and
-    /// that fault. Want of memory may come in place of any answer, and then says nothing else. There is
-    /// at least one place.
+    /// that fault. `Memory` may come in place of any answer, and then no more is known. There is at
+    /// least one place.
     ///
-    /// The workers share the pieces as in `fill`; how their summaries are nested is not seen. No item is
-    /// stored.
+    /// The workers share the pieces as in `fill`. How their summaries are nested changes nothing. No item
+    /// is stored.
     pub fn fold<R: Threads + Sync, S: Summary + Drop + Send, K: Kernel<Out = S::Item> + Sync>(
         &self,
         rt: &R,
@@ -157,10 +157,10 @@ impl<C: Cut + Sync, G: Gate + Sync> Pool<C, G> {
         }
     }
 
-    /// The summaries of the items of each row, up to before the first row that has a fault at a place, and the least such place of it
-    /// with that fault. Want of memory may come in place of any answer, and then says nothing else. The rows have at least one place.
+    /// The summaries of the rows before the first that has a fault, and the least place of that row which has one, with its fault.
+    /// `Memory` may come in place of any answer, and then no more is known. The rows have at least one place.
     ///
-    /// The pieces are those of all rows, each of which is cut alike, so that threads are started once.
+    /// All rows are cut alike, and the workers share the pieces of all of them, so that threads are started once.
     pub fn fold_rows<R: Threads + Sync, S: Summary + Drop + Send, K: Rows<Out = S::Item> + Sync>(
         &self,
         rt: &R,
@@ -173,8 +173,8 @@ impl<C: Cut + Sync, G: Gate + Sync> Pool<C, G> {
         self.fold_rows_beside(rt, alloc, rows, 0, 0)
     }
 
-    /// The same, and so many copies of a number, where several workers share the pieces: the first one writes them before it takes a piece,
-    /// while the others fold.
+    /// As `fold_rows`, but if several workers share the pieces there are `count` copies of a number too. The first worker writes them
+    /// before it takes a piece, while the others fold.
     pub fn fold_rows_beside<
         R: Threads + Sync,
         S: Summary + Drop + Send,
@@ -194,7 +194,7 @@ impl<C: Cut + Sync, G: Gate + Sync> Pool<C, G> {
         }
     }
 
-    /// What `fold_rows_beside` answers where there is memory.
+    /// What `fold_rows_beside` answers if there is memory.
     fn fold_pieces<R: Threads + Sync, S: Summary + Drop + Send, K: Rows<Out = S::Item> + Sync>(
         &self,
         rt: &R,

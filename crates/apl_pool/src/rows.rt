@@ -7,29 +7,29 @@ use super::kernel::{Fault, Kernel, MOST_PLACES, Stop};
 pub trait Rows {
     ghost use Rattle.apl_pool.specs.declared.kernel.Fault.{Fault};
 
-    /// What there is at a place without a fault.
+    /// The type of the values.
     type Out;
 
     // How many rows there are.
     ghost row_count: { Self → ℕ };
 
-    // How many places each of them has.
+    // How many places each row has.
     ghost place_count: { Self → ℕ };
 
-    // What there is at a place of a row.
+    // The value or the fault at a place of a row.
     ghost outcome: { Self → ℕ → ℕ → Result Self.Out Fault };
 
     /// How many rows there are.
     fn rows(&self) -> usize
         ensures { result ≡ row_count self.now };
 
-    /// How many places each of them has.
+    /// How many places each row has.
     fn count(&self) -> usize
         ensures value { result ≡ place_count self.now }
         ensures most { result ≤ MOST_PLACES }
         ensures all { row_count self.now * result ≤ MOST_PLACES };
 
-    /// What there is at a place of a row: a function of these alone. It takes no memory.
+    /// The value or the fault at a place of a row: a function of these alone. It takes no memory.
     fn at(&self, row: usize, place: usize) -> Result<Self::Out, Fault>
         requires row { row < row_count self.now }
         requires place { place < place_count self.now }
@@ -90,13 +90,13 @@ impl<X, K: Kernel<Out = X>> Rows for OneRow<'_, K> {
     }
 }
 
-/// The summaries of the rows in front of the first that has none, and why that has none; and the copies beside them.
+/// The summaries of the rows before the first that has none, why that has none, and the copies beside them.
 #[derive(Drop)]
 pub struct Folds<S> {
-    /// Those of the rows from the first on.
+    /// The summaries of the rows from the first on.
     pub summaries: Vec<S>,
-    /// `Ok` where each row has one.
+    /// `Ok` if each row has one.
     pub end: Result<(), Stop>,
-    /// As many of a number as were asked for, where several workers shared the pieces; else none.
+    /// The copies of a number that were asked for, if several workers shared the pieces, else none.
     pub copies: Vec<i64>,
 }

@@ -5,6 +5,6 @@
 pub enum Schedule {
     /// All workers claim the pieces in their order, each the next one.
     Claims,
-    /// Each worker has a stretch of the pieces in a deque of its own, and takes from the others' when it is done.
+    /// Each worker has a stretch of the pieces in a deque of its own, and takes from other deques when it is done.
     Deques,
 }

@@ -17,7 +17,7 @@ pub(crate) struct Share {
     pub to: usize,
 }
 
-/// How the pieces of all rows are shared out among `workers` workers: of p pieces worker w has those
+/// How the pieces of all rows are shared out among `workers` workers. Of p pieces, worker w has those
 /// from w × p / workers up to before (w + 1) × p / workers, rounded down. Those who have none are
 /// left out, so `tasks` workers have a share. The rows are cut alike, and `pieces` are those of one.
 #[derive(Drop)]
@@ -34,7 +34,7 @@ pub(crate) struct Shares {
 }
 
 impl Shares {
-    /// The shares of so many rows of `places` places, where the first piece of each ends at `end`.
+    /// The shares of `rows` rows of `places` places, of which the first piece of each ends at `end`.
     pub(crate) fn new<C: Cut>(
         alloc: Global,
         cut: &C,
@@ -71,8 +71,8 @@ impl Shares {
         self.rows * self.pieces.count()
     }
 
-    /// The place at which a piece begins, where the places of all rows are counted. The rows' first pieces are numbered first, then
-    /// their second ones, and so on.
+    /// The place at which a piece begins, counted through all rows. The rows' first pieces are numbered first, then their second ones,
+    /// and so on.
     pub(crate) fn start(&self, number: usize) -> usize
         requires { number < self.now.rows * self.now.pieces.count }
     {

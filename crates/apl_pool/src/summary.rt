@@ -1,4 +1,4 @@
-//! Summaries of items that are folded from the right: what the items do to a number that comes in.
+//! Summaries of items that are folded from the right: what the items do to the number that comes in.
 ghost use Rattle.std.specs.Prelude.{◌≡◌, ℕ, ◌+◌, ◌-◌, ◌<◌, ◌≤◌, ℤ, Result, Ok, IfSome};
 ghost use Rattle.apl_pool.specs.declared.kernel.Fault.{Fault};
 ghost use Rattle.apl_pool.specs.declared.summary.TheConstants.{LONGEST_RUN};
@@ -18,7 +18,7 @@ pub trait Summary: Sized {
     // What one item does to the number on its right.
     ghost step: { Self.Item → ℤ → Result ℤ Fault };
 
-    // Of how many items the summary is.
+    // How many items there are.
     ghost item_count: { Self → ℕ };
 
     // What all its items do to the number that comes in.
@@ -45,9 +45,9 @@ pub trait Summary: Sized {
     fn apply(&self, right: i64) -> Result<i64, Fault>
         ensures { result ≡ outcome self.now right };
 
-    /// The summary of the items at the places of a kernel from `from` up to before `to`. It is there for
-    /// summaries that are made faster of several items at once than of each of them; where it answers
-    /// none, the items are summarized and joined one by one. It takes no memory.
+    /// The summary of the items at the places of a kernel from `from` up to before `to`. It is for summaries
+    /// that are made faster of several items at once than of each. If it answers `None`, the items are
+    /// summarized and joined one by one. It takes no memory.
     fn of_run<K: Kernel<Out = Self::Item>>(_kernel: &K, from: usize, to: usize) -> Option<Self>
         requires some { from < to }
         requires places { to ≤ K.place_count _kernel.now }

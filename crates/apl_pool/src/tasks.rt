@@ -45,7 +45,7 @@ impl<'a, T: Copy, K: Kernel<Out = T>> Task<T> for Values<'a, K> {
     }
 }
 
-/// A summary of the items of each piece of each row, where there are some.
+/// A summary of the items of each piece of each row, if there are some.
 #[derive(Drop)]
 pub(crate) struct Summaries<'a, K: Rows> {
     pub rows: &'a K,

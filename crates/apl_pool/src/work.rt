@@ -1,4 +1,4 @@
-//! What a worker does with a piece and with its share: its values are written into the room for them.
+//! What a worker does with a piece and with its share: it writes the values into the room for them.
 ghost use Rattle.std.specs.Prelude.{◌≡◌, ℕ, ◌+◌, ◌<◌, ◌≤◌, ◌^◌, OnOk, IfOk, IfErr, length, slice_index, vec_len};
 ghost use Rattle.apl_pool.specs.Parts.{AreValuesFrom, IsStopFrom, IsPart};
 ghost use Rattle.apl_pool.specs.Runs.{AreWritten};
@@ -9,7 +9,7 @@ use super::kernel::{Fault, Kernel, MOST_PLACES, Stop};
 use super::pieces::{Piece, piece_end};
 use std::alloc::Global;
 
-/// The most places that one worker makes room for at once: so many numbers are still in a processor's cache when they are written over.
+/// The most places that one worker makes room for at once. As many numbers are still in a processor's cache when they are written over.
 const STRETCH: usize = 32_768;
 
 /// The stop at a place that has a fault.
@@ -24,7 +24,7 @@ pub(crate) fn stop_at(place: usize, fault: Fault) -> Stop
 }
 
 /// Writes the values of the kernel's runs into the room for the places from `from` up to before `to`,
-/// up to before the place that it answers.
+/// and answers the place at which it stopped.
 fn write_runs<K: Kernel>(kernel: &K, from: usize, to: usize, room: &mut [K::Out]) -> usize
 where
     K::Out: Copy,
@@ -45,8 +45,8 @@ where
     }
 }
 
-/// Writes values that the kernel gives by fours into the room for the places from `from` on, from `first` up to before
-/// the place that it answers.
+/// Writes values that the kernel gives by fours into the room for the places from `from` on. It begins at `first`, and
+/// answers the place at which it stopped.
 fn write_fours<K: Kernel>(
     kernel: &K,
     from: usize,
@@ -129,8 +129,8 @@ where
     write_places(kernel, piece.from, first, piece.to, room)
 }
 
-/// Puts the values of some more places of a piece behind those of all places before: of the first place alone, or of a stretch of places,
-/// which is made full of the last value and then written over.
+/// Puts the values of some more places of a piece after those of all places before. They are of the first place alone, or of a stretch of
+/// places, which is made full of the last value and then written over.
 fn append_stretch<K: Kernel>(
     kernel: &K,
     piece: Piece,
@@ -164,7 +164,7 @@ where
     Ok(all)
 }
 
-/// Puts the values of a piece, or of several, behind those of all places before.
+/// Puts the values of a piece, or of several, after those of all places before.
 fn append_piece<K: Kernel>(
     kernel: &K,
     piece: Piece,
@@ -186,7 +186,7 @@ where
     Ok(all)
 }
 
-/// Passes the gate with a piece and with those after it that a stretch has room for, and answers the next one.
+/// Passes the gate with a piece and with those after it that a stretch has room for, and answers the next piece.
 fn pass_pieces<C: Cut, G: Gate>(cut: &C, gate: &G, worker: u8, piece: Piece, count: usize) -> Piece
     requires number { piece.number < piece.to }
     requires order { piece.from ≤ piece.to }
@@ -242,7 +242,7 @@ where
     Ok(values)
 }
 
-/// The piece behind this one, or none of the places where it is the last.
+/// The piece after this one, which has no places if this is the last.
 pub(crate) fn next_piece<C: Cut>(cut: &C, piece: Piece, count: usize) -> Piece
     requires number { piece.number < piece.to }
     requires within { piece.to ≤ count }

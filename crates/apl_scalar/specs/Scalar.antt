@@ -36,11 +36,11 @@ negation x = if is_bit x then Ok (bit (not (is_one x))) else Err Domain
 
 -- ---- functions that are whole, or defined, at some numbers only
 
--- 1 by 1 is 1, and 1 by -1 is -1
+-- 1 divided by 1 is 1, and 1 divided by -1 is -1
 abbrev pub reciprocal : ℤ → Result ℤ Fault
 reciprocal x = if int_eq x (pos 1) || int_eq x (negsuc 0) then Ok x else Err Domain
 
--- 0 by 0 is 1, nothing else is divided by 0, and the quotient is to be whole
+-- 0 divided by 0 is 1, nothing else is divided by 0, and the quotient must be whole
 abbrev pub quotient : ℤ → ℤ → Result ℤ Fault
 quotient x y =
     if int_eq y (pos 0) then (if int_eq x (pos 0) then Ok (pos 1) else Err Domain)
@@ -131,7 +131,7 @@ abbrev pub monadic_of : ScalarFunction → Elem → Result ℤ Fault
 monadic_of f (Int x) = monadic_number f x
 monadic_of f (Chr c) = Err Domain
 
--- two elements one of which is a character, of which it is known whether they are the same
+-- the result for two elements, one of which is a character, by whether they are equal
 abbrev pub compare_elements : ScalarFunction → Bool → Result ℤ Fault
 compare_elements Equal same = Ok (bit same)
 compare_elements NotEqual same = Ok (bit (not same))
@@ -144,7 +144,7 @@ dyadic_of f (Chr c) (Chr d) = compare_elements f (c == d)
 dyadic_of f (Int x) (Chr d) = compare_elements f false
 dyadic_of f (Chr c) (Int y) = compare_elements f false
 
--- the same as an element
+-- the number as an element, or the fault
 abbrev pub as_element : Result ℤ Fault → Result Elem Fault
 as_element (Ok z) = Ok (Int z)
 as_element (Err fault) = Err fault

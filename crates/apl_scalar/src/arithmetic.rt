@@ -9,7 +9,7 @@ ghost use Rattle.apl_scalar.specs.Limits.{limited_value};
 use apl_array::range_is_decided;
 use apl_pool::Fault;
 
-/// The exact value, where 64 bits hold it.
+/// The exact value, if 64 bits hold it.
 #[inline(always)]
 pub(crate) fn limited(exact: Option<i64>) -> Result<i64, Fault>
     ensures { result ≡ limited_value exact }
@@ -31,7 +31,7 @@ pub(crate) fn product(x: i64, y: i64) -> Result<i64, Fault>
     limited(x.checked_mul(y))
 }
 
-/// 1 by `x`.
+/// 1 divided by `x`.
 #[inline(always)]
 pub(crate) fn reciprocal(x: i64) -> Result<i64, Fault>
     ensures { result ≡ reciprocal x }
@@ -43,7 +43,7 @@ pub(crate) fn reciprocal(x: i64) -> Result<i64, Fault>
     }
 }
 
-/// `x` by `y`.
+/// `x` divided by `y`.
 #[inline(always)]
 pub(crate) fn quotient(x: i64, y: i64) -> Result<i64, Fault>
     ensures { result ≡ quotient x y }
@@ -95,7 +95,7 @@ fn power_of_minus_one(n: u64) -> i64
     if n % 2 == 0 { 1 } else { -1 }
 }
 
-/// From 64 on a power leaves the range, but for those of -1, 0 and 1.
+/// A power with an exponent of 64 or more leaves the range, but for those of -1, 0 and 1.
 fn large_power(x: i64, n: u64) -> Result<i64, Fault>
     requires { 64 ≤ n }
     ensures { result ≡ exact (int_pow x n) }
@@ -145,7 +145,7 @@ pub(crate) fn combinations(x: i64, y: i64) -> Result<i64, Fault>
     limited(chosen(x.unsigned_abs(), y.unsigned_abs()))
 }
 
-/// In how many ways `x` of `y` things are chosen, where that is in the range: as many as leave
+/// In how many ways `x` of `y` things are chosen, if that is in the range: as many as leave
 /// `y - x` of them.
 fn chosen(x: u64, y: u64) -> Option<i64>
     requires { y < 2 ^ 63 }
@@ -162,8 +162,9 @@ fn chosen(x: u64, y: u64) -> Option<i64>
     }
 }
 
-/// In how many ways `k` of `n` things are chosen, where that is in the range. Those of i + 1 are
-/// those of i times n - i by i + 1. They rise up to n / 2, so they leave the range soon or never.
+/// In how many ways `k` of `n` things are chosen, if that is in the range. For i + 1 there are
+/// n - i times as many as for i, divided by i + 1. They rise up to n / 2, so they leave the range
+/// soon or never.
 fn choices(n: u64, k: u64) -> Option<i64>
     requires range { n < 2 ^ 63 }
     requires half { k + k ≤ n }

@@ -18,8 +18,10 @@ use apl_pool::{Cut, Fault, Gate, Pool, Stop};
 use std::alloc::Global;
 use std::thread::Threads;
 
-/// A monadic scalar function of an array, at each index list. The result is of numbers. The
-/// refusal is the fault at the least place that has one.
+/// `f B`, a monadic scalar function. Shape: that of B. Kind: numbers.
+/// Errors: the fault at the least place that has one, DOMAIN or LIMIT. `Memory` may come in place
+/// of any answer.
+/// Source: APL\360 User's Manual, scalar functions. The range of 64 bits is this calculator's own.
 pub fn monadic<R: Threads + Sync, C: Cut + Sync, G: Gate + Sync>(
     rt: &R,
     alloc: Global,
@@ -52,11 +54,12 @@ fn fill_monadic<R: Threads + Sync, C: Cut + Sync, G: Gate + Sync>(
     }
 }
 
-/// A dyadic scalar function of two arrays. Equal shapes go element by element; an argument of one
-/// element is extended to the other's shape, and of two such the one of larger rank gives the
-/// shape, the left one on a tie. Else unequal ranks are refused as `Rank`, unequal lengths as
-/// `Length`. The result is of numbers, and the refusal of elements is the fault at the least
-/// place that has one.
+/// `A f B`, a dyadic scalar function. Shape: that of both, if they are equal. Else an argument of
+/// one element is extended to the other's shape. Of two such, the one of larger rank gives the
+/// shape, the left one on a tie. Kind: numbers.
+/// Errors in order: RANK, LENGTH, then the fault at the least place, DOMAIN or LIMIT. `Memory` may
+/// come in place of any answer.
+/// Source: APL\360 User's Manual, scalar functions. The range of 64 bits is this calculator's own.
 pub fn dyadic<R: Threads + Sync, C: Cut + Sync, G: Gate + Sync>(
     rt: &R,
     alloc: Global,

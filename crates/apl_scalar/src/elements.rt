@@ -20,7 +20,7 @@ fn monadic_element<F: Function>(x: Elem) -> Result<i64, Fault>
     }
 }
 
-/// The dyadic function that a type names, of two elements. It takes no memory.
+/// The dyadic function that the type `F` names, of two elements. It takes no memory.
 #[inline(always)]
 pub fn dyadic_elements<F: Function>(x: Elem, y: Elem) -> Result<i64, Fault>
     ensures { result ≡ dyadic_of F.FUNCTION x y }
@@ -32,7 +32,7 @@ pub fn dyadic_elements<F: Function>(x: Elem, y: Elem) -> Result<i64, Fault>
     }
 }
 
-/// A dyadic function where a character is among the arguments.
+/// A dyadic function of two elements, of which one or both are characters.
 #[inline(always)]
 pub(crate) fn compare(f: ScalarFunction, same: bool) -> Result<i64, Fault>
     ensures { result ≡ compare_elements f same }
@@ -50,7 +50,10 @@ fn own_identity<F: Function>() -> Option<i64>
     F::identity()
 }
 
-/// The result of a monadic scalar function of an element. It takes no memory.
+/// `f B` of one element, a monadic scalar function. The result is a number.
+/// Errors: DOMAIN of a character and where `f` isn't defined, LIMIT outside the range of 64 bits.
+/// Source: APL\360 User's Manual, scalar functions. The range is this calculator's own.
+/// It takes no memory.
 pub fn apply1(f: ScalarFunction, x: Elem) -> Result<Elem, Fault>
     requires { IsTrue (has_monadic f) }
     ensures { result ≡ as_element (monadic_of f x) }
@@ -61,7 +64,11 @@ pub fn apply1(f: ScalarFunction, x: Elem) -> Result<Elem, Fault>
     }
 }
 
-/// The result of a dyadic scalar function of two elements. It takes no memory.
+/// `A f B` of two elements, a dyadic scalar function. The result is a number.
+/// Errors: DOMAIN of a character, but for `=` and `≠`, and where `f` isn't defined; LIMIT outside
+/// the range of 64 bits.
+/// Source: APL\360 User's Manual, scalar functions. The range is this calculator's own.
+/// It takes no memory.
 pub fn apply2(f: ScalarFunction, x: Elem, y: Elem) -> Result<Elem, Fault>
     requires { IsTrue (has_dyadic f) }
     ensures { result ≡ as_element (dyadic_of f x y) }
@@ -72,7 +79,10 @@ pub fn apply2(f: ScalarFunction, x: Elem, y: Elem) -> Result<Elem, Fault>
     }
 }
 
-/// What the reduction of no element by a dyadic function gives, where it gives something.
+/// The identity of `f`: what `f/` answers of an empty vector, a number. There is no error: `None`
+/// is for functions without an identity, which are `⍲`, `⍱` and `~`.
+/// Source: APL\360 User's Manual, reduction. Those of `⌊` and `⌈`, the ends of the range, are this
+/// calculator's own.
 pub fn identity(f: ScalarFunction) -> Option<i64>
     ensures { result ≡ identity_of f }
 {

@@ -19,7 +19,7 @@ pub trait Function {
 
     const FUNCTION: ScalarFunction;
 
-    /// The result of the monadic function of a number, and `Domain` where there is none. It takes no memory.
+    /// The result of the monadic function of a number, or `Domain` if there is none. It takes no memory.
     fn apply_monadic(right: i64) -> Result<i64, Fault>
         ensures { result ≡ monadic_number FUNCTION right };
 
@@ -27,20 +27,20 @@ pub trait Function {
     fn apply(left: i64, right: i64) -> Result<i64, Fault>
         ensures { result ≡ dyadic_numbers FUNCTION left right };
 
-    /// What the reduction of no element gives, where it gives something.
+    /// The identity, if there is one: what the reduction of no element gives.
     fn identity() -> Option<i64>
         ensures { result ≡ identity_of FUNCTION };
 
-    /// Whether the dyadic function takes so few instructions that four places together are faster than
-    /// one by one.
+    /// Whether four places together are faster than one by one, since the dyadic function takes few
+    /// instructions.
     #[inline(always)]
     fn is_quick() -> bool {
         false
     }
 }
 
-/// The call of a generic function at the type of a scalar function, for which `F` stands first among the type arguments. No
-/// other code goes over the functions' types.
+/// The call of a generic function at the type of a scalar function: `F` is first among the type arguments. No other code lists
+/// the functions' types.
 #[macro_export]
 macro_rules! with_type {
     ($f:expr, $call:ident::<F $(, $parameter:ident)*>($($argument:expr),*)) => {

@@ -1,4 +1,4 @@
-//! What is true of all answers, a law the clauses of a function that does nothing.
+//! What is true of all answers, each law the contract of a function that does nothing.
 ghost use Rattle.std.specs.Prelude.{◌≡◌, Ok, IfOk};
 ghost use Rattle.apl_array.specs.declared.array.Elem.{Elem};
 ghost use Rattle.apl_array.specs.Array.{ArrayValue};

@@ -38,7 +38,7 @@ pub(crate) fn negation(x: i64) -> Result<i64, Fault>
     }
 }
 
-/// The truth values that two numbers stand for.
+/// The truth values that two numbers are, if both are 0 or 1.
 #[inline(always)]
 fn truth_values(x: i64, y: i64) -> Result<(bool, bool), Fault>
     ensures { result ≡ (if is_bit x && is_bit y then Ok (is_one x, is_one y) else Err Domain) }

@@ -1,5 +1,5 @@
--- What items that are folded by a function with two values are by two answers. Their last item meets what comes in, and gives 0, 1 or
--- a fault; so of the items to its left it is enough to know what they answer for 0 and for 1.
+-- Items that are folded by a function with two values, by two answers. Their last item meets what comes in, and gives 0, 1 or a fault.
+-- So it is enough to know what the items to its left answer for 0 and for 1.
 use Rattle.std.specs.Prelude.{ℕ, ◌+◌, Bool, true, false, ℤ, Result, Ok, Err, if◌then◌else◌}
 use Rattle.apl_array.specs.declared.function.ScalarFunction.{ScalarFunction}
 use Rattle.apl_array.specs.declared.function.ScalarFunction.TheVariants.{And, Or, Nand, Nor, Less, LessOrEqual, Equal, GreaterOrEqual, Greater, NotEqual}
@@ -30,7 +30,7 @@ as_number (Err fault) = Err fault
 abbrev pub answers : ℕ → ℤ → Result Bool Fault → Result Bool Fault → Answers
 answers count last for_zero for_one = record { count = count; last = last; for_zero = for_zero; for_one = for_one }
 
--- to the left of the only item is nothing, which hands on what comes in
+-- to the left of the only item is no other, so what comes in is handed on
 abbrev pub answers_of_one : ℤ → Answers
 answers_of_one x = answers 1 x (Ok false) (Ok true)
 

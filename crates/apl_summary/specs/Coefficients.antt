@@ -1,5 +1,5 @@
--- What the products of items are by their coefficients. Each partial result of a fold by `×` is a coefficient times what comes in: the
--- product of the items that were folded.
+-- The products of items, by their coefficients. Each partial result of a fold by `×` is a coefficient times what comes in. The
+-- coefficient is the product of the items that were folded.
 use Rattle.std.specs.Prelude.{ℕ, ◌+◌, ◌<◌, ◌≤◌, Bool, ◌&&◌, ℤ, pos, negsuc, ◌*ℤ◌, ◌≤ℤ◌, Result, Ok, Err, if◌then◌else◌}
 use Rattle.std.specs.Int.{int_min, int_max}
 use Rattle.apl_array.specs.Range.{in_range}
@@ -11,8 +11,8 @@ use Rattle.apl_summary.specs.declared.coefficients.Coefficients.{Coefficients}
 abbrev pub IsHeld : ℤ → Type 0
 IsHeld x = (negsuc 9223372036854775808 ≤ℤ x) × (x ≤ℤ pos 9223372036854775809)
 
--- the nearest number within 2 ^ 63 + 1 either way. What is held for another number is refused by all that comes in but 0, as that
--- number is, and 2 ^ 63 is held as it is, since times ¯1 it is in the range
+-- The nearest number within 2 ^ 63 + 1 either way. A number outside is refused with all that comes in but 0, and so is the nearest one.
+-- 2 ^ 63 is kept as it is, since times ¯1 it is in the range
 abbrev pub held : ℤ → ℤ
 held x = int_min (int_max x (negsuc 9223372036854775808)) (pos 9223372036854775809)
 

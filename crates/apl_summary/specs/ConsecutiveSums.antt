@@ -34,8 +34,8 @@ sums_of_one x = consecutive_sums 1 x (bounds x x) (bounds x x) (bounds x x)
 abbrev pub across : (ends beginnings : Bounds) → Bounds
 across ends beginnings = bounds (ends.least +ℤ beginnings.least) (ends.greatest +ℤ beginnings.greatest)
 
--- a beginning is in the left items, or has all of them and a beginning of the right ones; so an end; and consecutive items are in the
--- left ones, in the right ones, or are an end of those and a beginning of these
+-- A beginning is in the left items, or has all of them and a beginning of the right ones, and so for an end. Consecutive items are in
+-- the left ones, in the right ones, or are an end of those and a beginning of these
 abbrev pub sums_of_both : ConsecutiveSums → ConsecutiveSums → ConsecutiveSums
 sums_of_both a b = consecutive_sums (a.count + b.count) (a.total +ℤ b.total)
     (of_both a.beginnings (raised b.beginnings a.total))

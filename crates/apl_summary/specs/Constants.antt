@@ -1,5 +1,5 @@
--- What the sums and differences of items are by their constants. In each partial result of a fold by `+` or `-` what comes in is
--- beside a constant, with plus or with minus: it is the constant plus what comes in, or the constant less it.
+-- The sums and differences of items, by their constants. Each partial result of a fold by `+` or `-` is a constant plus what comes in,
+-- or a constant minus it: what comes in is with plus or with minus.
 use Rattle.std.specs.Prelude.{◌≡◌, ℕ, ◌+◌, ◌*◌, ◌<◌, ◌≤◌, Bool, true, false, not, ◌&&◌, ℤ, pos, negsuc, neg_ℤ, ◌+ℤ◌, ◌-ℤ◌, ◌≤ℤ◌, int_le, Result, Ok, Err, if◌then◌else◌}
 use Rattle.std.specs.Int.{int_min, int_max}
 use Rattle.apl_array.specs.declared.function.ScalarFunction.{ScalarFunction}
@@ -42,8 +42,8 @@ are_in_range b = int_le least_number b.least && int_le b.greatest greatest_numbe
 abbrev pub constants : ℕ → Bool → ℤ → Bounds → Bounds → Constants
 constants count is_negated total plus minus = record { count = count; is_negated = is_negated; total = total; plus = plus; minus = minus }
 
--- 0 is among those with plus: it is the constant of what comes in itself, which is in the range. Where nothing is with minus, -1 is put
--- there, which refuses nothing
+-- 0 is among those with plus: it is the constant of what comes in itself, which is in the range. If there are none with minus, both
+-- bounds there are -1, which refuses nothing
 abbrev pub constants_of_one : Bool → ℤ → Constants
 constants_of_one is_plus x =
     if is_plus then constants 1 false x (of_both (bounds (pos 0) (pos 0)) (bounds x x)) (bounds (negsuc 0) (negsuc 0))
@@ -87,7 +87,7 @@ pub record AreConstants (is_plus : Bool) (c : Constants) : Type 0 where
   pub total_within : IsSumOf c.count c.total
   pub plus_within : IsSumOf c.count c.plus.least × IsSumOf c.count c.plus.greatest
   pub minus_within : IsSumOf c.count c.minus.least × IsSumOf c.count c.minus.greatest
-  -- under `+` nothing stands with minus
+  -- under `+` nothing is with minus
   pub only_plus : is_plus ≡ true → (c.is_negated ≡ false) × (c.minus ≡ bounds (negsuc 0) (negsuc 0))
   -- the whole result is a partial result
   pub total_with_plus : c.is_negated ≡ false → (c.plus.least ≤ℤ c.total) × (c.total ≤ℤ c.plus.greatest)

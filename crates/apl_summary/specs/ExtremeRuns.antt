@@ -10,6 +10,6 @@ use Rattle.apl_summary.specs.Extremes.{extremum, extreme_function, extreme_outco
 abbrev pub IsExtremumFrom : Bool → (ℕ → Result ℤ Fault) → (from to : ℕ) → ℤ → Type 0
 IsExtremumFrom is_least outcome from to item = IsSummaryFrom (dyadic_numbers (extreme_function is_least)) (λ (e : Extremum). e.count) (extreme_outcome is_least) outcome from to (extremum (to - from) item) × IsI64 item
 
--- of whichever items behind the place `mid` a number is that, with the items in front of them it is this one
+-- if a number is that of some items after the place `mid`, this one is that of the items before them as well
 abbrev pub IsBehindExtremum : Bool → (ℕ → Result ℤ Fault) → (from mid : ℕ) → (behind : ℤ) → ℤ → Type 0
 IsBehindExtremum is_least outcome from mid behind item = (to : ℕ) → mid ≤ to → IsExtremumFrom is_least outcome mid to behind → IsExtremumFrom is_least outcome from to item

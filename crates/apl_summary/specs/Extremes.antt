@@ -1,4 +1,4 @@
--- What the least or the greatest of items is by its number.
+-- The least or the greatest of items, by its number.
 use Rattle.std.specs.Prelude.{ℕ, ◌+◌, Bool, ℤ, Result, Ok, if◌then◌else◌}
 use Rattle.std.specs.Int.{int_min, int_max}
 use Rattle.apl_array.specs.declared.function.ScalarFunction.{ScalarFunction}

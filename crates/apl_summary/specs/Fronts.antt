@@ -1,4 +1,4 @@
--- What is known of the numbers in front of others. No contract of a public function cites this file.
+-- What is known of the numbers before others. No contract of a public function cites this file.
 use Rattle.std.specs.Prelude.{◌≡◌, ℕ, ◌+◌, ◌-◌, Bool, ◌&&◌, ℤ, pos, neg_ℤ, ◌+ℤ◌, ◌≤ℤ◌, int_le, List, Result, Ok, Err, if◌then◌else◌}
 use Rattle.apl_array.specs.declared.function.ScalarFunction.{ScalarFunction}
 use Rattle.apl_array.specs.declared.function.ScalarFunction.TheVariants.{Plus}
@@ -11,7 +11,7 @@ use Rattle.apl_scalar.specs.Scalar.{bit, dyadic_numbers}
 use Rattle.apl_summary.specs.declared.running_sum.RunningSum.{RunningSum}
 use Rattle.apl_summary.specs.Extremes.{extreme_function, extreme_of_two}
 
--- whether the sums of all ends and a number behind them are in the range
+-- whether the sums of all ends and a number after them are in the range
 abbrev pub sums_fit : RunningSum → ℤ → Bool
 sums_fit s right = int_le least_number (s.least +ℤ right) && int_le (s.greatest +ℤ right) greatest_number
 
@@ -24,7 +24,7 @@ pub record IsRunningSum (s : RunningSum) (numbers : List ℤ) : Type 0 where
   pub greatest : pos 0 ≤ℤ s.greatest
   pub does : (right : ℤ) → IsI64 right → fold_onto (dyadic_numbers Plus) numbers right ≡ sum_outcome s right
 
--- the total of the numbers; a number behind them of at most so great a magnitude is refused by no end of them
+-- the total of the numbers; a number after them of at most this magnitude is refused by no end of them
 pub record IsBoundedSum (total slack : ℤ) (numbers : List ℤ) : Type 0 where
   pub adds : (right : ℤ) → neg_ℤ slack ≤ℤ right → right ≤ℤ slack → fold_onto (dyadic_numbers Plus) numbers right ≡ Ok (total +ℤ right)
 

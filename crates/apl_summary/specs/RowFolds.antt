@@ -1,4 +1,4 @@
--- What the fold of a row is, where a number comes in to it from the right, or there is a fault in its place.
+-- The fold of a row, to which a number comes in from the right, or a fault in its place.
 use Rattle.std.specs.Prelude.{◌≡◌, ℕ, ℤ, ◌<◌, List, Result, Err}
 use Rattle.apl_pool.specs.declared.kernel.Fault.{Fault}
 use Rattle.apl_pool.specs.declared.kernel.Stop.{Stop}
@@ -15,7 +15,7 @@ pub record IsRowFold (step : ℤ → ℤ → Result ℤ Fault) (item : ℕ → R
 abbrev pub AreRowFolds : (ℤ → ℤ → Result ℤ Fault) → (ℕ → ℕ → Result ℤ Fault) → (rows count : ℕ) → (ℕ → Result ℤ Fault) → (ℕ → Result ℤ Fault) → Type 0
 AreRowFolds step item rows count incoming fold = (row : ℕ) → row < rows → IsRowFold step (item row) count (incoming row) (fold row)
 
--- a stop within a row as the stop of all rows
+-- the stop of all rows that a stop within a row is
 abbrev pub stop_at_row : ℕ → Stop → Stop
 stop_at_row row (FaultAt place fault) = FaultAt row fault
 stop_at_row row Memory = Memory

@@ -1,4 +1,4 @@
--- Numbers after others, each folded with all in front of it.
+-- Numbers after others, each folded with all before it.
 use Rattle.std.specs.Prelude.{◌≡◌, ℕ, ◌<◌, ℤ, pos, List, [], ◌++◌, take, Option, Some, None, Result, Ok, slice_index_or}
 use Rattle.apl_pool.specs.declared.kernel.Fault.{Fault}
 use Rattle.apl_pool.specs.Summaries.{fold_onto, IsSummaryOf}
@@ -7,7 +7,7 @@ use Rattle.apl_pool.specs.Summaries.{fold_onto, IsSummaryOf}
 abbrev pub AreFoldsBehind : (ℤ → ℤ → Result ℤ Fault) → (before numbers : List ℤ) → (count : ℕ) → (values : List ℤ) → Type 0
 AreFoldsBehind step before numbers count values = (k : ℕ) (d : ℤ) → k < count → fold_onto step (before ++ take k numbers) (slice_index_or numbers k (pos 0)) ≡ Ok (slice_index_or values k d)
 
--- a summary of these numbers, and none of no number
+-- a summary of these numbers, or none if there is no number
 abbrev pub IsSummaryOrNone : {S : Type 0} → (ℤ → ℤ → Result ℤ Fault) → (item_count : S → ℕ) → (outcome : S → ℤ → Result ℤ Fault) → List ℤ → Option S → Type 0
 IsSummaryOrNone step item_count outcome numbers (Some s) = IsSummaryOf step item_count outcome s numbers
 IsSummaryOrNone step item_count outcome numbers None = numbers ≡ []

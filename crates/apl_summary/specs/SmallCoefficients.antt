@@ -4,7 +4,7 @@ use Rattle.apl_summary.specs.declared.coefficients.Coefficients.{Coefficients}
 use Rattle.apl_summary.specs.declared.small_coefficients.SmallCoefficients.{SmallCoefficients}
 use Rattle.apl_summary.specs.Coefficients.{coefficients}
 
--- the same in numbers of 128 bits
+-- these coefficients in numbers of 128 bits
 abbrev pub widened : SmallCoefficients → Coefficients
 widened c = coefficients c.count c.total c.least c.greatest
 

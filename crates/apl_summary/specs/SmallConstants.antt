@@ -6,7 +6,7 @@ use Rattle.apl_summary.specs.declared.small_constants.SmallBounds.{SmallBounds}
 use Rattle.apl_summary.specs.declared.small_constants.SmallConstants.{SmallConstants}
 use Rattle.apl_summary.specs.Constants.{bounds, constants}
 
--- the same in numbers of 128 bits
+-- these constants in numbers of 128 bits
 abbrev pub widened : SmallConstants → Constants
 widened c = constants c.count c.is_negated c.total (bounds c.plus.least c.plus.greatest) (bounds c.minus.least c.minus.greatest)
 

@@ -7,8 +7,8 @@ ghost use Rattle.apl_summary.specs.Answers.{answers_of_one, answers_of_both, who
 use apl_pool::Fault;
 use apl_scalar::function_types::Function;
 
-/// How many items there are, the last of them, and what those to its left answer where its result is 0,
-/// and where it is 1.
+/// How many items there are, the last of them, and what those to its left answer if its result is 0, and
+/// if it is 1.
 #[derive(Clone, Copy)]
 pub struct Answers {
     pub count: u32,
@@ -26,7 +26,7 @@ pub fn number(answer: bool) -> i64
 }
 
 impl Answers {
-    /// Those of one item.
+    /// The answers of one item.
     pub fn one(item: i64) -> Answers
         ensures { result ≡ answers_of_one item }
     {
@@ -64,7 +64,7 @@ impl Answers {
         }
     }
 
-    /// Those of these items, and then those of `right`.
+    /// The answers of these items followed by those of `right`.
     pub fn joined<P: Function>(&self, right: &Answers) -> Answers
         requires { self.now.count + right.now.count ≤ MOST_PLACES }
         ensures { result ≡ answers_of_both P.FUNCTION self.now right.now }

@@ -1,4 +1,4 @@
-//! Sums of all numbers up to each, while these are so small together that none is refused.
+//! Sums of all numbers up to each, while the numbers are so small together that no sum is refused.
 ghost use Rattle.std.specs.Prelude.{◌≡◌, ℕ, ℤ, pos, neg_ℤ, ◌-ℤ◌, ◌≤ℤ◌, ◌≤◌, List, IfSome, length};
 ghost use Rattle.apl_array.specs.declared.function.ScalarFunction.TheVariants.{Plus};
 ghost use Rattle.apl_scalar.specs.Scalar.{dyadic_numbers};
@@ -12,14 +12,14 @@ use crate::running_sum::RunningSum;
 #[derive(Clone, Copy)]
 pub struct BoundedSum {
     total: i64,
-    /// A number of at most this magnitude behind them is not refused.
+    /// A number of at most this magnitude after them is not refused.
     slack: i64,
     ghost some: { pos 0 ≤ℤ slack },
     ghost least: { (slack -ℤ pos 9223372036854775807) ≤ℤ total },
     ghost greatest: { total ≤ℤ (pos 9223372036854775807 -ℤ slack) },
 }
 
-/// A number's magnitude, where that is at most so great.
+/// A number's magnitude, if that is at most a bound.
 #[inline(always)]
 fn magnitude_within(number: i64, most: i64) -> Option<i64>
     requires { pos 0 ≤ℤ most }
@@ -33,7 +33,7 @@ fn magnitude_within(number: i64, most: i64) -> Option<i64>
     Some(if number < 0 { -number } else { number })
 }
 
-/// How far numbers from one that is not above 0 to one that is not below stay within the range.
+/// How far the numbers from one that is not above 0 to one that is not below 0 are within the range.
 fn slack_between(least: i64, greatest: i64) -> Option<i64>
     ensures some { IfSome result (λ s. pos 0 ≤ℤ s) }
     ensures least { IfSome result (λ s. (s -ℤ pos 9223372036854775807) ≤ℤ least) }
@@ -46,7 +46,7 @@ fn slack_between(least: i64, greatest: i64) -> Option<i64>
 }
 
 impl BoundedSum {
-    /// That of the numbers of which this is the running sum, where it can be told.
+    /// The bounded sum of the numbers of this running sum, if it can be told.
     fn of(sum: &RunningSum) -> Option<BoundedSum>
         ensures { IfSome result (λ s. (numbers : List ℤ) → IsRunningSum sum.now numbers → IsBoundedSum s.total s.slack numbers) }
     {
@@ -79,8 +79,8 @@ impl Front for BoundedSum {
     }
 }
 
-/// Puts into the room the folds by `+` of all numbers up to each of these, behind those of which this is
-/// the running sum, up to before the first that it can't tell, and says how many they are.
+/// Puts into the room the folds by `+` of all numbers up to each of these. The numbers of the running sum come
+/// before these. It stops before the first fold that it can't tell, and answers how many it put.
 pub fn put_sums_behind(front: RunningSum, numbers: &[i64], room: &mut [i64]) -> usize
     requires { length numbers.now ≡ length room.old }
     ensures most { result ≤ length room.old }

@@ -7,11 +7,11 @@ ghost use Rattle.apl_summary.specs.Coefficients.{IsHeld, held, AreCoefficients, 
 use crate::range::{greater, is_in_range, lesser, narrow};
 use apl_pool::Fault;
 
-/// How far from 0 a coefficient is held.
+/// How far from 0 a coefficient may be.
 const MOST_HELD: i128 = 9_223_372_036_854_775_809;
 
 /// The coefficients of the partial results of some items, by which what comes in is multiplied: how many
-/// items there are, the coefficient of the whole result, the least and the greatest of all. Each is held
+/// items there are, the coefficient of the whole result, the least and the greatest of all. Each is kept
 /// within 2^63 + 1 of 0.
 #[derive(Clone, Copy)]
 pub struct Coefficients {
@@ -80,7 +80,7 @@ impl Coefficients {
         greater(right.greatest, greater(first, last))
     }
 
-    /// The coefficients of these items, and then those of `right`.
+    /// The coefficients of these items followed by those of `right`.
     pub fn joined(&self, right: &Coefficients) -> Coefficients
         requires lawful { AreCoefficients self.now × AreCoefficients right.now }
         requires most { self.now.count + right.now.count ≤ MOST_PLACES }

@@ -1,4 +1,4 @@
-//! What a list tells of the sums of its consecutive items.
+//! The summary of a list by the sums of its consecutive items.
 ghost use Rattle.std.specs.Prelude.{◌≡◌, ℕ, ℤ, ◌+◌, ◌≤◌, ◌↔◌, List, [], ◌∷◌, ◌++◌, All, length, true};
 ghost use Rattle.apl_pool.specs.declared.kernel.TheConstants.{MOST_PLACES};
 ghost use Rattle.apl_pool.specs.Summaries.{IsI64};
@@ -6,9 +6,9 @@ ghost use Rattle.apl_summary.specs.ConsecutiveSums.{AreConsecutiveSums, AreSumsO
 
 use crate::consecutive_sums::ConsecutiveSums;
 
-/// The summary of a list by the sums of its consecutive items: how many items there are, their total, and
-/// the least and the greatest sum of a beginning, of an end and of consecutive items. Two of neighbouring
-/// lists are joined to that of both.
+/// The summary of a list by the sums of its consecutive items. It has how many items there are, their total,
+/// and the least and the greatest sum of a beginning, of an end and of consecutive items. Those of two
+/// neighbouring lists are joined to that of both.
 #[derive(Clone, Copy)]
 pub struct Consecutive {
     sums: ConsecutiveSums,
@@ -45,8 +45,8 @@ impl Consecutive {
         self.sums.count
     }
 
-    /// Whether each sum of consecutive items is in the range. It is exactly where no running sum of them is
-    /// refused, each of which is folded from the right.
+    /// Whether each sum of consecutive items is in the range. This is so exactly if none of their running sums
+    /// is refused, each of which is folded from the right.
     pub fn lawful(&self) -> bool
         ensures list { (xs : List ℤ) → AreSumsOf self.now.sums xs → (result ≡ true) ↔ IsLawful xs }
         ensures running { (xs : List ℤ) → AreSumsOf self.now.sums xs → All IsI64 xs → (result ≡ true) ↔ HasSums xs }

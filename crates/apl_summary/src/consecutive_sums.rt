@@ -73,7 +73,7 @@ impl ConsecutiveSums {
         within.with(&across(&self.ends, &right.beginnings))
     }
 
-    /// The sums of these items, and then those of `right`.
+    /// The sums of these items followed by those of `right`.
     pub fn joined(&self, right: &ConsecutiveSums) -> ConsecutiveSums
         requires within { AreSumsWithin94Bits self.now × AreSumsWithin94Bits right.now }
         requires most { self.now.count + right.now.count ≤ MOST_PLACES }

@@ -13,12 +13,12 @@ pub struct Bounds {
     pub greatest: i128,
 }
 
-/// The constants of the partial results of some items, in which what comes in stands with plus or with
-/// minus: how many items there are, whether what comes in stands with minus in the whole result, the
-/// constant of the whole, and the bounds of the constants with plus and of those with minus.
+/// The constants of the partial results of some items, each of which is a constant plus what comes in, or a
+/// constant minus it. Here are how many items there are, whether the whole result has minus, its constant,
+/// and the bounds of the constants with plus and of those with minus.
 ///
-/// 0 counts as one of those with plus, for what comes in itself. Under `+` nothing stands with minus,
-/// and both bounds there are -1, which no number that comes in takes out of the range.
+/// 0 counts as one with plus, for what comes in itself. Under `+` there are none with minus, and both
+/// bounds there are -1, which no number that comes in takes out of the range.
 #[derive(Clone, Copy)]
 pub struct Constants {
     pub count: u32,
@@ -152,7 +152,7 @@ impl Constants {
         }
     }
 
-    /// The constants of these items, and then those of `right`.
+    /// The constants of these items followed by those of `right`.
     pub fn joined(&self, is_plus: bool, right: &Constants) -> Constants
         requires within { AreWithin94Bits self.now × AreWithin94Bits right.now }
         requires most { self.now.count + right.now.count ≤ MOST_PLACES }

@@ -7,7 +7,7 @@ use crate::running::{Running, put_folds_behind};
 use crate::running_extreme::RunningExtreme;
 use apl_pool::{Fault, Kernel, Summary};
 
-/// The summary of numbers under `⌊` where `GREATEST` is 0, else under `⌈`: the least or the greatest of
+/// The summary of numbers under `⌊` if `GREATEST` is 0, else under `⌈`: the least or the greatest of
 /// them. Nothing that comes in is refused.
 #[derive(Clone, Copy)]
 pub struct Extreme<const GREATEST: u8> {

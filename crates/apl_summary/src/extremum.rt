@@ -29,14 +29,14 @@ pub fn extreme_of_two(is_least: bool, a: i64, b: i64) -> i64
 }
 
 impl Extremum {
-    /// That of one item.
+    /// The extremum of one item.
     pub fn one(item: i64) -> Extremum
         ensures { result ≡ extremum_of_one item }
     {
         Extremum { count: 1, item }
     }
 
-    /// That of these items, and then those of `right`.
+    /// The extremum of these items followed by those of `right`.
     pub fn joined(&self, is_least: bool, right: &Extremum) -> Extremum
         requires { self.now.count + right.now.count ≤ MOST_PLACES }
         ensures { result ≡ extremum_of_both is_least self.now right.now }
@@ -80,8 +80,8 @@ fn pair_at<K: Kernel<Out = i64>>(is_least: bool, kernel: &K, place: usize) -> Op
     Some(extreme_of_two(is_least, first, second))
 }
 
-/// The least or the greatest of four items side by side and of that of the items behind them. Two and two are compared first, so that no
-/// comparison waits for the one before.
+/// The least or the greatest of four items side by side and of that of the items after them. The four are compared two by two first, so
+/// that no comparison waits for the one before.
 #[inline(always)]
 fn with_four<K: Kernel<Out = i64>>(
     is_least: bool,
@@ -99,7 +99,7 @@ fn with_four<K: Kernel<Out = i64>>(
     Some(extreme_of_two(is_least, four, behind))
 }
 
-/// The least or the greatest of so many times four items from a place on and of that of the items behind them.
+/// The least or the greatest of some items by fours from a place on, and of that of the items after them.
 #[inline(always)]
 fn with_fours<K: Kernel<Out = i64>>(
     is_least: bool,
@@ -121,7 +121,7 @@ fn with_fours<K: Kernel<Out = i64>>(
     Some(item)
 }
 
-/// The least or the greatest of the items at the places from `from` up to before `to`, where none has a
+/// The least or the greatest of the items at the places from `from` up to before `to`, if none has a
 /// fault.
 #[inline(always)]
 pub fn extremum_of_run<K: Kernel<Out = i64>>(

@@ -14,7 +14,7 @@ use apl_pool::{Cut, Fault, Folds, Gate, Pool, Rows, Stop, Summary};
 use std::alloc::Global;
 use std::thread::Threads;
 
-/// Rows of numbers, each with the number that comes in to it from the right, or the fault that there is in its place.
+/// Rows of numbers, each with the number that comes in to it from the right, or a fault in its place.
 pub trait FoldedRows: Rows<Out = i64> {
     ghost use Rattle.std.specs.Prelude.{◌≡◌, ◌<◌, ℕ, ℤ, Result};
     ghost use Rattle.apl_pool.specs.declared.kernel.Fault.{Fault};
@@ -43,7 +43,7 @@ fn row_fold<S: Summary<Item = i64>, K: FoldedRows>(
     }
 }
 
-/// A stop within a row as the stop of all rows.
+/// The stop of all rows that a stop within a row is.
 fn stop_at_row(row: usize, stop: Stop) -> Stop
     requires { row ≤ MOST_PLACES }
     ensures { result ≡ stop_at_row row stop }
@@ -102,9 +102,9 @@ fn fold_rows_by_summary<
     row_folds(alloc, rows, folds)
 }
 
-/// The right fold of the numbers of each row onto what comes in to it, by a function whose folds have summaries; or the least row
-/// that has a fault, and that fault: the one of its least faulty place, or in place of what comes in, or of the fold, the first of these
-/// that there is. Want of memory may come in place of any answer. The rows have at least one place.
+/// The right fold of the numbers of each row onto what comes in to it, by a function whose folds have summaries. Else the answer is the
+/// least row that has a fault, with that fault. In a row they are judged in this order: at its least faulty place, in place of what
+/// comes in, of the fold. `Memory` may come in place of any answer. The rows have at least one place.
 pub fn fold_rows<R: Threads + Sync, C: Cut + Sync, G: Gate + Sync, K: FoldedRows + Sync>(
     rt: &R,
     alloc: Global,

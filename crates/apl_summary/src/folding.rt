@@ -1,11 +1,11 @@
-//! Which summaries are under which scalar function.
+//! Which scalar function has which summaries.
 ghost use Rattle.std.specs.Prelude.{◌≡◌};
 ghost use Rattle.apl_summary.specs.Functions.{has_summary};
 
 use apl_array::ScalarFunction;
 
-/// The call of a generic function at the type of the summaries under a scalar function, for which `S` stands first among the
-/// type arguments; and something else where there are none. No other code goes over the functions' summaries.
+/// The call of a generic function at the type of the summaries under a scalar function: `S` is first among the type arguments. If
+/// there are none, it is something else. No other code lists the functions' summaries.
 #[macro_export]
 macro_rules! with_summary {
     ($f:expr, $call:ident::<S $(, $parameter:ident)*>($($argument:expr),*), $otherwise:expr) => {

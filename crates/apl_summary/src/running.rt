@@ -1,4 +1,4 @@
-//! Numbers behind others, each folded with all in front of it.
+//! Numbers after others, each folded with all before it.
 ghost use Rattle.std.specs.Prelude.{◌≡◌, ◌≤◌, ℕ, ℤ, List, [], ◌∷◌, ◌++◌, Result, Ok, IfSome, length};
 ghost use Rattle.apl_pool.specs.declared.kernel.Fault.{Fault};
 ghost use Rattle.apl_pool.specs.Summaries.{fold_onto};
@@ -6,11 +6,11 @@ ghost use Rattle.apl_summary.specs.Running.{AreFoldsBehind, IsSummaryOrNone};
 
 use apl_pool::{Fault, Summary};
 
-/// A summary behind which numbers are folded, each with all in front of it.
+/// A summary after which numbers are folded, each with all before it.
 pub trait Running: Summary<Item = i64> {
-    /// Puts into the room the folds of all numbers up to each of these, behind those of which the summary
-    /// is, and says how many it put. It is there for summaries that do so faster than by `apply` and
-    /// `join`; what it leaves out is folded by these. It takes no memory.
+    /// Puts into the room the folds of all numbers up to each of these, and answers how many it put. The
+    /// summary is of the numbers before these. It is for summaries that do so faster than by `apply` and
+    /// `join`. What it leaves out is folded by these. It takes no memory.
     fn put_folds(_before: &Option<Self>, _numbers: &[i64], _room: &mut [i64]) -> usize
         requires { length _numbers.now ≡ length _room.old }
         ensures most { result ≤ length _room.old }
@@ -22,7 +22,7 @@ pub trait Running: Summary<Item = i64> {
     }
 }
 
-/// The numbers in front of others, by what matters to these.
+/// The numbers before others, by what matters to these.
 pub trait Front: Sized {
     // What a number does to the one on its right.
     ghost step: { ℤ → ℤ → Result ℤ Fault };
@@ -30,14 +30,14 @@ pub trait Front: Sized {
     // Which numbers they may be.
     ghost is_of: { Self → List ℤ → Type 0 };
 
-    /// The fold of the numbers and one more behind them, and then all of these; or none, where it can't tell.
+    /// The fold of the numbers and one more after them, and the front of all of these; or none, if it can't tell.
     fn with(&self, number: i64) -> Option<(i64, Self)>
         ensures value { IfSome result (λ next. (xs : List ℤ) → is_of self.now xs → fold_onto step xs number ≡ Ok next.0) }
         ensures front { IfSome result (λ next. (xs : List ℤ) → is_of self.now xs → is_of next.1 (xs ++ number ∷ [])) };
 }
 
-/// Puts into the room the folds of all numbers up to each of these, up to before the first that the front
-/// can't tell, and says how many they are.
+/// Puts into the room the folds of all numbers up to each of these, and answers how many it put. It stops
+/// before the first that the front can't tell.
 #[inline(always)]
 pub fn put_folds_behind<F: Front + Drop>(front: F, numbers: &[i64], room: &mut [i64]) -> usize
     requires { length numbers.now ≡ length room.old }

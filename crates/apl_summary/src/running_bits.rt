@@ -29,7 +29,7 @@ fn is_one(number: i64) -> bool
 }
 
 impl<P: TwoValuedFunction> RunningBits<P> {
-    /// Those of no number.
+    /// The answers of no number.
     pub fn none() -> Self
         ensures { AreRunningBits P.FUNCTION result.for_zero result.for_one [] }
     {
@@ -40,7 +40,7 @@ impl<P: TwoValuedFunction> RunningBits<P> {
         }
     }
 
-    /// Those of numbers with these answers, where neither is a fault.
+    /// Numbers with these answers, if neither is a fault.
     pub fn of(answers: &Answers) -> Option<Self>
         ensures zero { IfSome result (λ s. two_valued_outcome P.FUNCTION answers.now (pos 0) ≡ Ok (bit s.for_zero)) }
         ensures one { IfSome result (λ s. two_valued_outcome P.FUNCTION answers.now (pos 1) ≡ Ok (bit s.for_one)) }
@@ -63,7 +63,7 @@ impl<P: TwoValuedFunction> RunningBits<P> {
         if is_one { self.for_one } else { self.for_zero }
     }
 
-    /// What the numbers and one more behind them answer for a number.
+    /// What the numbers and one more after them answer for a number.
     #[inline(always)]
     fn answer_behind(&self, item: i64, right: i64) -> Option<bool>
         ensures { IfSome result (λ b. (numbers : List ℤ) → AreRunningBits P.FUNCTION self.now.for_zero self.now.for_one numbers
@@ -77,7 +77,7 @@ impl<P: TwoValuedFunction> RunningBits<P> {
 }
 
 impl<P: TwoValuedFunction + Drop> RunningBits<P> {
-    /// The fold of the numbers and a bit behind them, and then all of these.
+    /// The fold of the numbers and a bit after them, and the answers of all of these.
     #[inline(always)]
     fn with_bit(&self, item: i64) -> Option<(i64, Self)>
         requires { item ≡ bit (is_one item) }
@@ -93,7 +93,7 @@ impl<P: TwoValuedFunction + Drop> RunningBits<P> {
         Some((number(value), next))
     }
 
-    /// Those of the items at the places from `from` up to before `to`, where they are bits.
+    /// The answers of the items at the places from `from` up to before `to`, if they are bits.
     #[inline(always)]
     fn of_places<K: Kernel<Out = i64>>(kernel: &K, from: usize, to: usize) -> Option<Self>
         requires order { from ≤ to }
@@ -130,7 +130,7 @@ impl<P: TwoValuedFunction + Drop> Front for RunningBits<P> {
     }
 }
 
-/// What the items at the places from `from` up to before `to` answer, where all but the last are bits.
+/// What the items at the places from `from` up to before `to` answer, if all but the last are bits.
 #[inline(always)]
 pub fn answers_of_run<P: TwoValuedFunction + Drop, K: Kernel<Out = i64>>(
     kernel: &K,

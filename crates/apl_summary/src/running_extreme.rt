@@ -5,14 +5,14 @@ ghost use Rattle.apl_summary.specs.Fronts.{IsRunningExtreme};
 use crate::extremum::extreme_of_two;
 use crate::running::Front;
 
-/// The least of numbers where `GREATEST` is 0, else the greatest.
+/// The least of numbers if `GREATEST` is 0, else the greatest.
 #[derive(Clone, Copy)]
 pub struct RunningExtreme<const GREATEST: u8> {
     pub item: i64,
 }
 
 impl<const GREATEST: u8> RunningExtreme<GREATEST> {
-    /// That of no number.
+    /// The extreme of no number.
     pub fn none() -> Self
         ensures { IsRunningExtreme (nat_eq GREATEST 0) result.item [] }
     {

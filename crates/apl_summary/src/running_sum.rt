@@ -16,7 +16,7 @@ pub struct RunningSum {
     pub greatest: i64,
 }
 
-/// The sum of two numbers, where it is in the range.
+/// The sum of two numbers, if it is in the range.
 #[inline(always)]
 fn sum(a: i64, b: i64) -> Option<i64>
     ensures value { IfSome result (λ z. z ≡ a +ℤ b) }
@@ -26,7 +26,7 @@ fn sum(a: i64, b: i64) -> Option<i64>
 }
 
 impl RunningSum {
-    /// That of no number.
+    /// The running sum of no number.
     pub fn none() -> RunningSum
         ensures { IsRunningSum result [] }
     {
@@ -37,7 +37,7 @@ impl RunningSum {
         }
     }
 
-    /// That of the numbers of which these are the constants, where all of these are in the range.
+    /// The running sum of the numbers of which these are the constants, if all of these are in the range.
     pub fn of(constants: &Constants) -> Option<RunningSum>
         requires { AreConstants true constants.now }
         ensures least { IfSome result (λ s. s.least ≤ℤ pos 0) }

@@ -9,8 +9,8 @@ use apl_pool::{Fault, Kernel, Summary};
 
 /// The summary of numbers under `×`.
 ///
-/// Each partial result is a coefficient times what comes in. A number that comes in is refused where the
-/// least or the greatest coefficient times it is outside the range, so 0 never is.
+/// Each partial result is a coefficient times what comes in. A number that comes in is refused if the least
+/// or the greatest coefficient times it is outside the range, so 0 never is.
 #[derive(Clone, Copy)]
 pub struct Scaled {
     coefficients: Coefficients,

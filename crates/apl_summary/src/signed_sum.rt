@@ -9,10 +9,10 @@ use crate::running_sum::RunningSum;
 use crate::small_constants::small_constants;
 use apl_pool::{Fault, Kernel, Summary};
 
-/// The summary of numbers under `+` where `MINUS` is 0, else under `-`.
+/// The summary of numbers under `+` if `MINUS` is 0, else under `-`.
 ///
-/// Each partial result is a constant plus what comes in, or a constant less it. A number that comes in
-/// is refused where it takes the least or the greatest of these constants out of the range.
+/// Each partial result is a constant plus what comes in, or a constant minus it. A number that comes in
+/// is refused if it takes the least or the greatest of these constants out of the range.
 #[derive(Clone, Copy)]
 pub struct SignedSum<const MINUS: u8> {
     constants: Constants,

@@ -12,7 +12,7 @@ use crate::coefficients::Coefficients;
 use crate::range::{greater_of, lesser_of};
 use apl_pool::{Kernel, LONGEST_RUN};
 
-/// How far from 0 two numbers are at most whose product is not tested.
+/// The most magnitude of two numbers whose product is not tested.
 const MOST_FACTOR: i64 = 1 << 31;
 
 /// `Coefficients` in numbers of 64 bits.
@@ -69,7 +69,7 @@ impl SmallCoefficients {
         }
     }
 
-    /// The same in numbers of 128 bits.
+    /// These coefficients in numbers of 128 bits.
     pub fn widened(&self) -> Coefficients
         ensures { result ≡ widened self.now }
     {
@@ -82,7 +82,7 @@ impl SmallCoefficients {
     }
 }
 
-/// The item at a place, where it is small.
+/// The item at a place, if it is small.
 #[inline(always)]
 fn factor_at<K: Kernel<Out = i64>>(kernel: &K, place: usize) -> Option<i64>
     requires { place < K.place_count kernel.now }
@@ -95,7 +95,7 @@ fn factor_at<K: Kernel<Out = i64>>(kernel: &K, place: usize) -> Option<i64>
     }
 }
 
-/// The coefficients of the items at the places from `from` up to before `to`, where all of them and their
+/// The coefficients of the items at the places from `from` up to before `to`, if all of them and their
 /// partial products are small.
 #[inline(always)]
 pub fn small_coefficients<K: Kernel<Out = i64>>(

@@ -12,7 +12,7 @@ use crate::constants::{Bounds, Constants};
 use crate::range::{greater_of, lesser_of};
 use apl_pool::{Kernel, LONGEST_RUN};
 
-/// How far from 0 an item is at most to be small, so that those of a run add up to 2^62 at most.
+/// The most magnitude of a small item, so that those of a run add up to 2^62 at most.
 const MOST_SMALL: i64 = 1 << 52;
 
 /// `Bounds` in numbers of 64 bits.
@@ -116,7 +116,7 @@ impl SmallConstants {
         }
     }
 
-    /// The bounds of the constants with plus and one more, unless it stands with minus.
+    /// The bounds of the constants with plus and one more, unless that is with minus.
     #[inline(always)]
     fn plus_behind(&self, is_negated: bool, total: i64) -> SmallBounds
         ensures { result ≡ if is_negated then self.now.plus else with_constant self.now.plus total }
@@ -128,7 +128,7 @@ impl SmallConstants {
         }
     }
 
-    /// The bounds of the constants with minus and one more, unless it stands with plus.
+    /// The bounds of the constants with minus and one more, unless that is with plus.
     #[inline(always)]
     fn minus_behind(&self, is_negated: bool, total: i64) -> SmallBounds
         ensures { result ≡ if is_negated then with_constant self.now.minus total else self.now.minus }
@@ -160,7 +160,7 @@ impl SmallConstants {
         }
     }
 
-    /// The same in numbers of 128 bits.
+    /// These constants in numbers of 128 bits.
     pub fn widened(&self) -> Constants
         ensures { result ≡ widened self.now }
     {
@@ -174,7 +174,7 @@ impl SmallConstants {
     }
 }
 
-/// The item at a place, where it is small.
+/// The item at a place, if it is small.
 #[inline(always)]
 fn small_item<K: Kernel<Out = i64>>(kernel: &K, place: usize) -> Option<i64>
     requires { place < K.place_count kernel.now }
@@ -187,7 +187,7 @@ fn small_item<K: Kernel<Out = i64>>(kernel: &K, place: usize) -> Option<i64>
     }
 }
 
-/// The constants of the items at the places from `from` up to before `to`, where all of them are small.
+/// The constants of the items at the places from `from` up to before `to`, if all of them are small.
 #[inline(always)]
 pub fn small_constants<K: Kernel<Out = i64>>(
     is_plus: bool,

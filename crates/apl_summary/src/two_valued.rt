@@ -58,8 +58,8 @@ impl TwoValuedFunction for NotEqual {
 
 /// The summary of numbers under the function that `P` names.
 ///
-/// The last item is the first that meets what comes in. Its result is 0 or 1, so of the items to its left
-/// it is enough to know what they answer for these two.
+/// The last item is the first that meets what comes in. Its result is 0 or 1, so it is enough to know what
+/// the items to its left answer for these two.
 #[derive(Clone, Copy)]
 pub struct TwoValued<P> {
     answers: Answers,
