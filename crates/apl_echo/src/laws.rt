@@ -8,12 +8,12 @@ ghost use Rattle.apl_tokens.specs.Fronts.{AllPass};
 ghost use Rattle.apl_tokens.specs.Lexis.{quoted};
 ghost use Rattle.apl_echo.specs.Lines.{number_value, text_value, number_line, is_no_quote, IsPrintedLine, ReadsAs, ReadsAsBlank};
 
-/// Where the text of a number, or of a vector of two numbers or more, is one line, that line reads as the
-/// constant of the same value. The line of a vector of one number reads as that number, a scalar, and that
-/// of a vector without numbers is blank.
+/// If the text of a number, or of a vector of two numbers or more, is one line, that line reads as the
+/// constant of that value. The line of a vector of one number reads as that number, a scalar. That of a
+/// vector without numbers is blank.
 ///
-/// The text is one line where the numerals, with a blank between them, fit the width. Of continuation lines
-/// and of matrices nothing is said.
+/// The text is one line if the numerals, with a blank between them, fit the width. The law is not about
+/// continuation lines and matrices.
 pub fn printed_numbers_read_back()
     ensures value { (numbers : List ℤ) (width : ℕ) (line : List ℕ) → 0 < length numbers
         → IsWithinLimits (number_value numbers) → IsPrintedLine (number_value numbers) width line
@@ -27,12 +27,12 @@ pub fn printed_numbers_read_back()
         → IsPrintedLine (number_value numbers) width (number_line numbers) }
 {}
 
-/// Where the text of a character, or of a vector of any other number of them, is one line, that line between
-/// quotes, each quote of its own doubled, reads as the constant of the same value. That of a vector of one
-/// character reads as that character, a scalar. The characters are listed symbols, as those of lines are.
+/// Let the text of a character, or of a vector of any other number of them, be one line. That line between
+/// quotes, each quote of its own doubled, reads as the constant of that value. For a vector of one
+/// character it reads as that character, a scalar. The characters are listed symbols, as in lines.
 ///
-/// A line without quotes stands between the two as it is. The text is one line where the characters fit the
-/// width. Of continuation lines and of matrices nothing is said.
+/// A line without quotes is between the two as it is. The text is one line if the characters fit the
+/// width. The law is not about continuation lines and matrices.
 pub fn printed_text_reads_back()
     ensures value { (characters : List ℕ) (width : ℕ) (line : List ℕ) → AllPass is_listed characters
         → IsWithinLimits (text_value characters) → IsPrintedLine (text_value characters) width line

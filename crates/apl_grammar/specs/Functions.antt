@@ -7,7 +7,7 @@ use Rattle.apl_tokens.specs.Symbols.{class_of}
 use Rattle.apl_grammar.specs.declared.program.Form.{Form}
 use Rattle.apl_grammar.specs.declared.program.Form.TheVariants.{Plain, Reduce, Inner, Outer}
 
--- a dyadic scalar function, by which may be reduced, and which may be in a product
+-- a dyadic scalar function: it may be in a reduction, a scan or a product
 abbrev pub is_dyadic_scalar : Class → Bool
 is_dyadic_scalar (Scalar f) = has_dyadic f
 is_dyadic_scalar _ = false

@@ -1,4 +1,4 @@
--- What compact forms and stored places stand for. No contract of a public function cites this file.
+-- What compact forms and stored places mean. No contract of a public function cites this file.
 use Rattle.std.specs.Prelude.{List, Option, Some, map}
 use Rattle.apl_grammar.specs.declared.program.Form.{Form}
 use Rattle.apl_grammar.specs.declared.program.Form.TheVariants as form

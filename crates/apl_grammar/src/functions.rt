@@ -16,7 +16,7 @@ pub(crate) fn is_dyadic_scalar(glyph: Glyph) -> bool
     }
 }
 
-/// Whether the function's symbol may stand alone before one argument.
+/// Whether the function's symbol may be a function of one argument.
 fn is_monadic(glyph: Glyph) -> bool
     ensures { result ≡ is_monadic (class_of glyph) }
 {
@@ -27,7 +27,7 @@ fn is_monadic(glyph: Glyph) -> bool
     }
 }
 
-/// Whether the function's symbol may stand between two arguments.
+/// Whether the function's symbol may be a function of two arguments.
 fn is_dyadic(glyph: Glyph) -> bool
     ensures { result ≡ is_dyadic (class_of glyph) }
 {
@@ -55,7 +55,7 @@ pub(crate) fn takes_axis(glyph: Glyph) -> bool
     )
 }
 
-/// Whether the symbol after a scalar function makes a reduction or a scan of it.
+/// Whether the symbol, after a scalar function, makes a reduction or a scan of it.
 pub(crate) fn reduces(glyph: Glyph) -> bool
     ensures { result ≡ reduces (class_of glyph) }
 {

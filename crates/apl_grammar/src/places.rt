@@ -1,4 +1,4 @@
-//! The places of a program under way.
+//! The places of a program that is being read.
 ghost use Rattle.std.specs.Prelude.{◌≡◌, ◌++◌, ◌∷◌, [], Some, None, length, map, slice_set, IfOk, OnOk};
 ghost use Rattle.apl_grammar.specs.Storage.{places_of};
 ghost use Rattle.apl_grammar.specs.Automaton.{without_empty_places};
@@ -33,7 +33,7 @@ impl Model for Places {
 }
 
 impl Places {
-    /// No places, and room for so many.
+    /// No places, and room for `capacity` of them.
     pub(crate) fn with_capacity(alloc: Global, capacity: usize) -> Result<Places, AllocError>
         ensures { IfOk result (λ places. places ≡ []) }
     {
@@ -54,7 +54,7 @@ impl Places {
         }
     }
 
-    /// Keeps a place, and tells which it is.
+    /// Keeps a place, and answers which it is.
     pub(crate) fn keep_place(&mut self, alloc: Global) -> Result<usize, AllocError>
         ensures place { IfOk result (λ place. place ≡ length self.old) }
         ensures kept { OnOk result (self.new ≡ self.old ++ None ∷ []) }

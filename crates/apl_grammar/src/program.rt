@@ -34,7 +34,7 @@ pub enum Form {
         column: usize,
         glyph: Glyph,
     },
-    /// The reduction or the scan by a function: the slash says which, and along which axis where none is given.
+    /// The reduction or the scan by a function: the slash says which, and along which axis if none is given.
     Reduce {
         column: usize,
         function: Glyph,
@@ -222,9 +222,9 @@ pub enum Operation {
     Group(Brackets),
     /// An empty slot of a list.
     EmptySlot,
-    /// The elements of the array that the slots choose; one slot more than there are semicolons.
+    /// The elements of the array that the slots choose. There is one slot more than semicolons.
     Index(Columns, Brackets),
-    /// The name at the first column gets the value; the arrow stands at the second.
+    /// The name at the first column gets the value; the arrow is at the second.
     Assign(usize, Name, usize),
     /// The chosen elements of a name's array get the value.
     AssignAt(BoxedIndexedName),

@@ -16,8 +16,8 @@ use std::alloc::{AllocError, AllocFailed, Global};
 use std::marker::Model;
 use std::mem;
 
-/// A function before a bracket whose valence isn't known yet: if the bracket holds an axis the function is monadic, and its
-/// operation has a place; if it holds an index the function is dyadic.
+/// A function before a bracket, whose valence isn't known yet. If the bracket has an axis, the function is monadic, and its
+/// operation has a place. If it has an index, the function is dyadic.
 #[derive(Drop)]
 pub(crate) struct UndecidedFunction {
     function: Function,
@@ -132,10 +132,10 @@ impl<T: Drop> From<AllocFailed<T>> for Refusal {
     }
 }
 
-/// Room for so many pending items is taken at once where there are as many tokens.
+/// The most pending items for which room is taken at once, if there are as many tokens.
 const SHORT: usize = 12;
 
-/// The operations emitted so far, with places kept among them, what waits to the left of what was read, and what was read.
+/// The operations emitted so far, with places kept among them; what waits to the left of what was read; and what was read.
 #[derive(Drop)]
 pub(crate) struct Reader {
     alloc: Global,
@@ -145,7 +145,7 @@ pub(crate) struct Reader {
 }
 
 impl Reader {
-    /// A reader that has read nothing of so many tokens.
+    /// A reader that has read nothing yet of `count` tokens.
     fn new(alloc: Global, count: usize) -> Result<Reader, AllocError>
         ensures operations { IfOk result (λ r. r.operations ≡ []) }
         ensures stack { IfOk result (λ r. stack_of r ≡ []) }

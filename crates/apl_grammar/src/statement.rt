@@ -14,7 +14,7 @@ use std::alloc::Global;
 #[derive(Clone, Copy, Debug, PartialEq, Eq, Drop)]
 pub enum GrammarStop {
     /// No statement has these tokens. The column is that of the rightmost token such that no statement's tokens end with
-    /// the tokens from there on, and that of the first token where there is none such.
+    /// the tokens from there on. If there is none, it is that of the first token.
     Syntax { column: usize },
     Memory,
 }

@@ -8,8 +8,8 @@ use clap::error::ErrorKind;
 use clap::{Arg, Command, Error, value_parser};
 use std::alloc::Global;
 
-/// What the words ask for, of which the first is the program's name: an error is the text for one who asked for help or gave words
-/// that are refused, or want of memory.
+/// What the words ask for. The first of them is the program's name. An error is the text for one who asked for help or gave words
+/// that are refused, or it is out of memory.
 pub fn settings(alloc: Global, words: &[&str]) -> Result<Settings, Error>
     requires { 0 < length words.now }
     ensures workers { IfOk result (λ s. (1 ≤ s.workers) × (s.workers ≤ MOST_WORKERS)) }
@@ -55,16 +55,16 @@ pub fn settings(alloc: Global, words: &[&str]) -> Result<Settings, Error>
     })
 }
 
-/// How many workers there are where no option says so.
+/// How many workers there are by default.
 const WORKERS: &str = "4";
 
-/// How many elements a piece has where no option says so.
+/// How many elements a piece has by default.
 const PIECE: &str = "4096";
 
 /// The word for workers who claim the pieces in their order, each the next one.
 const CLAIMS: &str = "claims";
 
-/// The word for workers who have deques of pieces. It is meant where no option says so.
+/// The word for workers who have deques of pieces, which is the default.
 const DEQUES: &str = "deques";
 
 /// The end of the help.
@@ -81,7 +81,7 @@ A line and its answer:
 
 The manual is docs/MANUAL.md, and docs/KEYBOARD.md tells how to type the symbols.";
 
-/// The exit status where the words gave no settings: 0 for help, 1 for want of memory, else 2.
+/// The exit status if the words gave no settings: 0 for help, 1 if out of memory, else 2.
 pub fn refusal(error: &Error) -> u8
     ensures help { kind_of error.now ≡ ErrorKind.DisplayHelp → result ≡ 0 }
     ensures memory { kind_of error.now ≡ ErrorKind.OutOfMemory → result ≡ 1 }

@@ -1,12 +1,12 @@
--- How the printer lays out a row, field by field: what is printed is said by `Row` and `Shown`. No contract of a public function
+-- How the printer lays out a row, field by field. `Row` and `Shown` define what is printed. No contract of a public function
 -- cites this file.
 use Rattle.std.specs.Prelude.{ℕ, ◌+◌, ◌-◌, List, [], ◌∷◌, ◌++◌, Option, Some, None, length, take, drop, map, replicate, nat_le, if◌then◌else◌}
 use Rattle.apl_print.specs.Text.{line_feed, blanks, indent}
 use Rattle.apl_array.specs.Array.{ArrayValue}
 use Rattle.apl_print.specs.Shown.{field_of, empty_lines}
 
--- what stands before a field of so many characters: nothing at the start of its row, the gap where it fits on the open line, and
--- else a new line's blanks
+-- what is before a field of this many characters: nothing at the start of its row, the gap if it fits on the open line, and else a
+-- new line's blanks
 abbrev pub lead : ℕ → ℕ → Option ℕ → ℕ → List ℕ
 lead width gap None n = []
 lead width gap (Some column) n = if nat_le (column + gap + n) width then blanks gap else line_feed ∷ blanks indent
@@ -16,7 +16,7 @@ abbrev pub column_after : ℕ → ℕ → Option ℕ → ℕ → ℕ
 column_after width gap None n = n
 column_after width gap (Some column) n = if nat_le (column + gap + n) width then column + gap + n else indent + n
 
--- the rest of a row, where the open line has so many characters, or the row has not begun
+-- the rest of a row, if the open line has this many characters, or the row has not begun
 abbrev pub rest_of_row : ℕ → ℕ → Option ℕ → List (List ℕ) → List ℕ
 rest_of_row width gap column [] = line_feed ∷ []
 rest_of_row width gap column (field ∷ fields) = lead width gap column (length field)

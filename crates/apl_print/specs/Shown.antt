@@ -53,15 +53,15 @@ abbrev pub aligned : (ℕ → ℕ) → ℕ → List (List ℕ) → List (List �
 aligned widths k [] = []
 aligned widths k (field ∷ fields) = padded (widths k) field ∷ aligned widths (k + 1) fields
 
--- how many empty lines are before row r, where r is above 0: one for each axis but the last two along which a plane begins there,
--- which is where r is a multiple of the number of rows that the axes after it have
+-- How many empty lines are before row r, which is above 0: one for each axis but the last two along which a plane begins there.
+-- Along an axis a plane begins if r is a multiple of the number of rows that the axes after it have
 abbrev pub plane_starts : List ℕ → ℕ → ℕ
 plane_starts [] r = 0
 plane_starts (n ∷ []) r = 0
 plane_starts (n ∷ m ∷ []) r = 0
 plane_starts (n ∷ m ∷ l ∷ shape) r = (if r % row_count (m ∷ l ∷ shape) == 0 then 1 else 0) + plane_starts (m ∷ l ∷ shape) r
 
--- the same, and none before the first row
+-- how many empty lines are before row r: none before the first
 abbrev pub empty_lines : List ℕ → ℕ → ℕ
 empty_lines shape zero = 0
 empty_lines shape (suc r) = plane_starts shape (suc r)

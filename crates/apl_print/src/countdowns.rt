@@ -4,7 +4,7 @@ ghost use Rattle.apl_print.specs.Countdowns.{after_call};
 
 use std::marker::Model;
 
-/// A countdown to the call that is to fail, if one is. After it no call is.
+/// A countdown to the call that is to fail, if there is one. No call after it is to fail.
 #[derive(Drop)]
 pub struct Countdown {
     calls: Option<u64>,
@@ -19,7 +19,7 @@ impl Model for Countdown {
 }
 
 impl Countdown {
-    /// A countdown to the call of this number, counted from 1, if one is given.
+    /// A countdown to the call with this number, counted from 1, if one is given.
     pub fn new(fail_at: Option<u64>) -> Countdown
         ensures { result ≡ fail_at }
     {

@@ -29,8 +29,8 @@ impl Model for MemorySink {
 }
 
 impl MemorySink {
-    /// An empty sink that takes at most `most` bytes a call, and fails at the call of that number, counted from 1, if one
-    /// is given. It takes no memory: `alloc` is kept for what the sink takes later.
+    /// An empty sink that takes at most `most` bytes a call. If a number is given, it fails at the call with that number,
+    /// counted from 1. It takes no memory: `alloc` is kept for what the sink takes later.
     pub fn new(alloc: Global, most: usize, fail_at: Option<u64>) -> MemorySink
         requires { 0 < most }
         ensures empty { result.bytes ≡ [] }

@@ -13,14 +13,14 @@ use super::sinks::{Sink, SinkFault, put_all};
 use arrayvec::{ArrayVec, CapacityError};
 use itoa::Buffer;
 
-/// A report of so many bytes at most is put in one write.
+/// A report of at most this many bytes is put in one write.
 const AT_ONCE: usize = 256;
 
 /// A run of blanks, of which slices are put.
 static BLANKS: [u8; AT_ONCE] = [b' '; AT_ONCE];
 
-/// Puts a report: its name, the line as it came, and a caret below a column of the line, counted in characters from 0, where
-/// one is given. It takes no memory. After a fault the sink has taken a beginning of the report.
+/// Puts a report: its name, the line as it came, and a caret below a column of the line, if one is given. Columns count
+/// characters from 0. It takes no memory. After a fault the sink has taken a beginning of the report.
 pub fn report<S: Sink>(
     sink: &mut S,
     report: Report,
@@ -94,7 +94,7 @@ fn put_caret<S: Sink>(sink: &mut S, column: usize) -> Result<(), SinkFault>
     put_all(sink, "∧\n".as_bytes())
 }
 
-/// Puts so many blanks.
+/// Puts `count` blanks.
 fn put_blanks<S: Sink>(sink: &mut S, count: usize) -> Result<(), SinkFault>
     ensures writes { Writes (S.taken sink.old) (S.taken sink.new) (blanks count) result }
     ensures failures { CountsFailure (S.failures sink.old) (S.failures sink.new) result }

@@ -1,4 +1,4 @@
-//! Rows of fields, and the lines that they stand on.
+//! Rows of fields, and the lines that they are on.
 ghost use Rattle.std.specs.Prelude.{◌≡◌, ℕ, ◌+◌, ◌-◌, ◌*◌, ◌<◌, ◌≤◌, ◌++◌, All, IfSome, IfOk, OnOk, length, take, map, max, replicate, slice_index, string_bytes, encode_utf8_all, None};
 ghost use Rattle.apl_array.specs.Shape.{count_of, most_elements};
 ghost use Rattle.apl_array.specs.Array.{IsArray, element_in};
@@ -28,7 +28,7 @@ impl Layout {
         Layout { width, gap }
     }
 
-    /// How many bytes the text of so many elements has at least.
+    /// How many bytes the text of `count` elements has at least.
     pub(crate) fn least_length(self, count: usize) -> usize
         requires { count ≤ most_elements }
     {
@@ -61,7 +61,7 @@ impl Layout {
         text.push('\n')
     }
 
-    /// Puts a field behind what the open line has, and says how many characters that line then has.
+    /// Puts a field after what the open line has, and answers how many characters that line then has.
     fn put_field(
         self,
         text: &mut String,
@@ -87,7 +87,7 @@ impl Layout {
         Ok(next)
     }
 
-    /// Puts what stands before a field of so many characters, and says how many characters the line has after the field.
+    /// Puts what comes before a field of `size` characters, and answers how many characters the line has after the field.
     fn put_lead(
         self,
         text: &mut String,
@@ -152,7 +152,7 @@ pub(crate) fn put_rows(
     Ok(())
 }
 
-/// How many empty lines stand before a row.
+/// How many empty lines are before a row.
 fn empty_lines(lengths: &[usize], row: usize) -> usize
     requires some { 0 < count_of lengths.now }
     requires most { count_of lengths.now ≤ most_elements }
@@ -194,7 +194,7 @@ fn row_count(lengths: &[usize]) -> usize
     }
 }
 
-/// The length of the widest field of each column, over so many rows.
+/// The length of the widest field of each column, over `rows` rows.
 fn column_widths(
     alloc: Global,
     array: &Array,
@@ -228,7 +228,7 @@ fn widen(widths: &mut [u8], array: &Array, start: usize)
     }
 }
 
-/// The width of column `k`, 0 where none is given.
+/// The width of column `k`, 0 if none is given.
 fn width_at(widths: &[u8], k: usize) -> u8
     ensures { result ≡ slice_index widths.now k }
 {
@@ -265,7 +265,7 @@ fn push_element(text: &mut String, element: Elem) -> Result<(), AllocError>
     }
 }
 
-/// Puts a character so many times.
+/// Puts a character `count` times.
 fn push_run(text: &mut String, character: char, count: usize) -> Result<(), AllocError>
     ensures { OnOk result (string_bytes text.new
         ≡ string_bytes text.old ++ encode_utf8_all (replicate count character)) }

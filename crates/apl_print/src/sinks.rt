@@ -10,7 +10,7 @@ pub struct SinkFault;
 
 /// Takes bytes, a front of what it is given at a time.
 pub trait Sink {
-    // the bytes that it took so far, where it tells them
+    // the bytes that it took so far, if it tells them
     ghost taken: { Self → Option (List ℕ) };
 
     // how many calls failed

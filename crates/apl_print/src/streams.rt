@@ -5,7 +5,7 @@ use super::sinks::{Sink, SinkFault};
 use std::io::Write;
 use std::marker::Model;
 
-/// A writer as a sink. It tells what the writer tells. A write that takes nothing, or is interrupted, counts as a failure.
+/// A writer as a sink. It tells what the writer tells. A write that takes nothing or is interrupted counts as a failure.
 #[derive(Drop)]
 pub struct Out<W> {
     inner: W,

@@ -18,7 +18,7 @@ pub const MOST_WIDTH: u8 = 130;
 /// The text of an array on lines of at most `width` characters, each ended by a line feed.
 ///
 /// A scalar or a vector is one row of fields, and a vector without elements is an empty line. A field
-/// is the digits of a number, behind `¯` where it is negative, or a character. Numbers have a blank
+/// is the digits of a number, after `¯` if it is negative, or a character. Numbers have a blank
 /// between them. A field that does not fit on its line begins a continuation line after six blanks.
 ///
 /// An array of rank 2 and above is its rows, in columns that are as wide as their widest field over the
@@ -54,7 +54,7 @@ pub fn shown_always()
         → (text : List ℕ) × IsShown a width text }
 {}
 
-/// The law of numerals: the digits of a number stand for it, and the first of them is 0 for 0 alone.
+/// The law of numerals: the digits of a number have it as their value, and the first of them is 0 for 0 alone.
 pub fn numerals()
     ensures digits { (n : ℕ) → n < 2 ^ 64 → IsNumeral 10 (decimal n) × (digits_value 10 (decimal n) ≡ n) }
     ensures first { (n : ℕ) → 0 < n → n < 2 ^ 64 → 48 < slice_index (decimal n) 0 }

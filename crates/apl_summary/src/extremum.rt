@@ -99,7 +99,7 @@ fn with_four<K: Kernel<Out = i64>>(
     Some(extreme_of_two(is_least, four, behind))
 }
 
-/// The least or the greatest of some items by fours from a place on, and of that of the items after them.
+/// The least or the greatest of `fours` times four items from a place on, and of that of the items after them.
 #[inline(always)]
 fn with_fours<K: Kernel<Out = i64>>(
     is_least: bool,

@@ -10,7 +10,7 @@ use Rattle.apl_syntax.specs.declared.lines.Command.{Command}
 
 -- what a line can be: a faulty one has the column of its caret
 pub data Reading : Type 0 where
-  -- a symbol is not listed: the front of the line has so many bytes, and as many characters as the column says
+  -- a symbol is not listed: the front of the line has this many bytes, and as many characters as the column
   character : (bytes column : ℕ) → Reading
   command : Command → Reading
   -- no token

@@ -9,7 +9,7 @@ use super::lines::Command;
 use apl_array::Origin;
 use apl_tokens::{blanks_before, is_digit};
 
-/// How many symbols stand before the first blank.
+/// How many symbols are before the first blank.
 fn word_length(text: &[char]) -> usize
     ensures within { result ≤ length text.now }
     ensures word { AllPass is_no_blank (take result text.now) }
@@ -23,7 +23,7 @@ fn word_length(text: &[char]) -> usize
     text.len()
 }
 
-/// How many symbols stand before the blanks that the text ends with.
+/// How many symbols are before the blanks at the end of the text.
 fn length_without_blanks(text: &[char]) -> usize
     ensures within { result ≤ length text.now }
     ensures blank { AllPass is_blank (drop result text.now) }
@@ -107,7 +107,7 @@ fn command_of(word: &[char], argument: &[char]) -> Command
     }
 }
 
-/// The command of the text behind the parenthesis.
+/// The command of the text after the parenthesis.
 fn command_behind(text: &[char]) -> Command
     ensures { (word argument : List ℕ) × HasWordAndArgument text.now word argument × IsCommandOf word argument result }
 {

@@ -14,7 +14,7 @@ pub enum Command {
     Clear,
     /// `)OFF`
     Off,
-    /// Anything else behind `)`.
+    /// Anything else after `)`.
     Incorrect,
 }
 
@@ -31,12 +31,12 @@ pub enum Line {
 /// Why a line is not read. Columns count characters from 0.
 #[derive(Clone, Copy, Debug, PartialEq, Eq, Drop)]
 pub enum ReadStop {
-    /// The line has a symbol that is not listed. The longest front of listed symbols has so many bytes, and the column is
-    /// the number of its characters.
+    /// The line has a symbol that is not listed. The longest front of listed symbols has this many bytes, and the column
+    /// is the number of its characters.
     Character { bytes: usize, column: usize },
-    /// At this column no token fits, or stands the caret of tokens that no statement has.
+    /// At this column no token fits, or it is the caret of tokens that no statement has.
     Syntax { column: usize },
-    /// A constant passes a limit: a numeral at this column leaves the range, or a constant there has too many elements.
+    /// A constant exceeds a limit: a numeral at this column is out of range, or a constant there has too many elements.
     Limit { column: usize },
     Memory,
 }

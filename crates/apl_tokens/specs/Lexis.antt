@@ -126,8 +126,8 @@ IsToken text after (Constant value) = IsConstant text after value
 IsToken text after (Name name) = IsName text after name
 IsToken text after lexeme = IsSymbol text lexeme
 
--- The tokens are the front of the characters, whose first is at column c. What follows them and the
--- blanks after them is the rest, at column d.
+-- The tokens are the front of the characters, whose first is at column c. The rest is what follows them and the
+-- blanks after them, at column d.
 abbrev pub LexesUpTo : ℕ → List ℕ → List Token → ℕ → List ℕ → Type 0
 LexesUpTo c characters [] d rest =
     (gap : List ℕ) × (characters ≡ gap ++ rest) × AllPass is_blank gap × BeginsWithNo is_blank rest × (d ≡ c + length gap)
@@ -153,8 +153,8 @@ pub data FirstOutOfRange : List Numeral → ℕ → Type 0 where
   here : {n : Numeral} {ns : List Numeral} → (IsInRange n.1 → ⊥) → FirstOutOfRange (n ∷ ns) n.0
   later : {n : Numeral} {ns : List Numeral} {place : ℕ} → IsInRange n.1 → FirstOutOfRange ns place → FirstOutOfRange (n ∷ ns) place
 
--- Here begins a number constant beyond a limit: of too many elements, at its first character, or else with a
--- numeral out of range, at the first of those.
+-- A number constant beyond a limit begins here. If it has too many elements, the fault is at its first character,
+-- and else at its first numeral out of range.
 pub record IsNumberBeyondLimit (rest : List ℕ) (place : ℕ) : Type 0 where
   pub text : List ℕ
   pub after : List ℕ

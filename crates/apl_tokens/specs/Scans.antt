@@ -17,7 +17,7 @@ is_of_class class.Blank c = is_blank c
 is_of_class class.Digit c = is_digit c
 is_of_class class.NamePart c = is_name_character c
 
--- the text begins with so many bytes of so many listed characters, and this is the rest
+-- the text begins with this many bytes, which are this many listed characters, and this is the rest
 pub record ListsUpTo (text rest : List ℕ) (bytes count : ℕ) : Type 0 where
   pub characters : List ℕ
   pub listed : AllPass is_listed characters
@@ -46,7 +46,7 @@ pub record IsNumeralAt (text : List ℕ) (len : ℕ) (number : Option ℤ) : Typ
   pub longest : BeginsWithNo is_digit (drop len text)
   pub checked : IsCheckedNumber z number
 
--- behind so many blanks stands a numeral of this length and number
+-- after this many blanks is a numeral of this length and number
 pub record IsNextNumeralAt (text : List ℕ) (gap len : ℕ) (number : Option ℤ) : Type 0 where
   pub within : gap ≤ length text
   pub blank : AreBlanks (take gap text)
@@ -68,7 +68,7 @@ pub record IsNumeralRow (text : List ℕ) (len count : ℕ) (beyond : Option ℕ
   pub checked : AreCheckedNumbers numerals beyond values
   pub inside : IfSome beyond (λ place. place ≤ len)
 
--- whether one more numeral follows a row of so many; a row has several
+-- whether one more numeral follows a row of this many; a row has several
 abbrev pub GoesOn : ℕ → List ℕ → Option NextNumeral → Type 0
 GoesOn count rest None = HasNoNextNumeral rest × (1 < count)
 GoesOn count rest (Some next) = IsNextNumeralAt rest next.gap next.numeral.length next.numeral.number × (0 < count)
@@ -79,24 +79,24 @@ with_number values (Some first) place number = (values, Some first)
 with_number values None place None = (values, Some place)
 with_number values None place (Some z) = (values ++ z ∷ [], None)
 
--- so many symbols spell the first character behind an opening quote
+-- this many symbols spell the first character after an opening quote
 pub record IsSpelling (text : List ℕ) (n : ℕ) : Type 0 where
   pub within : n ≤ length text
   pub some : 0 < n
   pub is : take n text ≡ doubled (slice_index text 0 ∷ [])
 
--- the first quote behind an opening quote closes
+-- the first quote after an opening quote closes
 abbrev pub BeginsWithClosingQuote : List ℕ → Type 0
 BeginsWithClosingQuote [] = ⊥
 BeginsWithClosingQuote (c ∷ cs) = (c ≡ quote) × BeginsWithNo is_quote cs
 
--- a text constant of these characters has this length behind its opening quote
+-- a text constant of these characters has this length after its opening quote
 pub record IsQuotation (text characters : List ℕ) (len : ℕ) : Type 0 where
   pub within : len ≤ length text
   pub spelled : take len text ≡ doubled characters ++ quote ∷ []
   pub ends : BeginsWithNo is_quote (drop len text)
 
--- no text constant behind this opening quote is closed
+-- no text constant after this opening quote is closed
 abbrev pub HasNoQuotation : List ℕ → Type 0
 HasNoQuotation text = (characters after : List ℕ) → BeginsWithNo is_quote after → text ≡ doubled characters ++ (quote ∷ after) → ⊥
 
@@ -104,13 +104,13 @@ abbrev pub BeginsWithQuote : List ℕ → Type 0
 BeginsWithQuote [] = ⊥
 BeginsWithQuote (c ∷ cs) = c ≡ quote
 
--- a token of this length stands at the front of the text
+-- a token of this length is at the front of the text
 pub record IsTokenAt (text : List ℕ) (len : ℕ) (lexeme : Lexeme) : Type 0 where
   pub within : len ≤ length text
   pub some : 0 < len
   pub is : IsToken (take len text) (drop len text) lexeme
 
--- no token stands at the front of the text, which begins at this column
+-- no token is at the front of the text, which begins at this column
 abbrev pub IsStopAt : List ℕ → ℕ → LexicalStop → Type 0
 IsStopAt text column (stop.Syntax c) = (c ≡ column) × BeginsWithNoToken text × ((place : ℕ) → IsBeyondLimit text place → ⊥)
 IsStopAt text column (stop.Limit c) = (place : ℕ) × IsBeyondLimit text place × (c ≡ column + place)

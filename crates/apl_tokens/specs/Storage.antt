@@ -1,4 +1,4 @@
--- The array that a stored constant stands for. No contract of a public function cites this file.
+-- The array of a stored constant. No contract of a public function cites this file.
 use Rattle.std.specs.Prelude.{[], ◌∷◌}
 use Rattle.apl_array.specs.Array.{ArrayValue, number_array}
 use Rattle.apl_tokens.specs.declared.token.ConstantStorage.{ConstantStorage}

@@ -69,7 +69,7 @@ scalar_character Greater = 62  -- >
 scalar_character NotEqual = 0x2260  -- ≠
 scalar_character Tilde = 126  -- ~
 
--- the same names as a list, and so below: the token of a character is looked up among all
+-- these names as a list, and so below: the token of a character is looked up among all
 abbrev pub scalar_functions : List ScalarFunction
 scalar_functions =
     Plus ∷ Minus ∷ Times ∷ Divide ∷ Stile ∷ Star ∷ Bang ∷ Floor ∷ Ceiling ∷ And

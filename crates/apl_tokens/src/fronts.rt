@@ -1,4 +1,4 @@
-// The front of a line: its longest beginning made of listed symbols.
+//! The front of a line: its longest beginning made of listed symbols.
 ghost use Rattle.std.specs.Prelude.{◌≡◌, ℕ, ◌++◌, List, [], length, take, drop, IfOk, IfErr, encode_utf8, encode_utf8_all};
 ghost use Rattle.std.specs.Str.{StartsWithNoChar, chars};
 ghost use Rattle.apl_tokens.specs.Fronts.{IsFront};
@@ -11,9 +11,9 @@ use std::alloc::{AllocError, Global};
 /// Why a line has no characters.
 #[derive(Clone, Copy, Debug, PartialEq, Eq, Drop)]
 pub enum FrontStop {
-    /// The front of the line, of so many bytes and characters, is not all of it: an unlisted symbol follows.
+    /// An unlisted symbol follows the front of the line, which has this many bytes and characters.
     Unlisted { bytes: usize, column: usize },
-    /// A growth was refused. The line is of listed symbols.
+    /// A growth was refused. Each symbol of the line is listed.
     Memory,
 }
 
@@ -79,8 +79,8 @@ fn characters_of(alloc: Global, text: &str) -> Result<Vec<char>, AllocError>
 ///
 /// # Errors
 ///
-/// `Unlisted` where an unlisted symbol stands in the line: that is found first, and takes no memory.
-/// `Memory` where a growth was refused.
+/// `Unlisted` if a symbol of the line is not listed: that is found first, and takes no memory.
+/// `Memory` if a growth was refused.
 pub fn front(alloc: Global, line: &[u8]) -> Result<Vec<char>, FrontStop>
     ensures listed { IfOk result (λ characters. IsFront line.now characters.items []) }
     ensures stop { IfErr result (IsFrontStopOf line.now) }

@@ -1,12 +1,12 @@
-// Laws of the definitions: a line has one front, its characters one list of tokens or one fault, and its constants are
-// within all limits.
+//! Laws of the definitions, each the contract of a function that does nothing. A line has one front, its characters have one
+//! list of tokens or one fault, and its constants are within all limits.
 ghost use Rattle.std.specs.Prelude.{◌≡◌, ◌⊎◌, ℕ, List};
 ghost use Rattle.apl_tokens.specs.declared.token.Token.{Token};
 ghost use Rattle.apl_tokens.specs.Fronts.{IsFront};
 ghost use Rattle.apl_tokens.specs.Lexis.{Lexes, HasLexicalFault, HasLimitFault};
 ghost use Rattle.apl_tokens.specs.Constants.{HasConstantsWithinLimits};
 
-/// The front of a line and what follows it are one.
+/// A line has one front, and one rest after it.
 pub fn front_is_unique()
     ensures { (bytes c d r s : List ℕ) → IsFront bytes c r → IsFront bytes d s → (c ≡ d) × (r ≡ s) }
 {}
@@ -21,7 +21,7 @@ pub fn lexing_is_total()
     ensures { (characters : List ℕ) → ((ts : List Token) × Lexes characters ts) ⊎ (((c : ℕ) × HasLexicalFault characters c) ⊎ ((c : ℕ) × HasLimitFault characters c)) }
 {}
 
-/// Characters have one list of tokens, or a lexical fault at one column, or a fault of a limit at one column.
+/// Characters have one list of tokens, a lexical fault at one column, or a fault of a limit at one column.
 pub fn lexing_is_unique()
     ensures tokens { (characters : List ℕ) (ts us : List Token) → Lexes characters ts → Lexes characters us → ts ≡ us }
     ensures fault { (characters : List ℕ) (c d : ℕ) → HasLexicalFault characters c → HasLexicalFault characters d → c ≡ d }

@@ -1,4 +1,4 @@
-// Tokens from characters.
+//! Tokens from characters.
 ghost use Rattle.std.specs.Prelude.{if◌then◌else◌, ◌-◌, ◌≡◌, ◌⊎◌, ◌≤◌, ◌<◌, ◌+◌, ◌^◌, ◌∷◌, [], ◌++◌, ℕ, ℤ, pos, Bool, true, false, List, IsTrue, IfSome, IfNone, IfOk, IfErr, length, take, drop, encode_utf8_all, string_bytes};
 ghost use Rattle.apl_tokens.specs.Symbols.{is_blank, is_digit, is_letter, is_name_character};
 ghost use Rattle.apl_tokens.specs.Fronts.{AllPass};
@@ -103,7 +103,7 @@ fn magnitude(digits: &[char]) -> Option<u64>
     Some(n)
 }
 
-/// The number that digits spell behind a high minus or none, if it is in range.
+/// The number that digits spell, after a high minus or none, if it is in range.
 fn number(digits: &[char], negative: bool) -> Option<i64>
     requires { AllPass is_digit digits.now }
     ensures { IsCheckedNumber (if negative then negated (number_of_digits digits.now) else pos (number_of_digits digits.now)) result }
@@ -158,14 +158,14 @@ fn numeral_at(text: &[char]) -> Option<Numeral>
     })
 }
 
-/// A numeral behind so many blanks.
+/// A numeral after some blanks.
 #[derive(Clone, Copy, Drop)]
 struct NextNumeral {
     gap: usize,
     numeral: Numeral,
 }
 
-/// The numeral behind blanks at the front, if one is there.
+/// The numeral after blanks at the front, if one is there.
 fn next_numeral(text: &[char]) -> Option<NextNumeral>
     ensures found { IfSome result (λ next. IsNextNumeralAt text.now next.gap next.numeral.length next.numeral.number) }
     ensures none { IfNone result (HasNoNextNumeral text.now) }
@@ -210,7 +210,7 @@ fn add_number(
     }
 }
 
-/// All numerals at the front, the first two of which are handed in.
+/// All numerals at the front, of which the first two are given.
 fn row_at(
     alloc: Global,
     text: &[char],
@@ -260,7 +260,7 @@ fn number_vector(alloc: Global, numbers: Vec<i64>) -> Array
     Array::ints(shape, numbers)
 }
 
-/// The number constant at the front of a text that begins at this column. Its first numeral is handed in.
+/// The number constant at the front of a text that begins at this column. Its first numeral is given.
 fn number_constant_at(
     alloc: Global,
     text: &[char],
@@ -297,14 +297,14 @@ fn number_constant_at(
     })
 }
 
-/// The characters of a text constant, and its length behind the opening quote.
+/// The characters of a text constant, and its length after the opening quote.
 #[derive(Drop)]
 struct Quotation {
     characters: Vec<char>,
     length: usize,
 }
 
-/// How many symbols spell the first character behind an opening quote: none for the quote that closes.
+/// How many symbols spell the first character after an opening quote: none for the quote that closes.
 fn spelling_length(text: &[char]) -> Option<usize>
     requires { 0 < length text.now }
     ensures found { IfSome result (λ n. IsSpelling text.now n) }
@@ -319,7 +319,7 @@ fn spelling_length(text: &[char]) -> Option<usize>
     }
 }
 
-/// The text constant whose opening quote stands before this text, if it is closed.
+/// The text constant whose opening quote is before this text, if it is closed.
 fn quotation_at(alloc: Global, text: &[char]) -> Result<Option<Quotation>, AllocError>
     ensures closed { IfOk result (λ found. IfSome found (λ q. IsQuotation text.now q.characters.items q.length)) }
     ensures unclosed { IfOk result (λ found. IfNone found (HasNoQuotation text.now)) }
@@ -410,16 +410,16 @@ fn token_at(alloc: Global, text: &[char], column: usize) -> Result<Scanned, Lexi
     }
 }
 
-/// Room for so many tokens at most is taken before they are counted, and more as they come: 30 MiB, near the largest block that
-/// the C library's heap keeps for the next line unless it is told otherwise.
+/// The most tokens for which room is taken before they are counted; more room is taken as they come. It is 30 MiB, near the largest
+/// block that the C library's heap keeps for the next line by default.
 const ROOM: usize = 3 << 18;
 
 /// The tokens of a line's characters.
 ///
 /// # Errors
 ///
-/// `Syntax` or `Limit` where a token is wanted and none fits, or a constant is beyond a limit: the leftmost such place.
-/// `Memory` where a growth was refused.
+/// `Syntax` if no token fits, `Limit` if a constant is beyond a limit: at the leftmost such place.
+/// `Memory` if a growth was refused.
 pub fn tokens(alloc: Global, characters: &[char]) -> Result<Vec<Token>, LexicalStop>
     ensures tokens { IfOk result (λ tokens. Lexes characters.now tokens.items) }
     ensures stop { IfErr result (IsLexicalStopOf characters.now) }

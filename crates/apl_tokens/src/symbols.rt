@@ -1,4 +1,4 @@
-// The listed symbols, and the tokens of one symbol.
+//! The listed symbols, and the tokens of one symbol.
 ghost use Rattle.std.specs.Prelude.{◌≡◌, ◌==◌};
 ghost use Rattle.apl_tokens.specs.Symbols.{is_digit, is_letter, is_name_character, is_blank, is_quote, comment_mark, is_listed_ascii, is_listed, symbol_lexeme};
 
@@ -56,7 +56,7 @@ fn is_listed_ascii(c: char) -> bool
     ' ' <= c && c <= '~'
 }
 
-/// Whether this is a symbol of ASCII from the blank to the tilde, or one of the others that are listed.
+/// Whether this is a listed symbol: of ASCII from the blank to the tilde, or one of the others.
 pub(crate) fn is_listed(c: char) -> bool
     ensures { result ≡ is_listed c }
 {

@@ -92,7 +92,7 @@ impl Constant {
         }
     }
 
-    /// The array: that of a single number is made now, and another is shared.
+    /// The array. That of a single number is made now, and any other is shared.
     pub fn array(&self, alloc: Global) -> Result<Rc<Array>, AllocError>
         ensures { IfOk result (λ array. array.value ≡ self.now) }
     {
@@ -188,7 +188,7 @@ pub enum Lexeme {
     Semicolon,
 }
 
-/// A lexeme and the column of its first character, in characters from 0.
+/// A lexeme and the column of its first character. Columns count characters from 0.
 #[derive(Drop)]
 pub struct Token {
     pub lexeme: Lexeme,
