@@ -1,4 +1,4 @@
--- What a function of arrays answers, as a row of a table: checks in order, and the shape, the kind and the elements of the result.
+-- What a function of arrays answers, as a row of a table: checks in order, then shape, kind and elements of the result.
 use Rattle.std.specs.Prelude.{◌≡◌, ℕ, List, [], ◌∷◌, Bool, true, Result, Ok, Err, if◌then◌else◌}
 use Rattle.apl_array.specs.declared.array.Elem.{Elem}
 use Rattle.apl_array.specs.declared.array.Kind.{Kind}

@@ -14,8 +14,8 @@ use apl_pool::{Cut, Gate, Kernel, Pool, Stop};
 use std::alloc::Global;
 use std::thread::Threads;
 
-/// The array of this shape whose elements in row order a kernel gives at its places, or the fault
-/// at the least place that has one. `Memory` may come in place of any answer.
+/// The array of this shape with a kernel's values in row order, or the fault at the least place that
+/// has one. `Memory` may come in place of any answer.
 pub fn fill_array<K: Kernel + Sync, R: Threads + Sync, C: Cut + Sync, G: Gate + Sync>(
     rt: &R,
     alloc: Global,

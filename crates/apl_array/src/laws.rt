@@ -97,10 +97,10 @@ pub fn place_is_sum_of_strides()
         → place_of shape (reverse index) ≡ inner_product index (reverse (strides shape)) }
 {}
 
-/// Index lists of a source whose axes become axes of another shape: they are lawful, and their
-/// places are counted with one stride for each axis of that shape. No axis of a transposition is
-/// too long, and it has a lawful shape if each of its axes is named. The axes in reverse order
-/// reverse the index list.
+/// Index lists of a source whose axes become axes of another shape. They are lawful, and their places
+/// are counted with one stride for each axis of that shape. No axis of a transposition is too long,
+/// and it has a lawful shape if each of its axes is named. The axes in reverse order reverse the
+/// index list.
 pub fn transposed_index_has_place()
     ensures lawful { (source axes result index : List ℕ) → AreAxesInto source axes result → IsIndexOf result index
         → IsIndexOf source (source_index axes index) }

@@ -53,8 +53,8 @@ after_none v = cond v.told v (with_told v)
 abbrev pub rest_of : View → ℕ → View
 rest_of v share = record v { share = v.share - share; past = min v.past (v.share - share) }
 
--- The seat that is cut off knows what the old one saw and was told. A seat has at most as many steps past the end as its share: those
--- that are too many for the old one go to this one
+-- The seat that is cut off knows what the old one saw and was told. A seat has at most as many steps past the end as its share.
+-- Those that are too many for the old one go to this one
 abbrev pub part_of : View → ℕ → View
 part_of v share = record {
   pieces = v.pieces;

@@ -8,8 +8,8 @@ ghost use Rattle.apl_tokens.specs.Fronts.{AllPass};
 ghost use Rattle.apl_tokens.specs.Lexis.{quoted};
 ghost use Rattle.apl_echo.specs.Lines.{number_value, text_value, number_line, is_no_quote, IsPrintedLine, ReadsAs, ReadsAsBlank};
 
-/// If the text of a number, or of a vector of two numbers or more, is one line, that line reads as the
-/// constant of that value. The line of a vector of one number reads as that number, a scalar. That of a
+/// Let the text of a number, or of a vector of two numbers or more, be one line. It reads as the constant
+/// of that value. The line of a vector of one number reads as that number, a scalar. That of a
 /// vector without numbers is blank.
 ///
 /// The text is one line if the numerals, with a blank between them, fit the width. The law is not about

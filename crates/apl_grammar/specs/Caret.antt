@@ -13,7 +13,7 @@ abbrev pub HasNoTree : List Token → Type 0
 HasNoTree tokens = (e : Expr) → IsTree e → spells e ≡ tokens → ⊥
 
 -- The caret of tokens that no tree spells. It is at the rightmost token such that no statement's tokens end with the
--- tokens from there on, and at the first token if there is none.
+-- tokens from there on. If there is none, it is at the first token.
 abbrev pub IsCaret : List Token → ℕ → Type 0
 IsCaret [] column = ⊥
 IsCaret (first ∷ others) column =

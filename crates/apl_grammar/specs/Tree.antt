@@ -131,8 +131,8 @@ abbrev pub semicolons : Slots → List ℕ
 semicolons (last s) = []
 semicolons (more s c ss) = semicolons ss ++ c ∷ []
 
--- The operations of a tree in the order of evaluation, each after its operands: the expression on the right, then
--- the axis, then the operand, then the function; the slots of a list from the last to the first, then the array.
+-- The operations of a tree in the order of evaluation, each after its operands. The expression on the right is first,
+-- then the axis, the operand, and the function. The slots of a list come from the last to the first, then the array.
 abbrev mutual
   pub operations : Expr → List Operation
   operations (value o) = operand_operations o

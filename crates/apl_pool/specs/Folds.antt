@@ -32,8 +32,8 @@ module _ {S X : Type 0} (step : X → ℤ → Result ℤ Fault) (item_count : S 
   abbrev pub IsFoldedFirst : ℕ → ℕ → List (Option S) → Type 0
   IsFoldedFirst from to values = IsFolded from to (slice_index_or values 0 None)
 
--- a marked part is the summary of its piece: each row has `count` pieces, which begin and end at `start`, and the rows' first pieces
--- come first
+-- A marked part is the summary of its piece. Each row has `count` pieces, which begin and end at `start`. The rows' first pieces come
+-- first
 abbrev pub ArePartsOf : {S X : Type 0} → (X → ℤ → Result ℤ Fault) → (S → ℕ) → (S → ℤ → Result ℤ Fault) → (ℕ → ℕ → Result X Fault) → (rows count : ℕ) → (ℕ → ℕ) → List Bool → List (Option S) → Type 0
 ArePartsOf step item_count does outcome rows count start marks parts = (row n : ℕ) → row < rows → n < count → slice_index_or marks (n * rows + row) false ≡ true
     → IsFolded step item_count does (outcome row) (start n) (start (n + 1)) (slice_index_or parts (n * rows + row) None)

@@ -62,8 +62,8 @@ pub trait Kernel {
         requires { place < place_count self.now }
         ensures { result ≡ outcome self.now place };
 
-    /// The values at a place and the three after it, all before `to`, if the kernel gives them together
-    /// and none of them has a fault. It is for kernels that take few instructions at a place, so that
+    /// The values at a place and the three after it, all before `to`, if the kernel gives them together.
+    /// It gives none if one has a fault. It is for kernels that take few instructions at a place, so that
     /// faults are looked for once in four. It takes no memory.
     fn four(
         &self,

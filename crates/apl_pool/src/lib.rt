@@ -1,7 +1,7 @@
 //! Work over the places of an array, cut into pieces and shared out to workers.
 //!
-//! A pass over all places answers what one worker would who goes from place 0 upwards: the value at each place,
-//! or the least place that has a fault. Neither the number of workers nor the cutting changes it.
+//! A pass over all places answers the value at each, or the least place that has a fault. So would one worker who
+//! goes from place 0 upwards: neither the number of workers nor the cutting changes the answer.
 //!
 //! Below it: `apl_board` and `apl_yard` give pieces to workers, and in `apl_rooms` they write the values.
 //! The slots of `core` and the lists of `std_alloc` are the room for these.

@@ -23,8 +23,8 @@ pub(crate) fn stop_at(place: usize, fault: Fault) -> Stop
     }
 }
 
-/// Writes the values of the kernel's runs into the room for the places from `from` up to before `to`,
-/// and answers the place at which it stopped.
+/// Writes the values of the kernel's runs into the room for the places from `from` up to before `to`.
+/// It answers the place at which it stopped.
 fn write_runs<K: Kernel>(kernel: &K, from: usize, to: usize, room: &mut [K::Out]) -> usize
 where
     K::Out: Copy,

@@ -5,8 +5,8 @@ use Rattle.apl_print.specs.Text.{line_feed, blanks, indent}
 use Rattle.apl_array.specs.Array.{ArrayValue}
 use Rattle.apl_print.specs.Shown.{field_of, empty_lines}
 
--- what is before a field of this many characters: nothing at the start of its row, the gap if it fits on the open line, and else a
--- new line's blanks
+-- What is before a field of this many characters: nothing at the start of its row. Else it is the gap if the field fits on the open
+-- line, or a new line's blanks
 abbrev pub lead : ℕ → ℕ → Option ℕ → ℕ → List ℕ
 lead width gap None n = []
 lead width gap (Some column) n = if nat_le (column + gap + n) width then blanks gap else line_feed ∷ blanks indent

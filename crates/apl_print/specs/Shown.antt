@@ -53,7 +53,7 @@ abbrev pub aligned : (ℕ → ℕ) → ℕ → List (List ℕ) → List (List �
 aligned widths k [] = []
 aligned widths k (field ∷ fields) = padded (widths k) field ∷ aligned widths (k + 1) fields
 
--- How many empty lines are before row r, which is above 0: one for each axis but the last two along which a plane begins there.
+-- How many empty lines are before row r, above 0: one for each axis but the last two along which a plane begins there.
 -- Along an axis a plane begins if r is a multiple of the number of rows that the axes after it have
 abbrev pub plane_starts : List ℕ → ℕ → ℕ
 plane_starts [] r = 0
@@ -72,7 +72,7 @@ AreRows width gap shape r [] text = text ≡ []
 AreRows width gap shape r (row ∷ rows) text = (first : List ℕ) × (rest : List ℕ) × IsRow width gap row first
     × AreRows width gap shape (r + 1) rows rest × (text ≡ replicate (empty_lines shape r) line_feed ++ (first ++ rest))
 
--- the text of an array: of a scalar and a vector one row, else its rows in aligned columns, and nothing where there are no elements
+-- the text of an array: a scalar and a vector are one row, others rows in aligned columns, or nothing without elements
 abbrev pub IsText : ℕ → ℕ → List ℕ → List (List ℕ) → List ℕ → Type 0
 IsText width gap [] fields text = IsRow width gap fields text
 IsText width gap (n ∷ []) fields text = IsRow width gap fields text

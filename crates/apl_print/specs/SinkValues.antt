@@ -6,8 +6,8 @@ pub record OutValue (W : Type 0) : Type 0 where
   pub inner : W
   pub failures : ℕ
 
--- a sink in memory: the bytes that it took, how many it takes at most in a call, how many calls there are up to the one that
--- fails, if one is to fail, and how many failed
+-- A sink in memory: the bytes that it took, how many it takes at most in a call, and how many calls failed. If one is to fail, it
+-- also has how many calls there are up to that
 pub record MemorySinkValue : Type 0 where
   pub bytes : List ℕ
   pub most : ℕ

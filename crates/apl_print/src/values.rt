@@ -21,8 +21,8 @@ pub const MOST_WIDTH: u8 = 130;
 /// is the digits of a number, after `¯` if it is negative, or a character. Numbers have a blank
 /// between them. A field that does not fit on its line begins a continuation line after six blanks.
 ///
-/// An array of rank 2 and above is its rows, in columns that are as wide as their widest field over the
-/// whole array, with empty lines between its planes. Without elements it has no line.
+/// An array of rank 2 and above is its rows, with empty lines between its planes. Each column is as wide
+/// as its widest field in the whole array. Without elements the array has no line.
 ///
 /// Memory is taken for the text, and for a byte for each column of an array of rank 2 and above.
 pub fn print(alloc: Global, array: &Array, width: u8) -> Result<String, AllocError>

@@ -1,4 +1,4 @@
--- The rule of a table of rooms: what holds between any two steps, of its words, of the rooms at home and of the views of all seats.
+-- The rule of a table of rooms: what holds between any two steps. It is of the words, the rooms at home and the views of all seats.
 use Rattle.std.specs.Prelude.{◌≡◌, ◌≢◌, ℕ, ◌+◌, ◌<◌, ◌==◌, cond, List, [], ◌∷◌, length, slice_index, Option, Some, None}
 use mathlib.Core.Option.{some}
 use lib.ListN.{get_elem?}

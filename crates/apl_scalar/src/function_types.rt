@@ -1,5 +1,5 @@
-//! The scalar functions, each a type of its own with its bodies, so that a pass over an array is compiled
-//! for each function and does not choose between functions at each element.
+//! The scalar functions, each a type of its own with its bodies. So a pass over an array is compiled for each
+//! function, and does not choose between functions at each element.
 ghost use Rattle.apl_scalar.specs.Scalar.{bit};
 
 use crate::arithmetic::{

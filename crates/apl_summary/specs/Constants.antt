@@ -1,5 +1,5 @@
--- The sums and differences of items, by their constants. Each partial result of a fold by `+` or `-` is a constant plus what comes in,
--- or a constant minus it: what comes in is with plus or with minus.
+-- The sums and differences of items, by their constants. Each partial result of a fold by `+` or `-` is a constant and what comes in,
+-- with plus or with minus.
 use Rattle.std.specs.Prelude.{◌≡◌, ℕ, ◌+◌, ◌*◌, ◌<◌, ◌≤◌, Bool, true, false, not, ◌&&◌, ℤ, pos, negsuc, neg_ℤ, ◌+ℤ◌, ◌-ℤ◌, ◌≤ℤ◌, int_le, Result, Ok, Err, if◌then◌else◌}
 use Rattle.std.specs.Int.{int_min, int_max}
 use Rattle.apl_array.specs.declared.function.ScalarFunction.{ScalarFunction}

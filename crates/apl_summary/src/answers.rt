@@ -7,8 +7,7 @@ ghost use Rattle.apl_summary.specs.Answers.{answers_of_one, answers_of_both, who
 use apl_pool::Fault;
 use apl_scalar::function_types::Function;
 
-/// How many items there are, the last of them, and what those to its left answer if its result is 0, and
-/// if it is 1.
+/// How many items there are, the last of them, and what those to its left answer for its results 0 and 1.
 #[derive(Clone, Copy)]
 pub struct Answers {
     pub count: u32,

@@ -10,9 +10,9 @@ use apl_pool::Fault;
 /// How far from 0 a coefficient may be.
 const MOST_HELD: i128 = 9_223_372_036_854_775_809;
 
-/// The coefficients of the partial results of some items, by which what comes in is multiplied: how many
-/// items there are, the coefficient of the whole result, the least and the greatest of all. Each is kept
-/// within 2^63 + 1 of 0.
+/// The coefficients of the partial results of some items, by which what comes in is multiplied. Here are how
+/// many items there are, the coefficient of the whole result, and the least and the greatest of all. Each is
+/// kept within 2^63 + 1 of 0.
 #[derive(Clone, Copy)]
 pub struct Coefficients {
     pub count: u32,

@@ -6,9 +6,9 @@ ghost use Rattle.apl_summary.specs.ConsecutiveSums.{AreConsecutiveSums, AreSumsO
 
 use crate::consecutive_sums::ConsecutiveSums;
 
-/// The summary of a list by the sums of its consecutive items. It has how many items there are, their total,
-/// and the least and the greatest sum of a beginning, of an end and of consecutive items. Those of two
-/// neighbouring lists are joined to that of both.
+/// The summary of a list by the sums of its consecutive items. It has the number of items, their total, and the
+/// least and the greatest sum of a beginning, of an end and of consecutive items. Those of two neighbouring
+/// lists are joined to that of both.
 #[derive(Clone, Copy)]
 pub struct Consecutive {
     sums: ConsecutiveSums,

@@ -6,8 +6,8 @@ ghost use Rattle.apl_summary.specs.ConsecutiveSums.{AreBoundsWithin94Bits, AreSu
 
 use crate::constants::{Bounds, sum};
 
-/// How many items there are, their total, and the least and the greatest sum of a beginning, of an end and
-/// of consecutive items, none of them empty.
+/// The number of items, their total, and the least and the greatest sum of a beginning, of an end and of
+/// consecutive items. None of these is empty.
 #[derive(Clone, Copy)]
 pub struct ConsecutiveSums {
     pub count: u32,

@@ -7,7 +7,7 @@ abbrev pub AllPass : (ℕ → Bool) → List ℕ → Type 0
 AllPass p [] = Unit {0}
 AllPass p (c ∷ cs) = IsTrue (p c) × AllPass p cs
 
--- The front of a line is its longest beginning made of listed symbols: these are its characters, and the
+-- The front of a line is its longest beginning made of listed symbols. These are its characters, and the
 -- rest of the bytes begins with none.
 pub record IsFront (bytes characters rest : List ℕ) : Type 0 where
   pub listed : AllPass is_listed characters
