@@ -34,7 +34,7 @@ least (n ∷ m ∷ ns) = min n (least (m ∷ ns))
 abbrev pub transposed_shape : ℕ → List ℕ → List ℕ → List ℕ
 transposed_shape rank axes source = map (λ axis. least (becoming axis axes source)) (range_with_len 0 rank)
 
--- how far a step along each axis of the result moves the place in the source: as far as one along each axis that becomes it
+-- how far a step along each axis of the result moves the place in the source: as a step along each axis that becomes it
 abbrev pub source_strides : ℕ → List ℕ → List ℕ → List ℕ
 source_strides rank axes source = map (λ axis. sum (becoming axis axes (strides source))) (range_with_len 0 rank)
 

@@ -16,6 +16,7 @@ pub enum GrammarStop {
     /// No statement has these tokens. The column is that of the rightmost token such that no statement's tokens end with
     /// the tokens from there on. If there is none, it is that of the first token.
     Syntax { column: usize },
+    /// A growth was refused.
     Memory,
 }
 

@@ -24,7 +24,7 @@ pub record IsSummaryOf {S X : Type 0} (step : X → ℤ → Result ℤ Fault) (i
   pub number_of_items : item_count s ≡ length items
   pub does : (right : ℤ) → IsI64 right → outcome s right ≡ fold_onto step items right
 
--- a summary of the items at the places from `from` up to before `to`, which gives numbers of the range for such
+-- A summary of the items at the places from `from` up to before `to`. For a number in the range it gives one in the range
 pub record IsSummaryFrom {S X : Type 0} (step : X → ℤ → Result ℤ Fault) (item_count : S → ℕ) (does : S → ℤ → Result ℤ Fault) (outcome : ℕ → Result X Fault) (from to : ℕ) (s : S) : Type 0 where
   pub items : List X
   pub values : AreValues (λ k. outcome (from + k)) (to - from) items

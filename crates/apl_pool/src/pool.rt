@@ -72,7 +72,7 @@ impl<C: Cut + Sync, G: Gate + Sync> Pool<C, G> {
     /// The value at each place, or the least place that has a fault, and that fault. `Memory` may
     /// come in place of any answer, and then no more is known.
     ///
-    /// Let there be p pieces and m workers, counted from 0. Under `Deques` worker w begins with the pieces
+    /// Let there be p pieces and m workers, counted from 0. Under `Deques` worker w begins with those
     /// from w × p / m up to before (w + 1) × p / m, rounded down. No more workers get a thread than there are
     /// pieces, and one piece or one worker needs none. A fault at place 0 of more than 65,536 places is found
     /// before the places are cut and room is taken.

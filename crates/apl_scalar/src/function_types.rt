@@ -17,6 +17,7 @@ pub trait Function {
 
     ghost FUNCTION: { ScalarFunction };
 
+    /// The function that the type names.
     const FUNCTION: ScalarFunction;
 
     /// The result of the monadic function of a number, or `Domain` if there is none. It takes no memory.

@@ -14,8 +14,8 @@ pub struct Bounds {
 }
 
 /// The constants of the partial results of some items, each of which is a constant plus what comes in, or a
-/// constant minus it. Here are the number of items, the constant of the whole result, whether that has
-/// minus, and the bounds of the constants with plus and with minus.
+/// constant minus it. `total` is the constant of the whole result, and `is_negated` says whether that has minus.
+/// `plus` and `minus` are the bounds of the constants with plus and of those with minus.
 ///
 /// 0 counts as one with plus, for what comes in itself. Under `+` there are none with minus, and both
 /// bounds there are -1, which no number that comes in takes out of the range.

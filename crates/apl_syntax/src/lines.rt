@@ -38,5 +38,6 @@ pub enum ReadStop {
     Syntax { column: usize },
     /// A constant exceeds a limit: a numeral at this column is out of range, or a constant there has too many elements.
     Limit { column: usize },
+    /// A growth was refused. Each symbol of the line is listed.
     Memory,
 }
