@@ -7,11 +7,11 @@ use Rattle.apl_pool.specs.declared.kernel.Fault.{Fault}
 use Rattle.apl_answer.specs.declared.fault.OpFault.{OpFault}
 use Rattle.apl_answer.specs.Pointwise.{answer_of, IsAnswerOf}
 
--- a test, and the refusal where it fails
+-- a test, and the refusal if it fails
 abbrev pub Check : Type 0
 Check = Bool × OpFault
 
--- the checks in order, and the shape, the kind and the outcome at each index list where none fails
+-- the checks in order, and the shape, the kind and the outcome at each index list if none fails
 pub record Row : Type 0 where
   pub checks : List Check
   pub shape : List ℕ

@@ -10,7 +10,7 @@ abbrev pub origin_number : Origin → ℕ
 origin_number Zero = 0
 origin_number One = 1
 
--- a number less the origin, exactly: it is a place only where it is not negative
+-- a number less the origin, exactly: it is a place only if it is not negative
 abbrev pub from_origin : Origin → ℤ → ℤ
 from_origin origin number = number -ℤ pos (origin_number origin)
 

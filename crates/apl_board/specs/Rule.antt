@@ -37,7 +37,7 @@ reported_in x views = total (λ v. times x v.reported) views
 abbrev pub seen_in : ℕ → List View → ℕ
 seen_in x views = total (λ v. times x v.seen) views
 
--- what holds of one seat, where this is the next number
+-- what holds of one seat, if this is the next number
 pub record IsLawfulSeat (extent : Extent) (next : ℕ) (v : View) : Type 0 where
   -- a seat is told only when no piece is left
   pub told : v.told ≡ true → extent.pieces ≤ next

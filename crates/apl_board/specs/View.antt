@@ -84,10 +84,10 @@ joined v w = record {
 abbrev pub spent : View
 spent = blank 0 0 0
 
--- the place is at most each of these, and there is none only where there are none of these
+-- the place is at most each of these, and `None` only if there are none
 abbrev pub IsAtMostEach : Option ℕ → List ℕ → Type 0
 IsAtMostEach place places = MatchOption place (places ≡ []) (λ p. All (λ x. p ≤ x) places)
 
--- the least of these places, or none where there are none
+-- the least of these places, or `None` if there are none
 abbrev pub IsLeastOf : Option ℕ → List ℕ → Type 0
 IsLeastOf place places = MatchOption place (places ≡ []) (λ p. Contains places p × All (λ x. p ≤ x) places)

@@ -52,7 +52,7 @@ brackets l r = record { left = l; right = r }
 abbrev pub indexed_name : (column : ℕ) → (name semicolons : List ℕ) → Brackets → (arrow : ℕ) → IndexedName
 indexed_name c n cs b r = record { column = c; name = n; semicolons = cs; brackets = b; arrow = r }
 
--- the brackets of an axis, where there is one
+-- the brackets of an axis, if there is one
 abbrev pub axis_brackets : Axis → Option Brackets
 axis_brackets none = None
 axis_brackets (along l e r) = Some (brackets l r)

@@ -18,7 +18,7 @@ module _ {S X : Type 0} (step : X → ℤ → Result ℤ Fault) (item_count : S 
     pub summary : IsSummaryOf step item_count does s items
     pub range : (right z : ℤ) → IsI64 right → does s right ≡ Ok z → IsI64 z
 
-  -- none where there are no such places
+  -- none if there are no such places
   abbrev pub IsFolded : ℕ → ℕ → Option S → Type 0
   IsFolded from to (Some s) = IsFoldFrom from to s
   IsFolded from to None = from ≡ to

@@ -8,7 +8,7 @@ use Rattle.apl_array.specs.Array.{ArrayValue}
 use Rattle.apl_print.specs.Text.{high_minus, line_feed, blanks}
 use Rattle.apl_print.specs.Row.{IsRow}
 
--- a number: its digits without leading zeros, `¯` before them where it is negative
+-- a number: its digits without leading zeros, `¯` before them if it is negative
 abbrev pub numeral_of : ℤ → List ℕ
 numeral_of (pos n) = decimal n
 numeral_of (negsuc n) = high_minus ∷ decimal (suc n)

@@ -35,12 +35,12 @@ module _ {X : Type 0} where
 
   -- the rule of a table for these rooms and this many shares
   pub record IsLawful (is_right : ℕ → List X → Type 0) (seats : ℕ) (rooms : List (Option (Room X))) (s : State (Option (Room X)) (View X)) : Type 0 where
-    -- a word for each room: 1 where it is out, 2 where it is right
+    -- a word for each room: 1 if it is out, 2 if it is right
     pub words : length s.words ≡ length rooms
     -- the shares add up to the seats
     pub shares : total (λ v. v.share) s.views ≡ seats
     pub each : (id : ℕ) (v : View X) → get_elem? s.views id ≡ some v → IsLawfulSeat rooms v
-    -- a room is out with one seat, and only where its word says so
+    -- a room is out with one seat, and only if its word says so
     pub out : (n : ℕ) → n < length rooms → total (λ v. times n v.out) s.views ≡ cond (slice_index s.words n == 1) 1 0
     -- any other is at home, in its places
     pub home : (n : ℕ) (y : Option (Room X)) → get_elem? rooms n ≡ some y → slice_index s.words n ≢ 1

@@ -21,7 +21,7 @@ module _ {X : Type 0} where
   abbrev pub with_none : View X → View X
   with_none v = viewing v.rooms v.share []
 
-  -- what stays where one share is cut off
+  -- what is left of a seat when one share is cut off
   abbrev pub rest_of : View X → View X
   rest_of v = viewing v.rooms (v.share - 1) v.out
 

@@ -8,7 +8,7 @@ abbrev pub factorial : ℕ → ℕ
 factorial zero = 1
 factorial (suc n) = suc n * factorial n
 
--- n! by (k! times (n - k)!), and 0 where k exceeds n
+-- n! by (k! times (n - k)!), and 0 if k exceeds n
 abbrev pub binomial : ℕ → ℕ → ℕ
 binomial n k = if nat_lt n k then 0 else factorial n / (factorial k * factorial (n - k))
 
@@ -19,6 +19,6 @@ floor_quotient (pos b) (negsuc a) = neg_ℤ (pos (div_ceil b (suc a)))
 floor_quotient (negsuc b) (pos a) = negsuc (b / a)
 floor_quotient (negsuc b) (negsuc a) = pos (suc b / suc a)
 
--- b where a is 0, else b less a times the quotient of b by a, rounded down
+-- b if a is 0, else b minus a times the quotient of b by a, rounded down
 abbrev pub residue : ℤ → ℤ → ℤ
 residue a b = if int_eq a (pos 0) then b else b -ℤ a *ℤ floor_quotient b a

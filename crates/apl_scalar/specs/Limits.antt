@@ -1,4 +1,4 @@
--- A value that is there only where the range has it. No contract of a public function cites this file.
+-- A value that is there only if it is in the range. No contract of a public function cites this file.
 use Rattle.std.specs.Prelude.{ℤ, Option, Some, None, Result, Ok, Err}
 use Rattle.apl_pool.specs.declared.kernel.Fault.{Fault}
 use Rattle.apl_pool.specs.declared.kernel.Fault.TheVariants.{Limit}

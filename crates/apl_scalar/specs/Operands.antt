@@ -6,7 +6,7 @@ use Rattle.apl_pool.specs.declared.kernel.Fault.{Fault}
 use Rattle.apl_array.specs.declared.function.ScalarFunction.{ScalarFunction}
 use Rattle.apl_scalar.specs.Scalar.{dyadic_of}
 
--- the element at its own place where the argument is whole, else the first
+-- the element at its own place if the argument is whole, else the first
 abbrev pub operand_at : List Elem → Bool → ℕ → Elem
 operand_at elements is_whole place = slice_index_or elements (if is_whole then place else 0) (Int (pos 0))
 

@@ -12,7 +12,7 @@ use Rattle.apl_array.specs.declared.function.ScalarFunction.{ScalarFunction}
 use Rattle.apl_array.specs.declared.function.ScalarFunction.TheVariants.{Plus, Minus, Times, Divide, Stile, Star, Bang, Floor, Ceiling, And, Or, Nand, Nor, Less, LessOrEqual, Equal, GreaterOrEqual, Greater, NotEqual, Tilde}
 use Rattle.apl_scalar.specs.Arithmetic.{factorial, binomial, residue}
 
--- an exact whole number, which is Limit where it is outside the range
+-- an exact whole number, or Limit if it is outside the range
 abbrev pub exact : ℤ → Result ℤ Fault
 exact z = if in_range z then Ok z else Err Limit
 
@@ -65,7 +65,7 @@ combinations x y = if is_negative x || is_negative y then Err Domain else exact 
 
 -- ---- the tables
 
--- a monadic function of a number. A function that is not monadic is not asked
+-- a monadic function of a number. It is asked only of monadic functions
 abbrev pub monadic_number : ScalarFunction → ℤ → Result ℤ Fault
 monadic_number Plus x = Ok x
 monadic_number Minus x = exact (neg_ℤ x)
@@ -78,7 +78,7 @@ monadic_number Ceiling x = Ok x
 monadic_number Tilde x = negation x
 monadic_number _ x = Err Domain
 
--- a dyadic function of two numbers. A function that is not dyadic is not asked
+-- a dyadic function of two numbers. It is asked only of dyadic functions
 abbrev pub dyadic_numbers : ScalarFunction → ℤ → ℤ → Result ℤ Fault
 dyadic_numbers Plus x y = exact (x +ℤ y)
 dyadic_numbers Minus x y = exact (x -ℤ y)

@@ -1,4 +1,4 @@
-//! Exact arithmetic, refused only where the exact result leaves the range. No loop runs once for
+//! Exact arithmetic, refused only if the exact result leaves the range. No loop runs once for
 //! each unit of a large number.
 ghost use Rattle.std.specs.Prelude.{◌≡◌, pos, negsuc, ◌*ℤ◌, ◌+◌, ◌%◌, ◌^◌, ◌<◌, ◌≤◌, ◌==◌, if◌then◌else◌};
 ghost use Rattle.std.specs.Int.{int_pow};
@@ -58,7 +58,7 @@ pub(crate) fn quotient(x: i64, y: i64) -> Result<i64, Fault>
     }
 }
 
-/// `b` less `a` times their quotient rounded down.
+/// `b` minus `a` times the quotient of `b` by `a`, rounded down.
 #[inline(always)]
 pub(crate) fn residue(a: i64, b: i64) -> i64
     ensures { result ≡ residue a b }
@@ -88,7 +88,7 @@ pub(crate) fn power(x: i64, y: i64) -> Result<i64, Fault>
     large_power(x, size)
 }
 
-/// 1 where `n` is even, else -1.
+/// 1 if `n` is even, else -1.
 fn power_of_minus_one(n: u64) -> i64
     ensures { result ≡ (if n % 2 == 0 then pos 1 else negsuc 0) }
 {

@@ -418,7 +418,7 @@ impl Function for Nor {
     }
 }
 
-/// `<`: 1 where the left number is less, else 0.
+/// `<`: 1 if the left number is less, else 0.
 #[derive(Clone, Copy)]
 pub struct Less;
 
@@ -444,7 +444,7 @@ impl Function for Less {
     }
 }
 
-/// `≤`: 1 where the left number is less or equal, else 0.
+/// `≤`: 1 if the left number is less or equal, else 0.
 #[derive(Clone, Copy)]
 pub struct LessOrEqual;
 
@@ -470,7 +470,7 @@ impl Function for LessOrEqual {
     }
 }
 
-/// `=`: 1 where the numbers are equal, else 0.
+/// `=`: 1 if the numbers are equal, else 0.
 #[derive(Clone, Copy)]
 pub struct Equal;
 
@@ -496,7 +496,7 @@ impl Function for Equal {
     }
 }
 
-/// `≥`: 1 where the left number is greater or equal, else 0.
+/// `≥`: 1 if the left number is greater or equal, else 0.
 #[derive(Clone, Copy)]
 pub struct GreaterOrEqual;
 
@@ -522,7 +522,7 @@ impl Function for GreaterOrEqual {
     }
 }
 
-/// `>`: 1 where the left number is greater, else 0.
+/// `>`: 1 if the left number is greater, else 0.
 #[derive(Clone, Copy)]
 pub struct Greater;
 
@@ -548,7 +548,7 @@ impl Function for Greater {
     }
 }
 
-/// `≠`: 1 where the numbers differ, else 0.
+/// `≠`: 1 if the numbers differ, else 0.
 #[derive(Clone, Copy)]
 pub struct NotEqual;
 

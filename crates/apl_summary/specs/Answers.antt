@@ -52,6 +52,6 @@ abbrev pub answer_to : ScalarFunction → Answers → Result Bool Fault → Resu
 answer_to f a (Ok b) = whole_answer f a (bit b)
 answer_to f a (Err fault) = Err fault
 
--- those of the left and the right items together
+-- the answers of the left and the right items together
 abbrev pub answers_of_both : ScalarFunction → Answers → Answers → Answers
 answers_of_both f a b = answers (a.count + b.count) b.last (answer_to f a b.for_zero) (answer_to f a b.for_one)

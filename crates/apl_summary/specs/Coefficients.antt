@@ -20,7 +20,7 @@ held x = int_min (int_max x (negsuc 9223372036854775808)) (pos 92233720368547758
 abbrev pub coefficients : ℕ → ℤ → ℤ → ℤ → Coefficients
 coefficients count total least greatest = record { count = count; total = total; least = least; greatest = greatest }
 
--- those of one item
+-- the coefficients of one item
 abbrev pub coefficients_of_one : ℤ → Coefficients
 coefficients_of_one x = coefficients 1 x x x
 

@@ -26,11 +26,11 @@ HasSums xs = (before : List ℤ) (last : ℤ) (rest : List ℤ) → xs ≡ befor
 abbrev pub consecutive_sums : ℕ → ℤ → (beginnings ends all : Bounds) → ConsecutiveSums
 consecutive_sums count total beginnings ends all = record { count = count; total = total; beginnings = beginnings; ends = ends; all = all }
 
--- those of one item
+-- the sums of one item
 abbrev pub sums_of_one : ℤ → ConsecutiveSums
 sums_of_one x = consecutive_sums 1 x (bounds x x) (bounds x x) (bounds x x)
 
--- of the sums of an end of the left items and a beginning of the right ones
+-- the bounds of the sums of an end of the left items and a beginning of the right ones
 abbrev pub across : (ends beginnings : Bounds) → Bounds
 across ends beginnings = bounds (ends.least +ℤ beginnings.least) (ends.greatest +ℤ beginnings.greatest)
 
@@ -42,12 +42,12 @@ sums_of_both a b = consecutive_sums (a.count + b.count) (a.total +ℤ b.total)
     (of_both b.ends (raised a.ends b.total))
     (of_both (of_both a.all b.all) (across a.ends b.beginnings))
 
--- those of a first item and others
+-- the sums of a first item and others
 abbrev pub sums_of : ℤ → List ℤ → ConsecutiveSums
 sums_of x [] = sums_of_one x
 sums_of x (y ∷ rest) = sums_of_both (sums_of_one x) (sums_of y rest)
 
--- those of a list, which isn't empty
+-- the sums of a list, which isn't empty
 abbrev pub AreSumsOf : ConsecutiveSums → List ℤ → Type 0
 AreSumsOf s [] = ⊥
 AreSumsOf s (x ∷ rest) = s ≡ sums_of x rest

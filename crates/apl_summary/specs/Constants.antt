@@ -20,15 +20,15 @@ signed_function is_plus = if is_plus then Plus else Minus
 abbrev pub bounds : ℤ → ℤ → Bounds
 bounds least greatest = record { least = least; greatest = greatest }
 
--- those of the constants and `by`
+-- the bounds of the constants plus `by`
 abbrev pub raised : Bounds → ℤ → Bounds
 raised b by = bounds (b.least +ℤ by) (b.greatest +ℤ by)
 
--- those of the constants less `by`
+-- the bounds of the constants minus `by`
 abbrev pub lowered : Bounds → ℤ → Bounds
 lowered b by = bounds (b.least -ℤ by) (b.greatest -ℤ by)
 
--- those of the constants of both
+-- the bounds of the constants of both
 abbrev pub of_both : Bounds → Bounds → Bounds
 of_both a b = bounds (int_min a.least b.least) (int_max a.greatest b.greatest)
 

@@ -14,15 +14,15 @@ extreme_function is_least = if is_least then Floor else Ceiling
 abbrev pub extreme_of_two : Bool → ℤ → ℤ → ℤ
 extreme_of_two is_least x y = if is_least then int_min x y else int_max x y
 
--- that of some items, which is this one
+-- the extremum of some items, which is this one
 abbrev pub extremum : ℕ → ℤ → Extremum
 extremum count item = record { count = count; item = item }
 
--- that of one item
+-- the extremum of one item
 abbrev pub extremum_of_one : ℤ → Extremum
 extremum_of_one x = extremum 1 x
 
--- that of the left and the right items together
+-- the extremum of the left and the right items together
 abbrev pub extremum_of_both : Bool → Extremum → Extremum → Extremum
 extremum_of_both is_least a b = extremum (a.count + b.count) (extreme_of_two is_least a.item b.item)
 

@@ -60,7 +60,7 @@ impl Bounds {
         are_in_range(self.least, self.greatest)
     }
 
-    /// The bounds of the constants and `by`.
+    /// The bounds of the constants plus `by`.
     pub fn raised(&self, by: i128) -> Bounds
         requires { IsWithin94Bits self.now.least × IsWithin94Bits self.now.greatest × IsWithin94Bits by }
         ensures { result ≡ raised self.now by }
@@ -71,7 +71,7 @@ impl Bounds {
         }
     }
 
-    /// The bounds of the constants less `by`.
+    /// The bounds of the constants minus `by`.
     fn lowered(&self, by: i128) -> Bounds
         requires { IsWithin94Bits self.now.least × IsWithin94Bits self.now.greatest × IsWithin94Bits by }
         ensures { result ≡ lowered self.now by }

@@ -61,7 +61,7 @@ IsSpelled word argument Clear = (word ≡ codes "CLEAR") × (argument ≡ [])
 IsSpelled word argument Off = (word ≡ codes "OFF") × (argument ≡ [])
 IsSpelled word argument Incorrect = ⊥
 
--- the command that the word and the argument are of, and an incorrect one where there is none
+-- the command that the word and the argument are of, and an incorrect one if there is none
 abbrev pub IsCommandOf : List ℕ → List ℕ → Command → Type 0
 IsCommandOf word argument Incorrect = (command : Command) → IsSpelled word argument command → ⊥
 IsCommandOf word argument command = IsSpelled word argument command

@@ -37,7 +37,7 @@ pub fn read(alloc: Global, line: &[u8]) -> Result<Line, ReadStop>
     }
 }
 
-/// The statement of the tokens, or a blank line where there are none.
+/// The statement of the tokens, or a blank line if there are none.
 fn parsed(alloc: Global, tokens: Vec<Token>) -> Result<Line, ReadStop>
     ensures line { IfOk result (IsParsedLine tokens.items) }
     ensures stop { IfErr result (IsParseStop tokens.items) }

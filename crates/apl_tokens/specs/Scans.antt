@@ -33,7 +33,7 @@ EndsOrUnlisted rest = (rest ≡ []) ⊎ ((c : ℕ) × (after : List ℕ) × (res
 abbrev pub HasNoNumeral : List ℕ → Type 0
 HasNoNumeral text = (numeral after : List ℕ) (z : ℤ) → text ≡ numeral ++ after → IsNumeral numeral z → ⊥
 
--- the number, where it is in range, and nothing where it is not
+-- the number if it is in range, and nothing if it is not
 abbrev pub IsCheckedNumber : ℤ → Option ℤ → Type 0
 IsCheckedNumber z None = IsInRange z → ⊥
 IsCheckedNumber z (Some v) = (v ≡ z) × IsInRange z

@@ -124,7 +124,7 @@ character_of _ = None
 abbrev pub symbol_lexemes : List Lexeme
 symbol_lexemes = map Function glyphs ++ (Dot ∷ Jot ∷ Arrow ∷ OpenParen ∷ CloseParen ∷ OpenBracket ∷ CloseBracket ∷ Semicolon ∷ [])
 
--- the lexeme where the character is its own, else the other
+-- the lexeme if the character is its own, else the other
 abbrev pub lexeme_or : Option ℕ → Lexeme → Option Lexeme → ℕ → Option Lexeme
 lexeme_or (Some character) lexeme other c = if c == character then Some lexeme else other
 lexeme_or None lexeme other c = other

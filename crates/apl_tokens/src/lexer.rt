@@ -189,7 +189,7 @@ struct Row {
     values: Vec<i64>,
 }
 
-/// Adds one more number, or its place where it is the first out of range.
+/// Adds one more number, or its place if it is the first out of range.
 fn add_number(
     values: &mut Vec<i64>,
     beyond: Option<usize>,
