@@ -36,8 +36,8 @@ impl Board {
 
     /// A board of `pieces` pieces, and the seat that has all of its `seats` shares, 1 to 64.
     ///
-    /// It is the one call that takes memory, and an error says that this is out. It makes no atomic step and
-    /// never waits.
+    /// It is the one call that takes memory, and an error says that memory is out. It makes no atomic step
+    /// and never waits.
     pub fn new(alloc: Global, pieces: u32, seats: u8) -> Result<(Board, BoardSeat), AllocError>
         requires some { 0 < seats }
         requires most { seats ≤ MOST_SHARES }

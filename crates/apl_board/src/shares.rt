@@ -38,7 +38,8 @@ impl Board {
         })
     }
 
-    /// Makes one seat of two: the shares add up, and it has what either was given, reported or saw.
+    /// Makes one seat of two: the shares add up, and it has what either was given, reported, saw or
+    /// was told.
     ///
     /// It makes one atomic step, takes no memory and never waits.
     pub fn join(&self, first: BoardSeat, second: BoardSeat) -> BoardSeat

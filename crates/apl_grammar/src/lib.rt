@@ -1,6 +1,6 @@
 //! Programs from tokens: the grammar, and the column of a grammar fault.
 //!
-//! Below it: `apl_tokens` for tokens, and `apl_array` for the names of scalar functions.
+//! Below it: `apl_tokens` for tokens, and `apl_array`, which says how many arguments a scalar function has.
 //! Begin with `specs/Tree.antt`, which is the grammar, and then `reader.rt`.
 #![tactic(auto)]
 

@@ -34,7 +34,7 @@ pub(crate) struct Shares {
 }
 
 impl Shares {
-    /// The shares of `rows` rows of `places` places, of which the first piece of each ends at `end`.
+    /// The shares of `rows` rows of `places` places each, whose first pieces end at `end`.
     pub(crate) fn new<C: Cut>(
         alloc: Global,
         cut: &C,
