@@ -1,5 +1,7 @@
 pub mod Examples
 pub mod OneLine
+pub mod Spaced
 pub mod Numerals
-pub mod Texts
 pub mod Readings
+pub mod Numbers
+pub mod Texts

@@ -1,15 +1,16 @@
 -- Lines that are printed, and lines that read as a constant.
-use Rattle.std.specs.Prelude.{◌==◌, ℕ, ℤ, Bool, not, List, map, encode_utf8_all}
+use Rattle.std.specs.Prelude.{◌==◌, ℕ, ℤ, Bool, not, List, map, encode_utf8_all, if◌then◌else◌}
 use Rattle.apl_array.specs.declared.array.Kind.TheVariants.{Number}
 use Rattle.apl_array.specs.Array.{ArrayValue, number_array, character_array}
-use Rattle.apl_print.specs.Text.{line_feed, ended}
+use Rattle.apl_print.specs.Text.{blank, line_feed, ended}
 use Rattle.apl_print.specs.Row.{joined}
 use Rattle.apl_print.specs.Shown.{numeral_of, gap_of, IsShown}
 use Rattle.apl_tokens.specs.Symbols.{is_quote}
 use Rattle.apl_tokens.specs.Fronts.{AllPass}
 use Rattle.apl_tokens.specs.Lexis.{constant_shape}
 use Rattle.apl_grammar.specs.Tree.{value, constant}
-use Rattle.apl_syntax.specs.Reading.{statement, blank, IsReading}
+use Rattle.apl_syntax.specs.Reading.{statement, IsReading}
+use Rattle.apl_syntax.specs.Reading as reading
 
 -- the array of these numbers: a scalar of one, a vector of another number of them
 abbrev pub number_value : List ℤ → ArrayValue
@@ -36,10 +37,22 @@ pub record IsPrintedLine (a : ArrayValue) (width : ℕ) (line : List ℕ) : Type
   pub shown : IsShown a width (ended line)
   pub one : AllPass is_no_line_feed line
 
--- the line reads as the statement whose tree is the constant of this value alone
+-- a blank for a line feed, and any other character as it is
+abbrev pub blank_for_line_feed : ℕ → ℕ
+blank_for_line_feed c = if c == line_feed then blank else c
+
+-- the lines of a text as one line: a blank is in the place of each line feed
+abbrev pub on_one_line : List ℕ → List ℕ
+on_one_line text = map blank_for_line_feed text
+
+-- the line reads as the statement whose tree is the constant of this value alone, at this column
+abbrev pub ReadsAt : ℕ → List ℕ → ArrayValue → Type 0
+ReadsAt column line a = IsReading (encode_utf8_all line) (statement (value (constant column a)))
+
+-- the same at column 0
 abbrev pub ReadsAs : List ℕ → ArrayValue → Type 0
-ReadsAs line a = IsReading (encode_utf8_all line) (statement (value (constant 0 a)))
+ReadsAs line a = ReadsAt 0 line a
 
 -- the line has no token
 abbrev pub ReadsAsBlank : List ℕ → Type 0
-ReadsAsBlank line = IsReading (encode_utf8_all line) blank
+ReadsAsBlank line = IsReading (encode_utf8_all line) reading.blank

@@ -3,17 +3,17 @@ ghost use Rattle.std.specs.Prelude.{◌≡◌, ℕ, ◌<◌, ◌≤◌, ℤ, Lis
 ghost use Rattle.apl_array.specs.Array.{number_array, character_array};
 ghost use Rattle.apl_array.specs.Limits.{IsWithinLimits};
 ghost use Rattle.apl_array.specs.Range.{IsInRange, HasNumbersInRange};
+ghost use Rattle.apl_print.specs.Shown.{IsShown};
 ghost use Rattle.apl_tokens.specs.Symbols.{is_listed, quote};
 ghost use Rattle.apl_tokens.specs.Fronts.{AllPass};
 ghost use Rattle.apl_tokens.specs.Lexis.{quoted};
-ghost use Rattle.apl_echo.specs.Lines.{number_value, text_value, number_line, is_no_quote, IsPrintedLine, ReadsAs, ReadsAsBlank};
+ghost use Rattle.apl_echo.specs.Lines.{number_value, text_value, number_line, is_no_quote, IsPrintedLine, on_one_line, ReadsAt, ReadsAs, ReadsAsBlank};
 
 /// Let the text of a number, or of a vector of two numbers or more, be one line. It reads as the constant
 /// of that value. The line of a vector of one number reads as that number, a scalar. That of a
 /// vector without numbers is blank.
 ///
-/// The text is one line if the numerals, with a blank between them, fit the width. The law is not about
-/// continuation lines and matrices.
+/// The text is one line if the numerals, with a blank between them, fit the width.
 pub fn printed_numbers_read_back()
     ensures value { (numbers : List ℤ) (width : ℕ) (line : List ℕ) → 0 < length numbers
         → IsWithinLimits (number_value numbers) → IsPrintedLine (number_value numbers) width line
@@ -25,6 +25,19 @@ pub fn printed_numbers_read_back()
     ensures fits { (numbers : List ℤ) (width : ℕ) → 0 < length numbers
         → HasNumbersInRange (number_value numbers) → length (number_line numbers) ≤ width
         → IsPrintedLine (number_value numbers) width (number_line numbers) }
+{}
+
+/// The text of an array of numbers, with a blank in the place of each line feed, reads as the constant of the
+/// ravel. That is a vector, or a scalar if there is one number. If there is none, the line is blank.
+///
+/// The array has any rank, and rows may have continuation lines. Only blanks come before the constant, as in a
+/// table whose first number is narrower than its column.
+pub fn printed_lines_read_back()
+    ensures value { (shape : List ℕ) (numbers : List ℤ) (width : ℕ) (text : List ℕ) → 0 < length numbers
+        → IsWithinLimits (number_array shape numbers) → IsShown (number_array shape numbers) width text
+        → (column : ℕ) × ReadsAt column (on_one_line text) (number_value numbers) }
+    ensures no_number { (shape : List ℕ) (width : ℕ) (text : List ℕ) → IsShown (number_array shape []) width text
+        → ReadsAsBlank (on_one_line text) }
 {}
 
 /// Let the text of a character, or of a vector of any other number of them, be one line. That line between

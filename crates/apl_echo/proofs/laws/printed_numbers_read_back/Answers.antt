@@ -1,4 +1,4 @@
-use Rattle.apl_echo.proofs.Readings.{number_value_read, number_vector_read, no_number_read, numbers_fit}
+use Rattle.apl_echo.proofs.Numbers.{number_value_read, number_vector_read, no_number_read, numbers_fit}
 use Rattle.apl_echo.proofs.laws.printed_numbers_read_back.Goals as goal
 
 pub returns : goal.returns

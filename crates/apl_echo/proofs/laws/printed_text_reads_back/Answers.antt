@@ -1,5 +1,4 @@
-use Rattle.apl_echo.proofs.Readings.{text_value_read, text_vector_read, texts_fit}
-use Rattle.apl_echo.proofs.Texts.{quoted_without}
+use Rattle.apl_echo.proofs.Texts.{text_value_read, text_vector_read, texts_fit, quoted_without}
 use Rattle.apl_echo.proofs.laws.printed_text_reads_back.Goals as goal
 
 pub returns : goal.returns
