@@ -39,7 +39,3 @@ repeated_step times stride i = Some (i / times * stride)
 -- a list begins with these values
 pub record BeginsWith {T : Type 0} (value : ℕ → T) (count : ℕ) (values : List T) : Type 0 where
   pub each : (k : ℕ) (d : T) → k < count → value k ≡ slice_index_or values k d
-
--- each line of a room begins with these values
-pub record HasColumns {T : Type 0} (value : ℕ → ℕ → T) (extent lines count : ℕ) (room : List T) : Type 0 where
-  pub each : (i j : ℕ) (d : T) → i < lines → j < count → slice_index_or room (i * extent + j) d ≡ value i j

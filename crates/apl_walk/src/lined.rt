@@ -2,7 +2,8 @@
 ghost use Rattle.std.specs.Prelude.{◌≡◌, ℕ, ◌+◌, ◌-◌, ◌*◌, ◌/◌, ◌%◌, ◌<◌, ◌≤◌, Ok, length};
 ghost use Rattle.apl_pool.specs.declared.kernel.TheConstants.{MOST_PLACES};
 ghost use Rattle.apl_pool.specs.Runs.{AreWritten};
-ghost use Rattle.apl_walk.specs.Steps.{BeginsWith, HasColumns};
+ghost use Rattle.apl_walk.specs.Steps.{BeginsWith};
+ghost use Rattle.apl_walk.specs.Columns.{HasColumns};
 
 use apl_divisor::Divisor;
 use apl_pool::{Fault, Kernel};

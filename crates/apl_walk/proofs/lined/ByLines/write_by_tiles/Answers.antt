@@ -1,5 +1,4 @@
-use Rattle.std.proofs.Common.{rules, ◌≡◌, ◌+◌, ◌-◌, ◌*◌, ◌/◌, ◌<◌, ◌≤◌, length, arith, ◌∙◌, ap, sym}
-use Rattle.std.proofs.lemmas.List.{places}
+use Rattle.std.proofs.Common.{◌≡◌, ◌+◌, ◌-◌, ◌*◌, ◌/◌, ◌<◌, ◌≤◌, arith, ◌∙◌, ap, sym}
 use Rattle.apl_walk.proofs.Lines.{parts_written, lines_written, rest_length, put_length, lines_after, lines_before}
 use Rattle.apl_walk.proofs.lined.ByLines.write_by_tiles.Goals as goal
 

@@ -1,5 +1,5 @@
-use Rattle.std.proofs.Common.{◌≡◌, ◌+◌, ◌-◌, ◌*◌, ◌<◌, ◌≤◌, length}
-use Rattle.apl_walk.specs.Steps.{HasColumns}
+use Rattle.std.proofs.Common.{◌≡◌, ◌+◌, ◌-◌, ◌≤◌, length}
+use Rattle.apl_walk.specs.Columns.{HasColumns}
 use Rattle.apl_walk.proofs.lined.ByLines.write_tiles.Given as goal
 
 abbrev pub invariant-loop-from : goal.invariant-loop-from
