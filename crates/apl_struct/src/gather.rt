@@ -14,7 +14,7 @@ use crate::workers::Workers;
 use apl_answer::{Element, OpFault, array_of_elements, fill_array};
 use apl_array::{Array, Shape};
 use apl_pool::{Cut, Fault, Gate, Kernel};
-use apl_walk::Walk;
+use apl_walk::{Walk, element_or};
 use std::thread::Threads;
 
 /// Which place of the argument each place of the result takes, or none for the fill.
@@ -57,17 +57,6 @@ impl Source for Absent {
     #[inline(always)]
     fn at(&self, _place: usize) -> Option<usize> {
         None
-    }
-}
-
-/// The element at a place, and the fill beyond the end.
-#[inline(always)]
-pub(crate) fn element_or<T: Element>(elements: &[T], place: usize, fill: T) -> T
-    ensures { result ≡ slice_index_or elements.now place fill }
-{
-    match elements.get(place) {
-        Some(element) => *element,
-        None => fill,
     }
 }
 

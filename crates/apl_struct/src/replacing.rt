@@ -15,14 +15,13 @@ ghost use Rattle.apl_struct.specs.Selecting.{IsJudged, IsSelection};
 ghost use Rattle.apl_struct.specs.Numbering.{reached, IsReached, last_number, value_numbered, element_numbered, replacement_checks, value_step, IsReplacement};
 
 use crate::arguments::is_same_shape;
-use crate::gather::element_or;
 use crate::indexing::selected_shape;
 use crate::selecting::{are_arrays, selected_walk};
 use crate::workers::Workers;
 use apl_answer::{Element, OpFault, array_of_elements, fill_array};
 use apl_array::{Array, Origin, Shape, places_match_index_lists};
 use apl_pool::{Cut, Fault, Gate, Kernel, Pool};
-use apl_walk::{AxisMap, Map, start_at};
+use apl_walk::{AxisMap, Map, element_or, start_at};
 use std::alloc::Global;
 use std::thread::Threads;
 

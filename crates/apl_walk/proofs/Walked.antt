@@ -3,7 +3,7 @@ use Rattle.std.proofs.Common.{◌≡◌, ℕ, ◌+◌, ◌-◌, ◌*◌, ◌/◌
 use Rattle.std.specs.Prelude.{◌&&◌, nat_le, nat_lt, Option, Some, None}
 use Rattle.std.proofs.lemmas.Bool.{and_parts, leb-true, ltb-true, le-leb, lt-ltb}
 use Rattle.std.proofs.Math.Arith.{mod-mul}
-use Rattle.std.proofs.Math.Nat.{add_assoc, mod-lt, mod-one, mod-eq_of_lt, div-one, div-div-eq-div-mul, mul-le-mul_right, mul-lt-mul_of_pos_right, lt_of_mul-lt-mul_right}
+use Rattle.std.proofs.Math.Nat.{add_assoc, mod-lt, mod-one, div-one, div-div-eq-div-mul, mul-le-mul_right, mul-lt-mul_of_pos_right, lt_of_mul-lt-mul_right}
 use Rattle.apl_walk.specs.declared.window.Window.{Window}
 use Rattle.apl_walk.specs.declared.maps.Map.{Map}
 use Rattle.apl_walk.specs.declared.maps.Map.TheVariants.{Window as WindowMap, Reversed, Rotated, Listed, ListedOrNone, Repeated}
@@ -21,13 +21,11 @@ and_step-zero (Some m) = ap Some (omega arith)
 and_step-zero None = refl
 
 -- one axis has all indexes
-pub walked_one : (maps : List Map) (only : Map) (place : ℕ) (step : Option ℕ) → length maps ≡ 1 → only ≡ slice_index_or maps 0 only → place < extent_of maps
-    → step ≡ map_step only place → step ≡ walked maps place
-walked_one [] only place step one is inside value = absurd (omega arith)
-walked_one (m ∷ []) only place step one is inside value =
-    let all : place % map_extent m ≡ place = mod-eq_of_lt (omega (arith, inside)) in
-    value ∙ ap (λ n. map_step n place) is ∙ ap (map_step m) (sym all) ∙ sym (and_step-zero (map_step m (place % map_extent m)))
-walked_one (m ∷ n ∷ maps) only place step one is inside value = absurd (omega arith)
+pub walked_one : (maps : List Map) (only : Map) (place : ℕ) (step : Option ℕ) → length maps ≡ 1 → only ≡ slice_index_or maps 0 only
+    → step ≡ map_step only (place % map_extent only) → step ≡ walked maps place
+walked_one [] only place step one is value = absurd (omega arith)
+walked_one (m ∷ []) only place step one is value = value ∙ ap (λ n. map_step n (place % map_extent n)) is ∙ sym (and_step-zero (map_step m (place % map_extent m)))
+walked_one (m ∷ n ∷ maps) only place step one is value = absurd (omega arith)
 
 zero-and_step : (a : Option ℕ) → and_step (Some 0) a ≡ a
 zero-and_step (Some m) = ap Some (omega arith)

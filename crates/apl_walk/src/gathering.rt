@@ -9,9 +9,10 @@ ghost use Rattle.apl_walk.specs.Steps.{and_step};
 ghost use Rattle.apl_walk.specs.Maps.{extent_of, walked};
 ghost use Rattle.apl_walk.specs.Walks.{maps_of};
 
+use crate::gathered::Gathered;
+use crate::lined::ByLines;
 use crate::map::AxisMap;
 use crate::maps::{MOST_MAPS, Map};
-use crate::runs::Runs;
 use crate::walk::Walk;
 use crate::workers::Workers;
 use apl_answer::{Element, OpFault, fill_array};
@@ -19,6 +20,9 @@ use apl_array::{Array, Shape};
 use apl_pool::{Cut, Gate, Pool};
 use std::alloc::Global;
 use std::thread::Threads;
+
+/// So many cache lines of the argument stay near while several lines are written.
+const TILE: usize = 256;
 
 impl<R: Threads + Sync, C: Cut + Sync, G: Gate + Sync> Workers<'_, R, C, G> {
     fn gather_elements<T: Element + Send + Sync, M: AxisMap + Sync + Drop>(
@@ -38,7 +42,12 @@ impl<R: Threads + Sync, C: Cut + Sync, G: Gate + Sync> Workers<'_, R, C, G> {
             → IsAnswerOf (answer_of shape (λ index. Ok (element index)) b.now.kind) result }
     {
         let lines = shape.count() / last.extent();
-        let kernel = Runs::new(elements, outer, lines, last);
+        let tile = if last.is_spread() {
+            TILE
+        } else {
+            last.extent()
+        };
+        let kernel = ByLines::tiled(Gathered::new(elements, outer, lines, last), tile);
         fill_array(self.rt, self.alloc, self.pool, shape, &kernel)
     }
 

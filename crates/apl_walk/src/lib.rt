@@ -2,6 +2,7 @@
 #![tactic(auto)]
 
 mod fronts;
+mod gathered;
 mod gathering;
 mod joined;
 mod joints;
@@ -14,12 +15,12 @@ mod repeated;
 mod reversed;
 mod rotated;
 mod round;
-mod runs;
 mod stretches;
 mod walk;
 mod window;
 mod workers;
 
+pub use gathered::Gathered;
 pub use gathering::gather;
 pub use joined::{Joined, Part};
 pub use lined::{ByLines, Lined};
@@ -31,6 +32,6 @@ pub use repeated::Repeated;
 pub use reversed::Reversed;
 pub use rotated::Rotated;
 pub use round::Round;
-pub use runs::Runs;
+pub use stretches::element_or;
 pub use walk::Walk;
 pub use window::Window;

@@ -1,8 +1,8 @@
 //! An axis of any kind, and what several axes add.
-ghost use Rattle.std.specs.Prelude.{◌≡◌, ℕ, ◌+◌, ◌*◌, ◌<◌, ◌≤◌, IfSome, length};
+ghost use Rattle.std.specs.Prelude.{◌≡◌, ℕ, ◌+◌, ◌*◌, ◌/◌, ◌%◌, ◌<◌, ◌≤◌, IfSome, length};
 ghost use Rattle.apl_pool.specs.declared.kernel.TheConstants.{MOST_PLACES};
 ghost use Rattle.apl_walk.specs.declared.map.TheConstants.{MOST_STEP};
-ghost use Rattle.apl_walk.specs.Maps.{extent_of, walked};
+ghost use Rattle.apl_walk.specs.Maps.{walked};
 ghost use Rattle.apl_walk.specs.declared.maps.TheConstants.{MOST_MAPS};
 
 use crate::listed::Listed;
@@ -91,18 +91,34 @@ impl AxisMap for Map<'_> {
 /// The most axes of a walk.
 pub const MOST_MAPS: usize = 16;
 
+/// The index on an axis, and the place on the axes before it. Few places need a division.
+#[inline(always)]
+fn divided(place: u32, extent: u32) -> (u32, u32)
+    requires { 0 < extent }
+    ensures index { result.0 ≡ place % extent }
+    ensures rest { result.1 ≡ place / extent }
+{
+    if place < extent {
+        (place, 0)
+    } else {
+        (place % extent, place / extent)
+    }
+}
+
 /// What the index list at a place of some axes adds, the last axis first.
 #[inline(always)]
 pub fn start_at(maps: &[Map], place: usize) -> Option<usize>
     requires few { length maps.now ≤ MOST_MAPS }
-    requires within { place < extent_of maps.now }
     requires most { place ≤ MOST_PLACES }
     ensures value { result ≡ walked maps.now place }
     ensures most { IfSome result (λ start. start ≤ MOST_MAPS * MOST_STEP) }
 {
     match maps {
         [] => Some(0),
-        [only] => only.step(place),
+        [only] => {
+            let (index, _) = divided(place as u32, only.extent() as u32);
+            only.step(index as usize)
+        }
         maps => start_of_several(maps, place),
     }
 }
@@ -116,9 +132,9 @@ fn start_of_several(maps: &[Map], place: usize) -> Option<usize>
     let mut rest = place as u32;
     let mut total = 0;
     for map in maps {
-        let extent = map.extent() as u32;
-        total += map.step((rest % extent) as usize)?;
-        rest /= extent;
+        let (index, before) = divided(rest, map.extent() as u32);
+        total += map.step(index as usize)?;
+        rest = before;
     }
     Some(total)
 }

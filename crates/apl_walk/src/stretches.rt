@@ -8,9 +8,9 @@ use crate::fronts::{write_near, write_same};
 /// So few elements are written one by one: a loop over many takes longer to begin.
 const FEW: usize = 8;
 
-/// The element at a place.
+/// The element at a place, and past the last one always the same.
 #[inline(always)]
-pub(crate) fn element_or<T: Copy>(elements: &[T], place: usize, past: T) -> T
+pub fn element_or<T: Copy>(elements: &[T], place: usize, past: T) -> T
     ensures { result ≡ slice_index_or elements.now place past }
 {
     match elements.get(place) {

@@ -90,6 +90,10 @@ impl AxisMap for Window {
         }
     }
 
+    fn is_spread(&self) -> bool {
+        self.stride >= 8
+    }
+
     #[inline(always)]
     fn write<T: Copy>(
         &self,

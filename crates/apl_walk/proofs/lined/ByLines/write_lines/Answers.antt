@@ -2,7 +2,7 @@ use Rattle.std.proofs.Common.{◌≡◌, ◌+◌, ◌*◌, ◌/◌, ap, ◌∙�
 use Rattle.std.specs.Prelude.{Ok}
 use Rattle.std.proofs.lemmas.List.{places}
 use Rattle.apl_walk.proofs.Lines.{line_written, index_there, line_there}
-use Rattle.apl_walk.proofs.lined.ByLinesKernel.write_run.Goals as goal
+use Rattle.apl_walk.proofs.lined.ByLines.write_lines.Goals as goal
 
 pub loop-place-preserved : goal.loop-place-preserved
 loop-place-preserved g c =

@@ -1,7 +1,7 @@
 use Rattle.std.proofs.Common.{◌≡◌, ◌+◌, ◌-◌, ◌*◌, ◌<◌, ◌≤◌, length}
 use Rattle.std.specs.Prelude.{Ok, ◌/◌, ◌%◌}
 use Rattle.apl_pool.specs.Runs.{AreWritten}
-use Rattle.apl_walk.proofs.lined.ByLinesKernel.write_run.Given as goal
+use Rattle.apl_walk.proofs.lined.ByLines.write_lines.Given as goal
 
 abbrev pub invariant-loop-place : goal.invariant-loop-place
 invariant-loop-place g l = record {

@@ -1,0 +1,117 @@
+//! Lines whose elements are an argument's, at the places that a walk reaches.
+ghost use Rattle.std.specs.Prelude.{◌≡◌, ℕ, ◌+◌, ◌*◌, ◌<◌, ◌≤◌, length};
+ghost use Rattle.apl_pool.specs.declared.kernel.TheConstants.{MOST_PLACES};
+ghost use Rattle.apl_walk.specs.declared.map.TheConstants.{MOST_STEP};
+ghost use Rattle.apl_walk.specs.declared.maps.TheConstants.{MOST_MAPS};
+ghost use Rattle.apl_answer.specs.Arguments.{fill_of};
+ghost use Rattle.apl_walk.specs.Gathered.{value_or};
+ghost use Rattle.apl_walk.specs.Maps.{extent_of, walked};
+ghost use Rattle.apl_walk.specs.Steps.{and_step, BeginsWith};
+
+use crate::fronts::write_same;
+use crate::lined::Lined;
+use crate::map::AxisMap;
+use crate::maps::{Map, start_at};
+use crate::stretches::element_or;
+use apl_answer::Element;
+
+/// A walk over an argument, of whose last axis the map is known by its type.
+#[derive(Drop)]
+pub struct Gathered<'a, T, M: AxisMap> {
+    pub elements: &'a [T],
+    pub fill: T,
+    /// The other axes, the last one first.
+    pub outer: &'a [Map<'a>],
+    pub last: M,
+    pub count: usize,
+    ghost few: { length outer.now ≤ MOST_MAPS },
+    ghost extent_most: { M.extent last ≤ MOST_PLACES },
+    ghost all: { count ≡ extent_of outer.now * M.extent last },
+    ghost most: { count ≤ MOST_PLACES },
+}
+
+impl<'a, T: Element, M: AxisMap> Gathered<'a, T, M> {
+    /// The walk along these axes, of which the others have so many index lists.
+    pub fn new(elements: &'a [T], outer: &'a [Map<'a>], lines: usize, last: M) -> Gathered<'a, T, M>
+        requires few { length outer.now ≤ MOST_MAPS }
+        requires lines { lines ≡ extent_of outer.now }
+        requires most { lines * M.extent last ≤ MOST_PLACES }
+        ensures count { result.count ≡ extent_of outer.now * M.extent last }
+        ensures elements { result.elements.now ≡ elements.now }
+        ensures outer { result.outer.now ≡ outer.now }
+        ensures last { result.last ≡ last }
+        ensures fill { T.elem_of result.fill ≡ fill_of T.kind }
+    {
+        Gathered {
+            elements,
+            fill: T::fill(),
+            outer,
+            last,
+            count: lines * last.extent(),
+        }
+    }
+
+    #[inline(always)]
+    fn at_index(&self, start: usize, index: usize) -> T
+        requires start { start ≤ MOST_MAPS * MOST_STEP }
+        requires index { index < M.extent self.now.last }
+        ensures { result ≡ value_or self.now.elements.now self.now.fill (and_step (M.step self.now.last index) (Some start)) }
+    {
+        match self.last.step(index) {
+            Some(step) => element_or(self.elements, step + start, self.fill),
+            None => self.fill,
+        }
+    }
+
+    /// Writes a line's elements one by one: a place may be past the last element.
+    fn write_each(&self, start: usize, from: usize, count: usize, room: &mut [T])
+        requires start { start ≤ MOST_MAPS * MOST_STEP }
+        requires within { from + count ≤ M.extent self.now.last }
+        requires room { count ≤ length room.old }
+        ensures values { BeginsWith (λ k. value_or self.now.elements.now self.now.fill (and_step (M.step self.now.last (from + k)) (Some start))) count room.new }
+        ensures len { length room.new ≡ length room.old }
+    {
+        for k in 0..count {
+            room[k] = self.at_index(start, from + k);
+        }
+    }
+}
+
+impl<T: Element, M: AxisMap> Lined for Gathered<'_, T, M> {
+    type Out = T;
+
+    ghost place_count = { λ g. g.count };
+
+    ghost extent = { λ g. M.extent g.last };
+
+    ghost value = { λ g line index. value_or g.elements.now g.fill (and_step (M.step g.last index) (walked g.outer.now line)) };
+
+    fn count(&self) -> usize {
+        self.count
+    }
+
+    fn extent(&self) -> usize {
+        self.last.extent()
+    }
+
+    #[inline(always)]
+    fn at(&self, line: usize, index: usize) -> T {
+        match start_at(self.outer, line) {
+            Some(start) => self.at_index(start, index),
+            None => self.fill,
+        }
+    }
+
+    #[inline(always)]
+    fn write(&self, line: usize, from: usize, count: usize, room: &mut [T]) {
+        let Some(start) = start_at(self.outer, line) else {
+            return write_same(self.fill, count, room);
+        };
+        if start + self.last.reach() < self.elements.len() {
+            self.last
+                .write(self.elements, start, from, count, self.fill, room);
+        } else {
+            self.write_each(start, from, count, room);
+        }
+    }
+}
