@@ -5,3 +5,6 @@ pub mod Endings
 pub mod LawfulLemmas
 pub mod LimitLemmas
 pub mod GlyphLemmas
+pub mod FunctionMeanings
+pub mod TreeMeanings
+mod Examples

@@ -5,3 +5,4 @@ pub mod SourceLemmas
 pub mod LawLemmas
 pub mod Steps
 pub mod SomeSteps
+mod Examples

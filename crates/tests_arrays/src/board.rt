@@ -75,20 +75,30 @@ fn board_empty(rt: HostRuntime) -> Result<(), Fail> {
     Ok(())
 }
 
-/// Every share that can be cut off a seat with all 64, and those that can't, which leave it as it was.
+/// The shares of both seats of a split, or of the seat that came back and of none.
+fn split_shares(board: &Board, seat: BoardSeat, share: u8) -> ([u8; 2], BoardSeat)
+    requires { IsSeatOf board.now seat }
+    ensures { IsSeatOf board.now result.1 }
+{
+    match board.split(seat, share) {
+        Ok((first, second)) => ([first.share(), second.share()], first),
+        Err(SplitStop::NoShare(seat)) => ([seat.share(), 0], seat),
+    }
+}
+
+/// Every share that can be cut off a seat with all 64, and those that can't, which leave it as it was: one can be cut off it then.
 #[test]
 fn board_split(rt: HostRuntime) -> Result<(), Fail> {
     for share in 0u8..=65 {
         let (board, seat) = Board::new(rt.alloc(), 3, 64)?;
-        let shares = match board.split(seat, share) {
-            Ok((first, second)) => [first.share(), second.share()],
-            Err(SplitStop::NoShare(seat)) => [seat.share(), 0],
-        };
+        let (shares, seat) = split_shares(&board, seat, share);
+        let (then, _) = split_shares(&board, seat, 1);
         let wanted = match share {
-            1..=63 => [64 - share, share],
-            _ => [64, 0],
+            63 => ([1, 63], [1, 0]),
+            1..=62 => ([64 - share, share], [63 - share, 1]),
+            _ => ([64, 0], [63, 1]),
         };
-        assert!(rt; shares == wanted, "{share}");
+        assert!(rt; (shares, then) == wanted, "{share}");
     }
     Ok(())
 }

@@ -1,0 +1,16 @@
+pub mod Given
+pub mod Vectors
+pub mod Lists
+pub mod TakenApart
+pub mod Shapes
+pub mod Chosen
+pub mod Ones
+pub mod Expanded
+pub mod Graded
+pub mod Named
+pub mod TransposedBy
+pub mod AlongAxes
+pub mod Reversed
+pub mod Rotated
+pub mod Ravelled
+pub mod Transposed

@@ -1,0 +1,17 @@
+//! The laws of APL that tie the structural functions together.
+#![tactic(auto)]
+
+mod choosing;
+mod moving;
+mod ordering;
+mod parts;
+mod shaping;
+
+pub use choosing::{all_indexes_choose_whole, compress_undoes_expand};
+pub use moving::{
+    reverse_undoes_itself, rotate_undoes_opposite, transpose_names_axes_in_reverse,
+    transpose_undoes_itself,
+};
+pub use ordering::{grade_orders, grade_permutes_indexes};
+pub use parts::{joined_can_be_taken_apart, taken_and_left_make_whole};
+pub use shaping::reshape_undoes_ravel;
