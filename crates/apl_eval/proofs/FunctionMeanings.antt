@@ -22,9 +22,9 @@ use Rattle.apl_struct.specs.Joining.{catenate_row}
 use Rattle.apl_struct.specs.Taking.{take_row, drop_row}
 use Rattle.apl_struct.specs.Moving.{reverse_row, rotate_row, transpose_row, transpose_by_row}
 use Rattle.apl_struct.specs.Compressing.{replicate_row, expand_row}
-use Rattle.apl_struct.specs.Searching.{index_of_row, member_row}
+use Rattle.apl_search.specs.Searching.{index_of_row, member_row}
 use Rattle.apl_struct.specs.Indexing.{select_row, replace_row}
-use Rattle.apl_struct.specs.Ordering.{grade_up_row, grade_down_row}
+use Rattle.apl_search.specs.Ordering.{grade_up_row, grade_down_row}
 use Rattle.apl_reduce.specs.Reducing.{reduce_row}
 use Rattle.apl_reduce.specs.Products.{outer_row, inner_row}
 use Rattle.apl_reduce.specs.Decoding.{decode_row}

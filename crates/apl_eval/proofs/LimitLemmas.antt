@@ -16,15 +16,15 @@ use Rattle.apl_answer.specs.declared.fault.OpFault.{OpFault}
 use Rattle.apl_answer.specs.Rows as rows
 use Rattle.apl_scalar.specs.Monadic.{monadic_answer}
 use Rattle.apl_scalar.specs.Dyadic.{dyadic_answer}
+use Rattle.apl_search.specs.Searching.{index_of_row, member_row}
+use Rattle.apl_search.specs.Ordering.{grade_up_row, grade_down_row}
 use Rattle.apl_struct.specs.Axes.{axis_number_of}
 use Rattle.apl_struct.specs.Building.{shape_of_row, reshape_row, ravel_row, iota_row}
 use Rattle.apl_struct.specs.Joining.{catenate_row}
 use Rattle.apl_struct.specs.Taking.{take_row, drop_row}
 use Rattle.apl_struct.specs.Moving.{reverse_row, rotate_row, transpose_row, transpose_by_row}
 use Rattle.apl_struct.specs.Compressing.{replicate_row, expand_row}
-use Rattle.apl_struct.specs.Searching.{index_of_row, member_row}
 use Rattle.apl_struct.specs.Indexing.{Slots, select_row, replace_row}
-use Rattle.apl_struct.specs.Ordering.{grade_up_row, grade_down_row}
 use Rattle.apl_reduce.specs.Reducing.{reduce_row}
 use Rattle.apl_reduce.specs.Products.{outer_row, inner_row}
 use Rattle.apl_reduce.specs.Decoding.{decode_row}
@@ -47,8 +47,6 @@ pub record StructuralAnswersWithinLimits : Type 0 where
   pub iota : (b answer : ArrayValue) (origin : Origin) → IsWithinLimits b → rows.result_of (iota_row b origin) ≡ Ok answer → IsWithinLimits answer
   pub reverse : (b answer : ArrayValue) (axis : Axis) → IsWithinLimits b → rows.result_of (reverse_row b axis) ≡ Ok answer → IsWithinLimits answer
   pub transpose : (b answer : ArrayValue) → IsWithinLimits b → rows.result_of (transpose_row b) ≡ Ok answer → IsWithinLimits answer
-  pub grade_up : (b answer : ArrayValue) (origin : Origin) → IsWithinLimits b → rows.result_of (grade_up_row b origin) ≡ Ok answer → IsWithinLimits answer
-  pub grade_down : (b answer : ArrayValue) (origin : Origin) → IsWithinLimits b → rows.result_of (grade_down_row b origin) ≡ Ok answer → IsWithinLimits answer
   pub reshape : (a b answer : ArrayValue) → IsWithinLimits a → IsWithinLimits b → rows.result_of (reshape_row a b) ≡ Ok answer → IsWithinLimits answer
   pub catenate : (a b answer : ArrayValue) (axis : Axis) → IsWithinLimits a → IsWithinLimits b → rows.result_of (catenate_row a b axis) ≡ Ok answer → IsWithinLimits answer
   pub take : (a b answer : ArrayValue) → IsWithinLimits a → IsWithinLimits b → rows.result_of (take_row a b) ≡ Ok answer → IsWithinLimits answer
@@ -57,11 +55,16 @@ pub record StructuralAnswersWithinLimits : Type 0 where
   pub transpose_by : (a b answer : ArrayValue) (origin : Origin) → IsWithinLimits a → IsWithinLimits b → rows.result_of (transpose_by_row a b origin) ≡ Ok answer → IsWithinLimits answer
   pub replicate : (a b answer : ArrayValue) (axis : Axis) → IsWithinLimits a → IsWithinLimits b → rows.result_of (replicate_row a b axis) ≡ Ok answer → IsWithinLimits answer
   pub expand : (a b answer : ArrayValue) (axis : Axis) → IsWithinLimits a → IsWithinLimits b → rows.result_of (expand_row a b axis) ≡ Ok answer → IsWithinLimits answer
-  pub index_of : (a b answer : ArrayValue) (origin : Origin) → IsWithinLimits a → IsWithinLimits b → rows.result_of (index_of_row a b origin) ≡ Ok answer → IsWithinLimits answer
-  pub member : (a b answer : ArrayValue) → IsWithinLimits a → IsWithinLimits b → rows.result_of (member_row a b) ≡ Ok answer → IsWithinLimits answer
   pub select : (a answer : ArrayValue) (slots : Slots) (origin : Origin) → IsWithinLimits a → rows.result_of (select_row a slots origin) ≡ Ok answer → IsWithinLimits answer
   pub replace : (a b answer : ArrayValue) (slots : Slots) (origin : Origin) → IsWithinLimits a → IsWithinLimits b → rows.result_of (replace_row a slots b origin) ≡ Ok answer
       → IsWithinLimits answer
+
+-- the answers of searches and grades
+pub record SearchAnswersWithinLimits : Type 0 where
+  pub index_of : (a b answer : ArrayValue) (origin : Origin) → IsWithinLimits a → IsWithinLimits b → rows.result_of (index_of_row a b origin) ≡ Ok answer → IsWithinLimits answer
+  pub member : (a b answer : ArrayValue) → IsWithinLimits a → IsWithinLimits b → rows.result_of (member_row a b) ≡ Ok answer → IsWithinLimits answer
+  pub grade_up : (b answer : ArrayValue) (origin : Origin) → IsWithinLimits b → rows.result_of (grade_up_row b origin) ≡ Ok answer → IsWithinLimits answer
+  pub grade_down : (b answer : ArrayValue) (origin : Origin) → IsWithinLimits b → rows.result_of (grade_down_row b origin) ≡ Ok answer → IsWithinLimits answer
 
 -- the answers of reductions, products, decode and encode
 pub record ReducedAnswersWithinLimits : Type 0 where
@@ -88,7 +91,7 @@ along_within : (origin : Origin) (number : Result ℤ OpFault) (result : Axis �
 along_within origin (Ok number) result h = h (At number origin)
 along_within origin (Err fault) result h = tt
 
-module _ (scalar : ScalarAnswersWithinLimits) (structural : StructuralAnswersWithinLimits) (reduced : ReducedAnswersWithinLimits) (scanned : ScannedAnswersWithinLimits) where
+module _ (scalar : ScalarAnswersWithinLimits) (structural : StructuralAnswersWithinLimits) (found : SearchAnswersWithinLimits) (reduced : ReducedAnswersWithinLimits) (scanned : ScannedAnswersWithinLimits) where
   monadic_scalar_within : (f : ScalarFunction) (b : ArrayValue) → IsWithinLimits b → IfOk (monadic_scalar f b) IsWithinLimits
   monadic_scalar_within f b h =
       either_result (has_monadic f) (result_of (monadic_answer f b)) (Err Syntax) (within (monadic_answer f b) (λ answer. scalar.monadic f b answer h)) tt
@@ -108,8 +111,8 @@ module _ (scalar : ScalarAnswersWithinLimits) (structural : StructuralAnswersWit
   monadic_plain_within origin Comma b h = within (rows.result_of (ravel_row b)) (λ answer. structural.ravel b answer h)
   monadic_plain_within origin Iota b h = within (rows.result_of (iota_row b origin)) (λ answer. structural.iota b answer origin h)
   monadic_plain_within origin Transpose b h = within (rows.result_of (transpose_row b)) (λ answer. structural.transpose b answer h)
-  monadic_plain_within origin GradeUp b h = within (rows.result_of (grade_up_row b origin)) (λ answer. structural.grade_up b answer origin h)
-  monadic_plain_within origin GradeDown b h = within (rows.result_of (grade_down_row b origin)) (λ answer. structural.grade_down b answer origin h)
+  monadic_plain_within origin GradeUp b h = within (rows.result_of (grade_up_row b origin)) (λ answer. found.grade_up b answer origin h)
+  monadic_plain_within origin GradeDown b h = within (rows.result_of (grade_down_row b origin)) (λ answer. found.grade_down b answer origin h)
   monadic_plain_within origin glyph b h = monadic_along_within glyph (default_axis glyph) b h
 
   dyadic_along_within : (glyph : Glyph) (axis : Axis) (a b : ArrayValue) → IsWithinLimits a → IsWithinLimits b → IfOk (dyadic_along glyph axis a b) IsWithinLimits
@@ -125,8 +128,8 @@ module _ (scalar : ScalarAnswersWithinLimits) (structural : StructuralAnswersWit
   dyadic_plain_within : (origin : Origin) (glyph : Glyph) (a b : ArrayValue) → IsWithinLimits a → IsWithinLimits b → IfOk (dyadic_plain origin glyph a b) IsWithinLimits
   dyadic_plain_within origin (Scalar f) a b h k = dyadic_scalar_within f a b h k
   dyadic_plain_within origin Rho a b h k = within (rows.result_of (reshape_row a b)) (λ answer. structural.reshape a b answer h k)
-  dyadic_plain_within origin Iota a b h k = within (rows.result_of (index_of_row a b origin)) (λ answer. structural.index_of a b answer origin h k)
-  dyadic_plain_within origin Epsilon a b h k = within (rows.result_of (member_row a b)) (λ answer. structural.member a b answer h k)
+  dyadic_plain_within origin Iota a b h k = within (rows.result_of (index_of_row a b origin)) (λ answer. found.index_of a b answer origin h k)
+  dyadic_plain_within origin Epsilon a b h k = within (rows.result_of (member_row a b)) (λ answer. found.member a b answer h k)
   dyadic_plain_within origin UpArrow a b h k = within (rows.result_of (take_row a b)) (λ answer. structural.take a b answer h k)
   dyadic_plain_within origin DownArrow a b h k = within (rows.result_of (drop_row a b)) (λ answer. structural.drop a b answer h k)
   dyadic_plain_within origin Transpose a b h k = within (rows.result_of (transpose_by_row a b origin)) (λ answer. structural.transpose_by a b answer origin h k)

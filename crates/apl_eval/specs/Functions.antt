@@ -15,15 +15,15 @@ use Rattle.apl_answer.specs.declared.fault.OpFault.TheVariants as fault
 use Rattle.apl_answer.specs.Rows as rows
 use Rattle.apl_scalar.specs.Monadic.{monadic_answer}
 use Rattle.apl_scalar.specs.Dyadic.{dyadic_answer}
+use Rattle.apl_search.specs.Searching.{index_of_row, member_row}
+use Rattle.apl_search.specs.Ordering.{grade_up_row, grade_down_row}
 use Rattle.apl_struct.specs.Axes.{axis_number_of}
 use Rattle.apl_struct.specs.Building.{shape_of_row, reshape_row, ravel_row, iota_row}
 use Rattle.apl_struct.specs.Joining.{catenate_row}
 use Rattle.apl_struct.specs.Taking.{take_row, drop_row}
 use Rattle.apl_struct.specs.Moving.{reverse_row, rotate_row, transpose_row, transpose_by_row}
 use Rattle.apl_struct.specs.Compressing.{replicate_row, expand_row}
-use Rattle.apl_struct.specs.Searching.{index_of_row, member_row}
 use Rattle.apl_struct.specs.Indexing.{select_row, replace_row}
-use Rattle.apl_struct.specs.Ordering.{grade_up_row, grade_down_row}
 use Rattle.apl_reduce.specs.Reducing.{reduce_row}
 use Rattle.apl_scan.specs.Scanning.{scan_row}
 use Rattle.apl_reduce.specs.Products.{outer_row, inner_row}

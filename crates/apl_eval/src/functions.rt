@@ -152,8 +152,8 @@ impl<'a, R: Threads + Sync, C: Cut + Sync, G: Gate + Sync> Machine<'a, R, C, G> 
             Glyph::Comma => result_of(apl_struct::ravel(rt, alloc, pool, b)),
             Glyph::Iota => result_of(apl_struct::iota(rt, alloc, pool, b, origin)),
             Glyph::Transpose => result_of(apl_struct::transpose(rt, alloc, pool, b)),
-            Glyph::GradeUp => result_of(apl_struct::grade_up(rt, alloc, pool, b, origin)),
-            Glyph::GradeDown => result_of(apl_struct::grade_down(rt, alloc, pool, b, origin)),
+            Glyph::GradeUp => result_of(apl_search::grade_up(rt, alloc, pool, b, origin)),
+            Glyph::GradeDown => result_of(apl_search::grade_down(rt, alloc, pool, b, origin)),
             _ => self.monadic_along(glyph, default_axis(glyph), b),
         }
     }
@@ -187,8 +187,8 @@ impl<'a, R: Threads + Sync, C: Cut + Sync, G: Gate + Sync> Machine<'a, R, C, G> 
         match glyph {
             Glyph::Scalar(function) => self.dyadic_scalar(function, a, b),
             Glyph::Rho => result_of(apl_struct::reshape(rt, alloc, pool, a, b)),
-            Glyph::Iota => result_of(apl_struct::index_of(rt, alloc, pool, a, b, origin)),
-            Glyph::Epsilon => result_of(apl_struct::member(rt, alloc, pool, a, b)),
+            Glyph::Iota => result_of(apl_search::index_of(rt, alloc, pool, a, b, origin)),
+            Glyph::Epsilon => result_of(apl_search::member(rt, alloc, pool, a, b)),
             Glyph::UpArrow => result_of(apl_struct::take(rt, alloc, pool, a, b)),
             Glyph::DownArrow => result_of(apl_struct::drop(rt, alloc, pool, a, b)),
             Glyph::Transpose => result_of(apl_struct::transpose_by(rt, alloc, pool, a, b, origin)),

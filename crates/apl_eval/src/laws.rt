@@ -15,6 +15,7 @@ ghost use Rattle.apl_eval.specs.Lawful.{IsLawful, IsLawfulOutcome};
 use apl_reduce::reduced_answers_are_within_limits;
 use apl_scalar::answers_are_within_limits;
 use apl_scan::scanned_answers_are_within_limits;
+use apl_search::search_answers_are_within_limits;
 use apl_struct::structural_answers_are_within_limits;
 
 /// A new workspace is lawful. Settings and statements keep it so, and a statement's value is within all limits.
@@ -27,6 +28,7 @@ pub fn lawful_stays()
         → IsLawful old → Evaluates tree old new result → IsLawful new }
 {
     answers_are_within_limits();
+    search_answers_are_within_limits();
     structural_answers_are_within_limits();
     scanned_answers_are_within_limits();
     reduced_answers_are_within_limits();

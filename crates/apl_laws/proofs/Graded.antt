@@ -20,7 +20,7 @@ use Rattle.apl_answer.specs.Arguments.{rank_of, is_numbers, number_of, numbers_o
 use Rattle.apl_answer.specs.Rows.{array_row}
 use Rattle.apl_struct.specs.Building.{shape_of_row, iota_row}
 use Rattle.apl_struct.specs.Indexing.{select_row}
-use Rattle.apl_struct.specs.Ordering.{upwards, downwards, IsGrade, grade_of, grade_row}
+use Rattle.apl_search.specs.Ordering.{upwards, downwards, IsGrade, grade_of, grade_row}
 use Rattle.apl_laws.specs.Giving.{Gives}
 use Rattle.apl_laws.specs.Order.{IsAscending, IsDescending}
 use Rattle.apl_laws.proofs.Given.{Places, elements_length}

@@ -5,12 +5,12 @@ ghost use Rattle.apl_array.specs.Array.{ArrayValue, IsArray};
 ghost use Rattle.apl_answer.specs.Arguments.{numbers_of};
 ghost use Rattle.apl_struct.specs.Building.{shape_of_row, iota_row};
 ghost use Rattle.apl_struct.specs.Indexing.{select_row};
-ghost use Rattle.apl_struct.specs.Ordering.{grade_up_row, grade_down_row};
+ghost use Rattle.apl_search.specs.Ordering.{grade_up_row, grade_down_row};
 ghost use Rattle.apl_laws.specs.Giving.{Gives};
 ghost use Rattle.apl_laws.specs.Order.{IsAscending, IsDescending};
 
 use apl_array::places_match_index_lists;
-use apl_struct::one_grade;
+use apl_search::one_grade;
 
 /// `V[⍋V]` goes upwards and `V[⍒V]` downwards: the elements in the order of a grade are in order.
 pub fn grade_orders()

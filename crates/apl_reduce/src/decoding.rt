@@ -125,9 +125,10 @@ impl<R: Threads + Sync, C: Cut + Sync, G: Gate + Sync> Workers<'_, R, C, G> {
     }
 }
 
-/// The scalar that the digits `b` make in the radices `a`. An argument of one element serves all
-/// digits. Judged in order: the ranks (`Rank`), the lengths (`Length`), and where there is a digit the
-/// kinds (`Domain`); then the value of the first digits, of each number of them (`Limit`).
+/// `A⊥B`, decode: the value that the digits `B` have in the radices `A`.
+/// Shape: a scalar number. An argument of one element serves all digits of the other.
+/// Errors in order: RANK, LENGTH, DOMAIN of the kinds where there is a digit, LIMIT where the value of some first digits is outside the range.
+/// Source: APL\360 User's Manual, base value; the order of errors is this calculator's own.
 pub fn decode<R: Threads + Sync, C: Cut + Sync, G: Gate + Sync>(
     rt: &R,
     alloc: Global,

@@ -105,10 +105,10 @@ impl<R: Threads + Sync, C: Cut + Sync, G: Gate + Sync> Workers<'_, R, C, G> {
     }
 }
 
-/// The digits of each element of `b` in the radices `a`: an axis for the radices, then the axes of `b`.
-/// A scalar `a` is the only radix, and gives no axis. Judged in order: the rank of `a` (`Rank`), the
-/// shape (`Limit`), and where there is an element the kinds (`Domain`); then each digit against the
-/// range (`Limit`), and never what is carried.
+/// `A⊤B`, encode: the digits of each element of `B` in the radices `A`.
+/// Shape: that of `A`, then that of `B`; of numbers. A scalar `A` is the only radix.
+/// Errors in order: RANK of `A`, LIMIT of the shape, DOMAIN of the kinds where there is an element, LIMIT where a digit is outside the range.
+/// Source: APL\360 User's Manual, representation; radices of 0 and below, and the order of errors, are this calculator's own.
 pub fn encode<R: Threads + Sync, C: Cut + Sync, G: Gate + Sync>(
     rt: &R,
     alloc: Global,

@@ -367,11 +367,10 @@ impl<R: Threads + Sync, C: Cut + Sync, G: Gate + Sync> Workers<'_, R, C, G> {
     }
 }
 
-/// The reduction by `f` of `g` of the items along the last axis of `a` and the first of `b`; all items
-/// of a place are judged before they are folded. A scalar or a vector of one element is extended to
-/// the other's items, and gives no axis. Arguments that do not agree on the number of items are
-/// refused (`Length`), then a shape past a limit (`Limit`). Else the refusal is the fault at the least
-/// place that has one.
+/// `A f.g B`, inner product: the reduction by `f` of `g` of the items along the last axis of `A` and the first axis of `B`.
+/// Shape: that of `A` without its last axis, then that of `B` without its first. A scalar or a vector of one element serves all items.
+/// Errors in order: LENGTH of the items, LIMIT of the shape, then that of the least index list: of the items by `g`, then of the fold by `f`.
+/// Source: APL\360 User's Manual, inner product; the order of errors is this calculator's own.
 pub fn inner<R: Threads + Sync, C: Cut + Sync, G: Gate + Sync>(
     rt: &R,
     alloc: Global,

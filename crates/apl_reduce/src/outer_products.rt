@@ -184,9 +184,9 @@ fn fill_outer_elements<R: Threads + Sync, C: Cut + Sync, G: Gate + Sync>(
     }
 }
 
-/// A function of each element of `a` and each element of `b`. The shape is that of `a` joined with
-/// that of `b`, and is refused where it passes a limit (`Limit`), before anything is computed. Else
-/// the refusal is the fault at the least place that has one.
+/// `A∘.f B`, outer product: `f` of each element of `A` and each element of `B`.
+/// Shape: that of `A`, then that of `B`; of numbers. Errors in order: LIMIT of the shape, then that of the least index list.
+/// Source: APL\360 User's Manual, outer product; the order of errors is this calculator's own.
 pub fn outer<R: Threads + Sync, C: Cut + Sync, G: Gate + Sync>(
     rt: &R,
     alloc: Global,

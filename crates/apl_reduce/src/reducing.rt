@@ -76,10 +76,10 @@ impl<R: Threads + Sync, C: Cut + Sync, G: Gate + Sync> Workers<'_, R, C, G> {
     }
 }
 
-/// The reduction of an array by a dyadic function along an axis, which the result lacks: the right fold
-/// of the items along it, the identity of the function where it has none (`Domain` where the function
-/// has no identity), and a single item as it is. A scalar is answered as it is. First comes whether the
-/// axis exists (`Index`), then the result's shape (`Limit`), then the fault of the least place.
+/// `f/B` and `f⌿B`, reduction: the right fold by `f` of the items along an axis. A single item is answered as it is.
+/// Shape: that of `B` without the axis. Where the axis has no item, the identity of `f`. A scalar is answered as it is.
+/// Errors in order: INDEX of the axis, LIMIT of the shape, DOMAIN where `f` has no identity, then that of the least index list.
+/// Source: APL\360 User's Manual, reduction; the order of errors is this calculator's own.
 pub fn reduce<R: Threads + Sync, C: Cut + Sync, G: Gate + Sync>(
     rt: &R,
     alloc: Global,

@@ -81,10 +81,10 @@ fn scan_items<R: Threads + Sync, C: Cut + Sync, G: Gate + Sync>(
     }
 }
 
-/// The scan of an array by a dyadic function along an axis, in the array's shape: at each place the right
-/// fold of the items along the axis up to it. A scalar, and an array of at most one item along the axis,
-/// is answered as it is, of either kind; else characters are `Domain`. First comes whether the axis exists
-/// (`Index`), then the fault of the least place.
+/// `f\B` and `f⍀B`, scan: at each index of an axis the right fold by `f` of the items up to it.
+/// Shape: that of `B`. A scalar, and an array of at most one item along the axis, is answered as it is, of either kind.
+/// Errors in order: INDEX of the axis, DOMAIN of characters, then that of the least index list.
+/// Source: ISO 8485:1989, scan; the order of errors is this calculator's own.
 pub fn scan<R: Threads + Sync, C: Cut + Sync, G: Gate + Sync>(
     rt: &R,
     alloc: Global,

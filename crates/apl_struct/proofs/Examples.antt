@@ -8,9 +8,7 @@ pub mod Joining
 pub mod Taking
 pub mod Moving
 pub mod Compressing
-pub mod Searching
 pub mod Indexing
-pub mod Ordering
 
 -- numbers from 0 up
 abbrev pub numbers : List ℕ → List ℕ → ArrayValue

@@ -1,5 +1,3 @@
-pub mod Grades
-pub mod Orders
 pub mod Examples
 pub mod Filled
 pub mod Elements
@@ -17,7 +15,6 @@ pub mod Selections
 pub mod Replacement
 pub mod Taken
 pub mod Permuted
-pub mod InOrder
 pub mod LawfulShapes
 pub mod NamedAxes
 pub mod Ranges
@@ -28,6 +25,4 @@ pub mod Bits
 pub mod Naturals
 pub mod Replicated
 pub mod AsVectors
-pub mod FirstPlaces
-pub mod Searches
 pub mod Origins

@@ -22,10 +22,6 @@ use Rattle.apl_struct.specs.Indexing.{replaced_element}
 pub natural_in : (n : ℕ) → n ≤ most_elements + 1 → IsInRange (pos n)
 natural_in n most = record { least = omega (arith, ints); greatest = omega (arith, ints, most) }
 
-pub bit_in : (b : Bool) → IsInRange (pos (if b then 1 else 0))
-bit_in true = natural_in 1 (omega arith)
-bit_in false = natural_in 0 (omega arith)
-
 pub origin_most : (origin : Origin) → origin_number origin ≤ 1
 origin_most Zero = omega arith
 origin_most One = omega arith
@@ -61,9 +57,3 @@ catenated_in rank k n a b index h g =
 pub replaced_in : (a b : ArrayValue) (index : List ℕ) (choice : Option ℕ) → HasNumbersInRange a → HasNumbersInRange b → IsElementInRange (replaced_element a b index choice)
 replaced_in a b index (Some place) h g = either_in (has_one_element b.shape) _ _ (element_in_in b 0 g) (element_in_in b place g)
 replaced_in a b index None h g = element_at_in a index h
-
--- the values of a list of numbers, and 0 beside it
-pub values_most : {X : Type 0} (f : X → ℕ) (m : ℕ) → ((x : X) → f x ≤ m) → (xs : List X) (i : ℕ) → slice_index (map f xs) i ≤ m
-values_most f m most [] i = omega arith
-values_most f m most (x ∷ xs) zero = most x
-values_most f m most (x ∷ xs) (suc i) = values_most f m most xs i

@@ -34,17 +34,6 @@ RowLaw = (row : Row) (a : ArrayValue) → (HavePassed row.checks → IsShape row
     → (HavePassed row.checks → (index : List ℕ) → IsIndexOf row.shape index → IfOk (row.outcome index) IsElementInRange)
     → result_of row ≡ Ok a → IsWithinLimits a
 
-position_most : {X : Type 0} (p : X → Bool) (xs : List X) → position_or_len p xs ≤ length xs
-position_most p xs = prefix_len-le-length _ xs
-
--- a place of a grade, and 0 beside it
-graded_most : (precedes : ℤ → ℤ → Bool) (values : List ℤ) (i : ℕ) → slice_index (grade_of precedes values) i ≤ length values
-graded_most precedes values i =
-    let all = range_with_len 0 (length values) in
-    let has_before : ℕ → ℕ → Bool = λ k q. count_by (λ p. stands_before precedes values p q) all == k in
-    values_most (λ k. position_or_len (has_before k) all) (length values)
-    (λ k. omega (arith, position_most (has_before k) all, length-range_with_len 0 (length values))) all i
-
 module _ (law : RowLaw) (decided : (lengths : List ℕ) → (is_shape lengths ≡ true) ↔ IsShape lengths) where
   -- ---- building
 
@@ -127,19 +116,6 @@ module _ (law : RowLaw) (decided : (lengths : List ℕ) → (is_shape lengths �
       law (expand_row a b axis) r (λ passed. (decided (expand_row a b axis).shape).0 passed.1.1.1.1.0)
       (λ passed index inside. element_or_fill_in (as_vector n b) _ (as_vector_in n b h.numbers))
 
-  -- ---- searching
-
-  pub index_of_within : (a b r : ArrayValue) (origin : Origin) → IsWithinLimits a → IsWithinLimits b → result_of (index_of_row a b origin) ≡ Ok r → IsWithinLimits r
-  index_of_within a b r origin g h =
-      law (index_of_row a b origin) r (λ passed. h.shape)
-      (λ passed index inside.
-      let p : Elem → Bool = λ x. is_same_element x (element_at b index) in
-      natural_in (origin_number origin + position_or_len p a.ravel) (omega (arith, origin_most origin, position_most p a.ravel, g.len, g.shape.count)))
-
-  pub member_within : (a b r : ArrayValue) → IsWithinLimits a → IsWithinLimits b → result_of (member_row a b) ≡ Ok r → IsWithinLimits r
-  member_within a b r g h =
-      law (member_row a b) r (λ passed. g.shape) (λ passed index inside. bit_in (list_any (λ x. is_same_element x (element_at a index)) b.ravel))
-
   -- ---- indexing
 
   pub select_within : (a r : ArrayValue) (slots : Slots) (origin : Origin) → IsWithinLimits a → result_of (select_row a slots origin) ≡ Ok r → IsWithinLimits r
@@ -152,19 +128,3 @@ module _ (law : RowLaw) (decided : (lengths : List ℕ) → (is_shape lengths �
       let selected = selected_shape a.shape slots in
       law (replace_row a slots b origin) r (λ passed. g.shape)
       (λ passed index inside. replaced_in a b index (last_choice origin slots selected index (count_of selected)) g.numbers h.numbers)
-
-  -- ---- ordering
-
-  grade_within : (precedes : ℤ → ℤ → Bool) (v r : ArrayValue) (origin : Origin) → IsWithinLimits v → result_of (grade_row precedes v origin) ≡ Ok r → IsWithinLimits r
-  grade_within precedes v r origin h =
-      law (grade_row precedes v origin) r (λ passed. h.shape)
-      (λ passed index inside.
-      let place = slice_index index 0 in
-      natural_in (origin_number origin + slice_index (grade_of precedes (numbers_of v)) place)
-      (omega (arith, origin_most origin, graded_most precedes (numbers_of v) place, length-map v.ravel number_of, h.len, h.shape.count)))
-
-  pub grade_up_within : (v r : ArrayValue) (origin : Origin) → IsWithinLimits v → result_of (grade_up_row v origin) ≡ Ok r → IsWithinLimits r
-  grade_up_within v r origin h = grade_within upwards v r origin h
-
-  pub grade_down_within : (v r : ArrayValue) (origin : Origin) → IsWithinLimits v → result_of (grade_down_row v origin) ≡ Ok r → IsWithinLimits r
-  grade_down_within v r origin h = grade_within downwards v r origin h

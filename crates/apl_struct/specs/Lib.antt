@@ -8,14 +8,10 @@ pub mod Compressing
 pub mod Expanding
 pub mod Replicating
 pub mod Scalars
-pub mod Searching
 pub mod Indexing
-pub mod Ordering
 pub mod Along
 pub mod Joined
 pub mod Rotation
 pub mod Selecting
 pub mod Numbering
 pub mod Shaped
-pub mod Sorting
-pub mod Finding

@@ -59,7 +59,9 @@ impl Kernel for Lengths<'_> {
     }
 }
 
-/// The vector of the axis lengths.
+/// `⍴B`, shape: the axis lengths of `B`.
+/// Shape: a vector of as many numbers as `B` has axes. Errors: none.
+/// Source: APL\360 User's Manual, dimension vector.
 pub fn shape_of<R: Threads + Sync, C: Cut + Sync, G: Gate + Sync>(
     rt: &R,
     alloc: Global,
@@ -72,7 +74,9 @@ pub fn shape_of<R: Threads + Sync, C: Cut + Sync, G: Gate + Sync>(
     fill_array(rt, alloc, pool, shape, &Lengths { shape: b.shape() })
 }
 
-/// The vector of the elements in row order.
+/// `,B`, ravel: the elements of `B` in row order.
+/// Shape: a vector of the kind of `B`. Errors: none.
+/// Source: APL\360 User's Manual, ravel.
 pub fn ravel<R: Threads + Sync, C: Cut + Sync, G: Gate + Sync>(
     rt: &R,
     alloc: Global,
@@ -160,9 +164,10 @@ fn can_fill(own: &Shape, shape: &Shape) -> bool
     own.count() > 0 || shape.count() == 0
 }
 
-/// The array of shape `a` with the elements of `b` in row order, again and again. `a` is judged
-/// first: its rank (`Rank`), its kind and its numbers (`Domain`), the limits (`Limit`). An array
-/// with elements is not made of none (`Length`).
+/// `A⍴B`, reshape: the elements of `B` in row order, again and again.
+/// Shape: the numbers of `A`. Kind: that of `B`.
+/// Errors in order: RANK of `A`, DOMAIN of its kind, then of its numbers, LIMIT, LENGTH where a result with elements is made of none.
+/// Source: APL\360 User's Manual, restructuring; the order of errors is this calculator's own.
 pub fn reshape<R: Threads + Sync, C: Cut + Sync, G: Gate + Sync>(
     rt: &R,
     alloc: Global,
@@ -218,8 +223,9 @@ impl Kernel for Consecutive {
     }
 }
 
-/// The numbers from the origin on, as many as `n` says. `n` is judged first: its rank (`Rank`), its
-/// length (`Length`), its kind and its number (`Domain`), the limit (`Limit`).
+/// `⍳N`, index generator: the numbers from the origin on.
+/// Shape: a vector of `N` numbers. Errors in order: RANK, LENGTH, DOMAIN of the kind, then of the number, LIMIT.
+/// Source: APL\360 User's Manual, index generator; the order of errors is this calculator's own.
 pub fn iota<R: Threads + Sync, C: Cut + Sync, G: Gate + Sync>(
     rt: &R,
     alloc: Global,

@@ -116,10 +116,10 @@ impl<R: Threads + Sync, C: Cut + Sync, G: Gate + Sync> Workers<'_, R, C, G> {
     }
 }
 
-/// The indexes of an axis, each as often as its number in `a` says, in order. A number of `a` alone
-/// serves all indexes, and a scalar serves as a vector of `a`'s count. First comes whether the axis
-/// exists (`Index`), then that `a` is a vector or a scalar (`Rank`), its count (`Length`), that it is of
-/// numbers from 0 up (`Domain`), and the result's shape (`Limit`).
+/// `A/B`, compress and replicate: each index of an axis as often as its number in `A` says, in order.
+/// Shape: that of `B`, where the axis has the sum of `A`. One number serves all indexes, and a scalar `B` serves as a vector of `A`'s count.
+/// Errors in order: INDEX of the axis, RANK of `A`, LENGTH, DOMAIN of its kind and its numbers, LIMIT.
+/// Source: APL\360 User's Manual, compression; numbers other than 0 and 1, and the order of errors, are this calculator's own.
 pub fn compress<R: Threads + Sync, C: Cut + Sync, G: Gate + Sync>(
     rt: &R,
     alloc: Global,

@@ -48,10 +48,10 @@ fn expanded_entries(alloc: Global, bits: &[i64]) -> Result<Option<(Vec<u32>, usi
     Ok(Some((entries, ones as usize)))
 }
 
-/// An axis with the next index at each one of `a`, and a fill at each zero. A scalar serves as a
-/// vector of as many elements as there are ones. First comes whether the axis exists (`Index`), then
-/// that `a` is a vector or a scalar (`Rank`) of zeros and ones (`Domain`), as many ones as the axis is
-/// long (`Length`), and the result's shape (`Limit`).
+/// `A\B`, expand: the next index of an axis at each one of `A`, and a fill at each zero.
+/// Shape: that of `B`, where the axis has `A`'s count. A scalar `B` serves as a vector of as many elements as `A` has ones.
+/// Errors in order: INDEX of the axis, RANK of `A`, DOMAIN of its kind and its numbers, LENGTH of the ones, LIMIT.
+/// Source: APL\360 User's Manual, expansion; the order of errors is this calculator's own.
 pub fn expand<R: Threads + Sync, C: Cut + Sync, G: Gate + Sync>(
     rt: &R,
     alloc: Global,

@@ -155,9 +155,10 @@ impl<R: Threads + Sync, C: Cut + Sync, G: Gate + Sync> Workers<'_, R, C, G> {
     }
 }
 
-/// The elements that the slots choose, an empty one all of its axis; the shapes of the slots follow
-/// one another. The slots number the rank (`Rank`), are of numbers (`Domain`), of which each less the
-/// origin is an index of its axis (`Index`), and what they choose is within the limits (`Limit`).
+/// `A[I;J]`, indexing: the elements that the slots choose; an empty slot chooses the whole axis.
+/// Shape: those of the slots, one after the other. Kind: that of `A`.
+/// Errors in order: RANK of the number of slots, DOMAIN of their kinds, INDEX, LIMIT.
+/// Source: APL\360 User's Manual, indexing; the order of errors is this calculator's own.
 pub fn select<R: Threads + Sync, C: Cut + Sync, G: Gate + Sync>(
     rt: &R,
     alloc: Global,

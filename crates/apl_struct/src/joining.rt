@@ -167,9 +167,10 @@ impl<R: Threads + Sync, C: Cut + Sync, G: Gate + Sync> Workers<'_, R, C, G> {
     }
 }
 
-/// The slices of `a` along an axis, then those of `b`. A scalar gives a slice of its one value, and
-/// an argument of a rank lower by one is one slice. Judged in order: the axis (`Index`), the ranks
-/// (`Rank`), the other axes (`Length`), the kinds (`Domain`), the limits (`Limit`).
+/// `A,B`, catenate: the slices of `A` along an axis, then those of `B`.
+/// Shape: that of the argument of higher rank, where the axis has both lengths. A scalar, and an argument of a rank lower by one, is one slice.
+/// Errors in order: INDEX of the axis, RANK, LENGTH of the other axes, DOMAIN of the kinds, LIMIT.
+/// Source: APL\360 User's Manual, catenation of vectors; ISO 8485:1989, along an axis; the order of errors is this calculator's own.
 pub fn catenate<R: Threads + Sync, C: Cut + Sync, G: Gate + Sync>(
     rt: &R,
     alloc: Global,

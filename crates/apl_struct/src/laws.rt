@@ -1,5 +1,5 @@
-//! What is true of all structural functions, each law the contract of a function that does nothing.
-ghost use Rattle.std.specs.Prelude.{◌≡◌, ◌↔◌, ℕ, ℤ, List, Ok};
+//! What is true of all structural functions, as the contract of a function that does nothing.
+ghost use Rattle.std.specs.Prelude.{◌≡◌, Ok};
 ghost use Rattle.apl_array.specs.declared.axis.Axis.{Axis};
 ghost use Rattle.apl_array.specs.declared.axis.Origin.{Origin};
 ghost use Rattle.apl_array.specs.Array.{ArrayValue};
@@ -10,19 +10,10 @@ ghost use Rattle.apl_struct.specs.Joining.{catenate_row};
 ghost use Rattle.apl_struct.specs.Taking.{take_row, drop_row};
 ghost use Rattle.apl_struct.specs.Moving.{reverse_row, rotate_row, transpose_row, transpose_by_row};
 ghost use Rattle.apl_struct.specs.Compressing.{replicate_row, expand_row};
-ghost use Rattle.apl_struct.specs.Searching.{index_of_row, member_row};
 ghost use Rattle.apl_struct.specs.Indexing.{Slots, select_row, replace_row};
-ghost use Rattle.apl_struct.specs.Ordering.{upwards, downwards, IsGrade, grade_of, grade_up_row, grade_down_row};
 
 use apl_answer::answer_is_within_limits;
 use apl_array::{reversed_index_is_lawful, shape_is_decided, transposed_index_has_place};
-
-/// A list of numbers has one grade upwards and one downwards: the one list of all places, each once,
-/// in which each stands before the next by value, and where values are equal by place.
-pub fn one_grade()
-    ensures up { (values : List ℤ) (grade : List ℕ) → IsGrade upwards values grade ↔ (grade ≡ grade_of upwards values) }
-    ensures down { (values : List ℤ) (grade : List ℕ) → IsGrade downwards values grade ↔ (grade ≡ grade_of downwards values) }
-{}
 
 /// The answers to arguments within all limits are within all limits, whatever the axis, the origin
 /// and the slots.
@@ -53,18 +44,10 @@ pub fn structural_answers_are_within_limits()
         → result_of (replicate_row a b axis) ≡ Ok answer → IsWithinLimits answer }
     ensures expand { (a b answer : ArrayValue) (axis : Axis) → IsWithinLimits a → IsWithinLimits b
         → result_of (expand_row a b axis) ≡ Ok answer → IsWithinLimits answer }
-    ensures index_of { (a b answer : ArrayValue) (origin : Origin) → IsWithinLimits a → IsWithinLimits b
-        → result_of (index_of_row a b origin) ≡ Ok answer → IsWithinLimits answer }
-    ensures member { (a b answer : ArrayValue) → IsWithinLimits a → IsWithinLimits b
-        → result_of (member_row a b) ≡ Ok answer → IsWithinLimits answer }
     ensures select { (a answer : ArrayValue) (slots : Slots) (origin : Origin) → IsWithinLimits a
         → result_of (select_row a slots origin) ≡ Ok answer → IsWithinLimits answer }
     ensures replace { (a b answer : ArrayValue) (slots : Slots) (origin : Origin) → IsWithinLimits a → IsWithinLimits b
         → result_of (replace_row a slots b origin) ≡ Ok answer → IsWithinLimits answer }
-    ensures grade_up { (v answer : ArrayValue) (origin : Origin) → IsWithinLimits v
-        → result_of (grade_up_row v origin) ≡ Ok answer → IsWithinLimits answer }
-    ensures grade_down { (v answer : ArrayValue) (origin : Origin) → IsWithinLimits v
-        → result_of (grade_down_row v origin) ≡ Ok answer → IsWithinLimits answer }
 {
     answer_is_within_limits();
     shape_is_decided();

@@ -1,4 +1,4 @@
-//! The structural functions: those that build, join, order, select, index and search arrays.
+//! The structural functions: those that build, join, move, select and index arrays.
 //!
 //! They are those of the APL\360 User's Manual (1968).
 #![tactic(auto)]
@@ -9,7 +9,6 @@ mod axes;
 mod building;
 mod compressing;
 mod expanding;
-mod finding;
 mod gather;
 mod indexing;
 mod joining;
@@ -17,17 +16,14 @@ mod laws;
 mod lines;
 mod moving;
 mod named;
-mod ordering;
 mod permuting;
 mod repeating;
 mod replacing;
 mod rotating;
 mod scalars;
-mod searching;
 mod selecting;
 mod shapes;
 mod slices;
-mod sorting;
 mod taking;
 mod workers;
 
@@ -37,11 +33,9 @@ pub use compressing::compress;
 pub use expanding::expand;
 pub use indexing::select;
 pub use joining::catenate;
-pub use laws::{one_grade, structural_answers_are_within_limits};
+pub use laws::structural_answers_are_within_limits;
 pub use moving::reverse;
-pub use ordering::{grade_down, grade_up};
 pub use permuting::{transpose, transpose_by};
 pub use replacing::replace;
 pub use rotating::rotate;
-pub use searching::{index_of, member};
 pub use taking::{drop, take};

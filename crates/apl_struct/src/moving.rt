@@ -13,7 +13,9 @@ use apl_walk::{Map, Reversed};
 use std::alloc::Global;
 use std::thread::Threads;
 
-/// The lines along an axis, the last element first. A scalar is answered as it is.
+/// `⌽B` and `⊖B`, reverse: the elements along an axis, the last one first.
+/// Shape and kind: those of `B`. Errors: INDEX of the axis. A scalar is answered as it is.
+/// Source: APL\360 User's Manual, reversal.
 pub fn reverse<R: Threads + Sync, C: Cut + Sync, G: Gate + Sync>(
     rt: &R,
     alloc: Global,

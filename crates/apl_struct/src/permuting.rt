@@ -87,7 +87,9 @@ impl<R: Threads + Sync, C: Cut + Sync, G: Gate + Sync> Workers<'_, R, C, G> {
     }
 }
 
-/// The axes in reverse order.
+/// `⍉B`, transpose: the axes in reverse order.
+/// Shape: that of `B`, reversed. Errors: none.
+/// Source: APL\360 User's Manual, transpose.
 pub fn transpose<R: Threads + Sync, C: Cut + Sync, G: Gate + Sync>(
     rt: &R,
     alloc: Global,
@@ -121,10 +123,10 @@ fn reversed_axes(alloc: Global, rank: usize) -> Result<Vec<usize>, AllocError>
     Ok(axes)
 }
 
-/// The axes as `a` names them, counted from the origin: axis `i` of `b` becomes axis `a[i]`. Axes
-/// that become one make a diagonal, as long as the shortest of them. First comes `a`'s rank, 1 at
-/// most (`Rank`), then that it has a number for each axis (`Length`), that it is of numbers
-/// (`Domain`), and that they name each axis up to the greatest (`Domain`).
+/// `A⍉B`, transpose by `A`: axis `i` of `B` becomes axis `A[i]`. Axes that become one make a diagonal.
+/// Shape: each axis as long as the shortest of those that become it. Kind: that of `B`.
+/// Errors in order: RANK of `A`, LENGTH, DOMAIN of its kind, DOMAIN where its numbers do not name each axis up to the greatest.
+/// Source: APL\360 User's Manual, transpose; the order of errors is this calculator's own.
 pub fn transpose_by<R: Threads + Sync, C: Cut + Sync, G: Gate + Sync>(
     rt: &R,
     alloc: Global,

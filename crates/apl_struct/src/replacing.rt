@@ -329,10 +329,10 @@ impl<R: Threads + Sync, C: Cut + Sync, G: Gate + Sync> Workers<'_, R, C, G> {
     }
 }
 
-/// The array with the values of `b` in the place of the elements that the slots choose, one value for
-/// all or one for each; of a place that is chosen twice the later choice stays. The slots are judged as
-/// those of `select`, then the values by their rank (`Rank`), their lengths (`Length`) and their kind
-/// (`Domain`).
+/// `A[I;J]←B`, indexed assignment: `A` with the values of `B` in the place of the elements that the slots choose.
+/// Shape and kind: those of `A`. One value serves all; of an element that is chosen twice the later value stays.
+/// Errors in order: those of indexing; then RANK and LENGTH of `B`, and DOMAIN of its kind.
+/// Source: APL\360 User's Manual, indexing; the order of errors is this calculator's own.
 pub fn replace<R: Threads + Sync, C: Cut + Sync, G: Gate + Sync>(
     rt: &R,
     alloc: Global,

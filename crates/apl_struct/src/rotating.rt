@@ -123,10 +123,10 @@ impl<R: Threads + Sync, C: Cut + Sync, G: Gate + Sync> Workers<'_, R, C, G> {
     }
 }
 
-/// The lines along an axis, each rotated by a number: index i takes the remainder of i plus the
-/// number by the axis's length. `a` has one element for all lines, or one for each. A scalar is
-/// answered as it is. First comes whether the axis exists (`Index`), then `a`'s rank (`Rank`), its
-/// lengths (`Length`), and that it is of numbers (`Domain`).
+/// `A⌽B` and `A⊖B`, rotate: index `i` of an axis takes the residue of `i` plus the number of its line by the axis length.
+/// Shape and kind: those of `B`. One number in `A` serves all lines. A scalar `B` is answered as it is.
+/// Errors in order: INDEX of the axis, RANK of `A`, LENGTH, DOMAIN.
+/// Source: APL\360 User's Manual, rotation; the order of errors is this calculator's own.
 pub fn rotate<R: Threads + Sync, C: Cut + Sync, G: Gate + Sync>(
     rt: &R,
     alloc: Global,

@@ -188,10 +188,10 @@ impl<R: Threads + Sync, C: Cut + Sync, G: Gate + Sync> Workers<'_, R, C, G> {
     }
 }
 
-/// So many first elements of each axis, or last ones for a negative number, and fills where there
-/// are not as many. A scalar serves as an array of one element. Of a rank above 1 (`Rank`), not a
-/// number for each axis (`Length`), more than the most axes (`Limit`), not of numbers (`Domain`), or
-/// with a result past a limit (`Limit`), `a` is refused, in this order.
+/// `A↑B`, take: the first elements of each axis, or the last ones for a negative number, and fills where there are not as many.
+/// Shape: the magnitudes of `A`. Kind: that of `B`. A scalar `B` serves as an array of one element.
+/// Errors in order: RANK of `A`, LENGTH, LIMIT of the axes, DOMAIN, LIMIT of the result.
+/// Source: APL\360 User's Manual, take; the order of errors is this calculator's own.
 pub fn take<R: Threads + Sync, C: Cut + Sync, G: Gate + Sync>(
     rt: &R,
     alloc: Global,
@@ -206,8 +206,10 @@ pub fn take<R: Threads + Sync, C: Cut + Sync, G: Gate + Sync>(
     Workers { rt, alloc, pool }.taken(numbers, b, &argument)
 }
 
-/// What is left of each axis without so many first elements, or last ones for a negative number. A
-/// scalar serves as an array of one element. It is refused as a take is.
+/// `A↓B`, drop: each axis without its first elements, or without the last ones for a negative number.
+/// Shape: what is left of each axis. Kind: that of `B`. A scalar `B` serves as an array of one element.
+/// Errors in order: RANK of `A`, LENGTH, LIMIT of the axes, DOMAIN, LIMIT of the result.
+/// Source: APL\360 User's Manual, drop; the order of errors is this calculator's own.
 pub fn drop<R: Threads + Sync, C: Cut + Sync, G: Gate + Sync>(
     rt: &R,
     alloc: Global,

@@ -13,7 +13,8 @@ use crate::tables::{Table, check};
 use apl_pool::{Open, Pool};
 use apl_reduce::{partial_results_decide, reduced_answers_are_within_limits};
 use apl_scalar::OpFault;
-use apl_struct::{axis_number, one_grade, structural_answers_are_within_limits};
+use apl_search::{one_grade, search_answers_are_within_limits};
+use apl_struct::{axis_number, structural_answers_are_within_limits};
 use std::alloc::Global;
 use std::process::Abort;
 use std::test::Fail;
@@ -72,6 +73,7 @@ fn small_arrays(rt: HostRuntime) -> Result<(), Fail> {
     ];
     check_small(&rt, rt.alloc(), &tables)?;
     one_grade();
+    search_answers_are_within_limits();
     structural_answers_are_within_limits();
     partial_results_decide();
     reduced_answers_are_within_limits();

@@ -6,9 +6,10 @@ use apl_array::{Array, Origin};
 use apl_pool::{Open, Pool};
 use apl_reduce::{decode, encode, inner, outer, reduce};
 use apl_scalar::{OpFault, dyadic, monadic};
+use apl_search::{grade_down, grade_up, index_of, member};
 use apl_struct::{
-    catenate, compress, drop, expand, grade_down, grade_up, index_of, iota, member, ravel, replace,
-    reshape, reverse, rotate, select, shape_of, take, transpose, transpose_by,
+    catenate, compress, drop, expand, iota, ravel, replace, reshape, reverse, rotate, select,
+    shape_of, take, transpose, transpose_by,
 };
 use std::alloc::Global;
 use std::process::Abort;

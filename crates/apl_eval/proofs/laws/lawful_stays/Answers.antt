@@ -1,5 +1,5 @@
 use Rattle.apl_eval.proofs.LawfulLemmas.{ResultsWithinLimits, opening_lawful, origin_lawful, width_lawful, outcome_lawful, evaluated_lawful}
-use Rattle.apl_eval.proofs.LimitLemmas.{ScalarAnswersWithinLimits, StructuralAnswersWithinLimits, ReducedAnswersWithinLimits, results_within_limits}
+use Rattle.apl_eval.proofs.LimitLemmas.{ScalarAnswersWithinLimits, StructuralAnswersWithinLimits, SearchAnswersWithinLimits, ReducedAnswersWithinLimits, results_within_limits}
 use Rattle.apl_eval.proofs.laws.lawful_stays.Goals as goal
 
 results : goal.After-reduced_answers_are_within_limits → ResultsWithinLimits
@@ -13,8 +13,6 @@ results c =
       iota = structural.iota;
       reverse = structural.reverse;
       transpose = structural.transpose;
-      grade_up = structural.grade_up;
-      grade_down = structural.grade_down;
       reshape = structural.reshape;
       catenate = structural.catenate;
       take = structural.take;
@@ -23,14 +21,14 @@ results c =
       transpose_by = structural.transpose_by;
       replicate = structural.replicate;
       expand = structural.expand;
-      index_of = structural.index_of;
-      member = structural.member;
       select = structural.select;
       replace = structural.replace;
     } in
+    let found = c.search_answers_are_within_limits.ensures in
+    let found_answers : SearchAnswersWithinLimits = record { index_of = found.index_of; member = found.member; grade_up = found.grade_up; grade_down = found.grade_down } in
     let reduced = c.reduced_answers_are_within_limits.ensures in
     let reduced_answers : ReducedAnswersWithinLimits = record { reduce = reduced.reduce; outer = reduced.outer; inner = reduced.inner; decode = reduced.decode; encode = reduced.encode } in
-    results_within_limits scalar_answers structural_answers reduced_answers c.scanned_answers_are_within_limits.ensures
+    results_within_limits scalar_answers structural_answers found_answers reduced_answers c.scanned_answers_are_within_limits.ensures
 
 pub returns-clause-opening : goal.returns-clause-opening
 returns-clause-opening c = opening_lawful

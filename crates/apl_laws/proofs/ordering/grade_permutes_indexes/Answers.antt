@@ -1,4 +1,4 @@
-use Rattle.apl_struct.specs.Ordering.{upwards, downwards}
+use Rattle.apl_search.specs.Ordering.{upwards, downwards}
 use Rattle.apl_laws.proofs.Graded.{grade_permutes}
 use Rattle.apl_laws.proofs.ordering.grade_permutes_indexes.Goals as goal
 

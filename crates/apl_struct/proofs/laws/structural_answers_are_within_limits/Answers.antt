@@ -1,4 +1,4 @@
-use Rattle.apl_struct.proofs.RowLimits.{shape_of_within, ravel_within, reshape_within, iota_within, catenate_within, take_within, drop_within, reverse_within, rotate_within, transpose_within, transpose_by_within, replicate_within, expand_within, index_of_within, member_within, select_within, replace_within, grade_up_within, grade_down_within}
+use Rattle.apl_struct.proofs.RowLimits.{shape_of_within, ravel_within, reshape_within, iota_within, catenate_within, take_within, drop_within, reverse_within, rotate_within, transpose_within, transpose_by_within, replicate_within, expand_within, select_within, replace_within}
 use Rattle.apl_struct.proofs.laws.structural_answers_are_within_limits.Goals as goal
 
 pub returns-clause-shape_of : goal.returns-clause-shape_of
@@ -40,20 +40,8 @@ returns-clause-replicate c = replicate_within c.answer_is_within_limits.ensures.
 pub returns-clause-expand : goal.returns-clause-expand
 returns-clause-expand c = expand_within c.answer_is_within_limits.ensures.row c.shape_is_decided.ensures
 
-pub returns-clause-index_of : goal.returns-clause-index_of
-returns-clause-index_of c = index_of_within c.answer_is_within_limits.ensures.row c.shape_is_decided.ensures
-
-pub returns-clause-member : goal.returns-clause-member
-returns-clause-member c = member_within c.answer_is_within_limits.ensures.row c.shape_is_decided.ensures
-
 pub returns-clause-select : goal.returns-clause-select
 returns-clause-select c = select_within c.answer_is_within_limits.ensures.row c.shape_is_decided.ensures
 
 pub returns-clause-replace : goal.returns-clause-replace
 returns-clause-replace c = replace_within c.answer_is_within_limits.ensures.row c.shape_is_decided.ensures
-
-pub returns-clause-grade_up : goal.returns-clause-grade_up
-returns-clause-grade_up c = grade_up_within c.answer_is_within_limits.ensures.row c.shape_is_decided.ensures
-
-pub returns-clause-grade_down : goal.returns-clause-grade_down
-returns-clause-grade_down c = grade_down_within c.answer_is_within_limits.ensures.row c.shape_is_decided.ensures

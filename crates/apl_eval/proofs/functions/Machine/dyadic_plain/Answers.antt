@@ -1,8 +1,8 @@
 use Rattle.apl_answer.specs.Rows as rows
+use Rattle.apl_search.specs.Searching.{index_of_row, member_row}
 use Rattle.apl_struct.specs.Building.{reshape_row}
 use Rattle.apl_struct.specs.Taking.{take_row, drop_row}
 use Rattle.apl_struct.specs.Moving.{transpose_by_row}
-use Rattle.apl_struct.specs.Searching.{index_of_row, member_row}
 use Rattle.apl_reduce.specs.Decoding.{decode_row}
 use Rattle.apl_reduce.specs.Encoding.{encode_row}
 use Rattle.apl_eval.proofs.GlyphLemmas.{dyadic_falls}

@@ -1,0 +1,10 @@
+pub mod Grades
+pub mod Orders
+pub mod Examples
+pub mod Numbers
+pub mod Vectors
+pub mod InOrder
+pub mod SearchLimits
+pub mod FirstPlaces
+pub mod Searches
+pub mod Origins

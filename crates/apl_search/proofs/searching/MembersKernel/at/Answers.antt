@@ -1,0 +1,18 @@
+use Rattle.std.proofs.Common.{◌≡◌, pos, map, get_or, ap, ◌∙◌, rules}
+use Rattle.std.proofs.lemmas.List.{get_or-map, length-map}
+use Rattle.apl_array.specs.declared.array.Elem.TheVariants.{Int}
+use Rattle.apl_search.specs.Searching.{is_same_element}
+use Rattle.apl_search.specs.Finding.{element_of}
+use Rattle.apl_search.proofs.Searches.{any_is_found}
+use Rattle.apl_search.proofs.searching.MembersKernel.at.Goals as goal
+
+pub returns : goal.returns
+returns g c =
+    let elem_of = g.T.Element.elem_of in
+    let elements = c.args.self.now.elements.now in
+    let list = c.args.self.now.list.elements.now in
+    let x = c.index-self-place.result in
+    let here : get_or elements c.args.place x ≡ x = search rules in
+    let same : element_of (map elem_of elements) c.args.place ≡ elem_of x = get_or-map elem_of elements c.args.place x (Int (pos 0)) c.requires ∙ ap elem_of here in
+    let any = any_is_found (λ y. is_same_element y (elem_of x)) (map elem_of list) in
+    rw (same, any, length-map list elem_of) (search rules)

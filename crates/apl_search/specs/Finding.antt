@@ -1,0 +1,28 @@
+-- Elements that are found in a list. No contract of a public function cites this file.
+use Rattle.std.specs.Prelude.{ℕ, pos, ◌+◌, List, Result, Ok, if◌then◌else◌, slice_index_or}
+use Rattle.std.specs.List.{list_any, position_or_len}
+use Rattle.apl_array.specs.declared.array.Elem.{Elem}
+use Rattle.apl_array.specs.declared.array.Elem.TheVariants.{Int}
+use Rattle.apl_array.specs.declared.axis.Origin.{Origin}
+use Rattle.apl_array.specs.Array.{ArrayValue, element_at}
+use Rattle.apl_array.specs.Axes.{origin_number}
+use Rattle.apl_pool.specs.declared.kernel.Fault.{Fault}
+use Rattle.apl_search.specs.Searching.{is_same_element}
+
+abbrev pub element_of : List Elem → ℕ → Elem
+element_of elements place = slice_index_or elements place (Int (pos 0))
+
+-- the first place of an element, or the length where there is none
+abbrev pub first_place : List Elem → Elem → ℕ
+first_place elements x = position_or_len (λ y. is_same_element y x) elements
+
+-- 1 for an element that is in the list, else 0
+abbrev pub member_number : List Elem → Elem → ℕ
+member_number elements x = if list_any (λ y. is_same_element y x) elements then 1 else 0
+
+-- what there is at each index list where the list is searched for an array's elements
+abbrev pub found_outcome : List Elem → ArrayValue → Origin → List ℕ → Result Elem Fault
+found_outcome elements b origin index = Ok (Int (pos (origin_number origin + first_place elements (element_at b index))))
+
+abbrev pub member_outcome : ArrayValue → List Elem → List ℕ → Result Elem Fault
+member_outcome a elements index = Ok (Int (pos (member_number elements (element_at a index))))

@@ -1,0 +1,4 @@
+pub mod Searching
+pub mod Ordering
+pub mod Sorting
+pub mod Finding

@@ -1,0 +1,199 @@
+//! The elements of one argument found in the other.
+ghost use Rattle.std.specs.Prelude.{◌≡◌, ℕ, pos, ◌+◌, ◌<◌, ◌≤◌, List, Result, Ok, map, length};
+ghost use Rattle.apl_array.specs.declared.array.Elem.{Elem};
+ghost use Rattle.apl_array.specs.declared.array.Kind.TheVariants.{Number};
+ghost use Rattle.apl_array.specs.declared.array.Elem.TheVariants.{Int};
+ghost use Rattle.apl_array.specs.Shape.{count_of, index_at};
+ghost use Rattle.apl_pool.specs.declared.kernel.Fault.{Fault};
+ghost use Rattle.apl_pool.specs.declared.kernel.TheConstants.{MOST_PLACES};
+ghost use Rattle.apl_answer.specs.Pointwise.{answer_of, IsAnswerOf};
+ghost use Rattle.apl_answer.specs.Rows.{Answers};
+ghost use Rattle.apl_search.specs.Finding.{found_outcome, member_outcome};
+ghost use Rattle.apl_search.specs.Searching.{index_of_row, member_row};
+
+use crate::finding::{Sorted, Sought};
+use crate::workers::Workers;
+use apl_answer::{OpFault, array_from_fill, fill_array, fill_uniform};
+use apl_array::{Array, Origin, places_match_index_lists};
+use apl_pool::{Cut, Fault, Gate, Kernel, Pool};
+use std::alloc::Global;
+use std::thread::Threads;
+
+/// The first place of each element in a list, counted from `first`.
+#[derive(Drop)]
+struct FirstPlaces<'a, T: Sought> {
+    elements: &'a [T],
+    list: Sorted<'a, T>,
+    first: usize,
+    ghost most: { length elements.now ≤ MOST_PLACES },
+    ghost origin: { first ≤ 1 },
+}
+
+impl<T: Sought> Kernel for FirstPlaces<'_, T> {
+    ghost use Rattle.std.specs.Prelude.{Ok, pos, ◌+◌};
+    ghost use Rattle.apl_search.specs.Finding.{first_place, element_of};
+
+    type Out = i64;
+
+    ghost place_count = { λ k. length k.elements.now };
+
+    ghost outcome = { λ k place. Ok (pos (k.first + first_place (map T.elem_of k.list.elements.now) (element_of (map T.elem_of k.elements.now) place))) };
+
+    fn count(&self) -> usize {
+        self.elements.len()
+    }
+
+    #[inline(always)]
+    fn at(&self, place: usize) -> Result<i64, Fault> {
+        let found = self.list.place(self.elements[place]);
+        Ok((self.first + found) as i64)
+    }
+}
+
+/// 1 for each element that is in a list, else 0.
+#[derive(Drop)]
+struct Members<'a, T: Sought> {
+    elements: &'a [T],
+    list: Sorted<'a, T>,
+    ghost most: { length elements.now ≤ MOST_PLACES },
+}
+
+impl<T: Sought> Kernel for Members<'_, T> {
+    ghost use Rattle.std.specs.Prelude.{Ok, pos};
+    ghost use Rattle.apl_search.specs.Finding.{member_number, element_of};
+
+    type Out = i64;
+
+    ghost place_count = { λ k. length k.elements.now };
+
+    ghost outcome = { λ k place. Ok (pos (member_number (map T.elem_of k.list.elements.now) (element_of (map T.elem_of k.elements.now) place))) };
+
+    fn count(&self) -> usize {
+        self.elements.len()
+    }
+
+    #[inline(always)]
+    fn at(&self, place: usize) -> Result<i64, Fault> {
+        let found = self.list.place(self.elements[place]);
+        Ok(i64::from(found < self.list.count()))
+    }
+}
+
+impl<R: Threads + Sync, C: Cut + Sync, G: Gate + Sync> Workers<'_, R, C, G> {
+    /// The first place in a list of each of an array's elements, counted from the origin.
+    fn first_places<T: Sought + Sync>(
+        &self,
+        list: &[T],
+        b: &Array,
+        elements: &[T],
+        origin: Origin,
+    ) -> Result<Array, OpFault>
+        requires most { length list.now ≤ MOST_PLACES }
+        requires ravel { b.now.ravel ≡ map T.elem_of elements.now }
+        ensures { IsAnswerOf (answer_of b.now.shape (found_outcome (map T.elem_of list.now) b.now origin) Number) result }
+    {
+        places_match_index_lists();
+        let list = Sorted::new(self.alloc, list)?;
+        let first = origin.number() as usize;
+        let shape = b.shape().copy(self.alloc)?;
+        let kernel = FirstPlaces {
+            elements,
+            list,
+            first,
+        };
+        fill_array(self.rt, self.alloc, self.pool, shape, &kernel)
+    }
+
+    /// 1 for each of an array's elements that is in a list, else 0.
+    fn members<T: Sought + Sync>(
+        &self,
+        a: &Array,
+        elements: &[T],
+        list: &[T],
+    ) -> Result<Array, OpFault>
+        requires most { length list.now ≤ MOST_PLACES }
+        requires ravel { a.now.ravel ≡ map T.elem_of elements.now }
+        ensures { IsAnswerOf (answer_of a.now.shape (member_outcome a.now (map T.elem_of list.now)) Number) result }
+    {
+        places_match_index_lists();
+        let list = Sorted::new(self.alloc, list)?;
+        let shape = a.shape().copy(self.alloc)?;
+        let kernel = Members { elements, list };
+        fill_array(self.rt, self.alloc, self.pool, shape, &kernel)
+    }
+
+    /// One number at all places of an array's shape.
+    fn everywhere(&self, b: &Array, number: usize) -> Result<Array, OpFault>
+        requires fits { number ≤ MOST_PLACES + 1 }
+        ensures { (outcome : List ℕ → Result Elem Fault) → ((place : ℕ) → place < count_of b.now.shape → Ok (Int (pos number)) ≡ outcome (index_at b.now.shape place))
+            → IsAnswerOf (answer_of b.now.shape outcome Number) result }
+    {
+        let shape = b.shape().copy(self.alloc)?;
+        let count = shape.count();
+        let filled = fill_uniform(self.rt, self.alloc, self.pool, count, Ok(number as i64));
+        array_from_fill(shape, filled)
+    }
+}
+
+/// `A⍳B`, index of: for each element of `B` the index of the first one in `A` that is equal, or one past the last index.
+/// Shape: that of `B`, of numbers from the origin on. Errors: RANK where `A` is no vector.
+/// Source: APL\360 User's Manual, index of.
+pub fn index_of<R: Threads + Sync, C: Cut + Sync, G: Gate + Sync>(
+    rt: &R,
+    alloc: Global,
+    pool: &Pool<C, G>,
+    a: &Array,
+    b: &Array,
+    origin: Origin,
+) -> Result<Array, OpFault>
+    ensures { Answers (index_of_row a.now b.now origin) result }
+{
+    let workers = Workers { rt, alloc, pool };
+    if a.shape().rank() != 1 {
+        return Err(OpFault::Rank);
+    }
+    places_match_index_lists();
+    let past = origin.number() as usize + a.shape().count();
+    if let Some(list) = a.numbers() {
+        let Some(elements) = b.numbers() else {
+            return workers.everywhere(b, past);
+        };
+        return workers.first_places(list, b, elements, origin);
+    }
+    let Some(list) = a.characters() else {
+        unreachable!()
+    };
+    let Some(elements) = b.characters() else {
+        return workers.everywhere(b, past);
+    };
+    workers.first_places(list, b, elements, origin)
+}
+
+/// `A∊B`, membership: 1 for each element of `A` that is in `B`, else 0.
+/// Shape: that of `A`, of numbers. Errors: none.
+/// Source: APL\360 User's Manual, membership.
+pub fn member<R: Threads + Sync, C: Cut + Sync, G: Gate + Sync>(
+    rt: &R,
+    alloc: Global,
+    pool: &Pool<C, G>,
+    a: &Array,
+    b: &Array,
+) -> Result<Array, OpFault>
+    ensures { Answers (member_row a.now b.now) result }
+{
+    let workers = Workers { rt, alloc, pool };
+    places_match_index_lists();
+    if let Some(list) = b.numbers() {
+        let Some(elements) = a.numbers() else {
+            return workers.everywhere(a, 0);
+        };
+        return workers.members(a, elements, list);
+    }
+    let Some(list) = b.characters() else {
+        unreachable!()
+    };
+    let Some(elements) = a.characters() else {
+        return workers.everywhere(a, 0);
+    };
+    workers.members(a, elements, list)
+}
