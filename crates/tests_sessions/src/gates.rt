@@ -539,14 +539,7 @@ fn meet_at_each<R: Threads + Sync>(
     for (line, text) in rows {
         let before = meeting.met();
         let mut sink = MemorySink::new(alloc, BLOCK, None);
-        let is_answered = goes_on(
-            rt,
-            alloc,
-            &pool,
-            &mut session,
-            line.as_str(),
-            &mut sink,
-        );
+        let is_answered = goes_on(rt, alloc, &pool, &mut session, line.as_str(), &mut sink);
         if !is_answered || sink.bytes() != text.as_bytes() || meeting.met() == before {
             return Err(Fail::new(format_args!("{line}")));
         }
