@@ -1,16 +1,13 @@
 -- The results of the rows are within all limits.
-use Rattle.std.proofs.Common.{◌≡◌, ◌↔◌, ◌==◌, count_by, ℕ, ℤ, ◌+◌, ◌≤◌, Bool, true, List, length, map, reverse, slice_index, sum, Ok, IfOk, eqb-true, ◌∙◌, arith}
-use Rattle.std.specs.List.{list_all, list_any, position_or_len, range_with_len}
+use Rattle.std.proofs.Common.{◌≡◌, ◌↔◌, ℕ, ◌+◌, true, List, length, map, reverse, slice_index, sum, Ok, IfOk, eqb-true, ◌∙◌, arith}
+use Rattle.std.specs.List.{list_all}
 use Rattle.std.proofs.lemmas.Bool.{and_parts}
 use Rattle.std.proofs.lemmas.List.{length-map}
-use Rattle.std.proofs.lemmas.List.FromFn.{length-range_with_len}
-use Rattle.std.proofs.lemmas.List.Sums.{prefix_len-le-length}
-use Rattle.apl_array.specs.declared.array.Elem.{Elem}
 use Rattle.apl_array.specs.declared.axis.Axis.{Axis}
 use Rattle.apl_array.specs.declared.axis.Origin.{Origin}
 use Rattle.apl_array.specs.Axes.{from_origin, origin_number, place_number, axis_of}
 use Rattle.apl_array.specs.Shape.{IsShape, IsIndexOf, is_shape, count_of}
-use Rattle.apl_array.specs.Array.{ArrayValue, element_at}
+use Rattle.apl_array.specs.Array.{ArrayValue}
 use Rattle.apl_array.specs.Range.{IsElementInRange}
 use Rattle.apl_array.specs.Limits.{IsWithinLimits}
 use Rattle.apl_answer.specs.Arguments.{rank_of, size_of, is_natural, number_of, numbers_of}
@@ -20,12 +17,10 @@ use Rattle.apl_struct.specs.Joining.{joined_rank, slices_shape, catenate_row}
 use Rattle.apl_struct.specs.Taking.{take_row, drop_row}
 use Rattle.apl_struct.specs.Moving.{reverse_row, rotate_row, transpose_row, are_all_named, transpose_by_row}
 use Rattle.apl_struct.specs.Compressing.{as_vector, replicate_row, expand_row}
-use Rattle.apl_struct.specs.Searching.{is_same_element, index_of_row, member_row}
 use Rattle.apl_struct.specs.Indexing.{Slots, selected_shape, last_choice, select_row, replace_row}
-use Rattle.apl_struct.specs.Ordering.{upwards, downwards, grade_of, stands_before, grade_row, grade_up_row, grade_down_row}
 use Rattle.apl_struct.proofs.LawfulShapes.{lawful_vector, lawful_reverse, axis_most}
 use Rattle.apl_struct.proofs.NamedAxes.{ShapeLaw, lawful_transposed}
-use Rattle.apl_struct.proofs.Ranges.{natural_in, bit_in, origin_most, element_in_in, element_at_in, element_or_fill_in, catenated_in, replaced_in, values_most}
+use Rattle.apl_struct.proofs.Ranges.{natural_in, origin_most, element_in_in, element_at_in, element_or_fill_in, catenated_in, replaced_in}
 use Rattle.apl_struct.proofs.AsVectors.{as_vector_in}
 
 -- a lawful shape and elements in the range, where the checks have passed, make a result within all limits
