@@ -17,18 +17,19 @@ pub struct Repeated {
     ghost near: { axis_length * stride ≤ MOST_STEP },
 }
 
-/// The index that follows one that came `again` times before, and how many times that came before.
+/// What the next index adds, and how many times its element is still to come.
 #[inline(always)]
-fn following(index: usize, again: usize, times: usize) -> (usize, usize)
-    requires below { again < times }
-    requires most { index ≤ MOST_PLACES }
-    ensures next { result.0 * times + result.1 ≡ index * times + again + 1 }
-    ensures below { result.1 < times }
+fn following(step: usize, left: usize, times: usize, stride: usize) -> (usize, usize)
+    requires some { 0 < left }
+    requires step { step ≤ MOST_STEP }
+    requires stride { stride ≤ MOST_STEP }
+    ensures again { 1 < left → result ≡ (step, left - 1) }
+    ensures next { left ≡ 1 → result ≡ (step + stride, times) }
 {
-    if again + 1 == times {
-        (index + 1, 0)
+    if left > 1 {
+        (step, left - 1)
     } else {
-        (index, again + 1)
+        (step + stride, times)
     }
 }
 
@@ -67,11 +68,11 @@ impl AxisMap for Repeated {
     ) {
         let times = self.times;
         let stride = self.stride;
-        let mut index = from / times;
-        let mut again = from % times;
+        let mut step = from / times * stride;
+        let mut left = times - from % times;
         for k in 0..count {
-            room[k] = elements[base + index * stride];
-            (index, again) = following(index, again, times);
+            room[k] = elements[base + step];
+            (step, left) = following(step, left, times, stride);
         }
     }
 }
