@@ -39,6 +39,9 @@ pub vector_axis : (n k : ℕ) (shape : List ℕ) → k < max 1 (length shape) �
 vector_axis n k [] axis = axis
 vector_axis n k (m ∷ shape) axis = grind (arith, axis)
 
+pub axis_of_vector : (n k : ℕ) (b : ArrayValue) → k < max 1 (length b.shape) → k < length (as_vector n b).shape
+axis_of_vector n k b axis = rw (vector_shape_is n b) (vector_axis n k b.shape axis)
+
 pub vector_filled : (b : ArrayValue) (n m place : ℕ) (j : Option ℕ) → IsArray b → length b.shape ≡ 0 → IfSome j (λ i. i < n)
     → filled_at b (option_map (λ i. 0) j) ≡ element_or_fill (as_vector n b) (option_map (slice_set (index_at (m ∷ []) place) 0) j)
 vector_filled b n m place None array none within = refl

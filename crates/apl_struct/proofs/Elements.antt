@@ -19,6 +19,10 @@ use Rattle.apl_struct.proofs.Filled.{get_or-within}
 pub filled_in : (b : ArrayValue) (place : ℕ) → IsArray b → place < count_of b.shape → filled_at b (Some place) ≡ element_in b place
 filled_in b place array inside = get_or-within b.ravel place (fill_of b.kind) (Int (pos 0)) (omega (arith, array.len))
 
+-- and at each place of an argument without elements
+pub filled_past : (b : ArrayValue) (place : ℕ) → IsArray b → count_of b.shape ≡ 0 → filled_at b (Some place) ≡ fill_of b.kind
+filled_past b place array none = ap (λ xs. get_or xs place (fill_of b.kind)) (nil_from_length b.ravel (array.len ∙ none))
+
 one_item : {T : Type 0} (xs : List T) (d : T) → length xs ≡ 1 → xs ≡ get_or xs 0 d ∷ []
 one_item [] d one = absurd (omega arith)
 one_item (x ∷ xs) d one = ap (λ l. x ∷ l) (nil_from_length xs (omega arith))
@@ -27,14 +31,22 @@ one_item (x ∷ xs) d one = ap (λ l. x ∷ l) (nil_from_length xs (omega arith)
 pub only_number : (b : ArrayValue) → IsArray b → size_of b ≡ 1 → map place_number (numbers_of b) ≡ place_number (number_of (only_element b)) ∷ []
 only_number b array one = ap (λ l. map place_number (map number_of l)) (one_item b.ravel (Int (pos 0)) (array.len ∙ one))
 
-pub some_elements : (b : ArrayValue) (count place : ℕ) → (has_elements b || (count == 0)) ≡ true → place < count → 0 < size_of b
+some_elements : (b : ArrayValue) (count place : ℕ) → (has_elements b || (count == 0)) ≡ true → place < count → 0 < size_of b
 some_elements b count place fits inside = grind (arith, nat_tests)
 
+-- the element of a list at a place, and past its end the fill, as what an argument of these elements has there
+pub filled_value : {T : Type 0} (f : T → Elem) (b : ArrayValue) (xs : List T) (fill : T) (place : ℕ) → b.ravel ≡ map f xs → f fill ≡ fill_of b.kind
+    → f (slice_index_or xs place fill) ≡ filled_at b (Some place)
+filled_value f b xs fill place ravel fill_is =
+    sym (get_or-map f xs place fill) ∙ ap (get_or (map f xs) place) fill_is ∙ ap (λ r. get_or r place (fill_of b.kind)) (sym ravel)
+
 -- the elements in row order, again and again
-pub element_round : {T : Type 0} (f : T → Elem) (b : ArrayValue) (xs : List T) (past fill : T) (extent place : ℕ) → b.ravel ≡ map f xs → length xs ≡ size_of b → 0 < size_of b
-    → slice_index_or xs (place % extent) past ≡ slice_index_or xs (place % length xs) fill → f (slice_index_or xs (place % extent) past) ≡ element_in b (reshape_source (size_of b) place)
-element_round f b xs past fill extent place ravel size some is =
-    let all : place % length xs < length xs = mod-lt place (omega (arith, size, some)) in
-    let longer : place % length xs < length (map f xs) = omega (arith, all, length-map xs f) in
-    ap f is ∙ sym (get_or-map f xs (place % length xs) fill) ∙ get_or-within (map f xs) (place % length xs) (f fill) (Int (pos 0)) longer
-    ∙ ap (λ r. get_or r (place % length xs) (Int (pos 0))) (sym ravel) ∙ ap (λ n. element_in b (place % n)) size
+pub element_round : {T : Type 0} (f : T → Elem) (b : ArrayValue) (xs : List T) (past fill : T) (extent place : ℕ) → b.ravel ≡ map f xs → length xs ≡ size_of b
+    → f fill ≡ fill_of b.kind → slice_index_or xs (place % extent) past ≡ slice_index_or xs (place % length xs) fill
+    → f (slice_index_or xs (place % extent) past) ≡ filled_at b (Some (reshape_source (size_of b) place))
+element_round f b xs past fill extent place ravel size fill_is is =
+    ap f is ∙ filled_value f b xs fill (place % length xs) ravel fill_is ∙ ap (λ n. filled_at b (Some (place % n))) size
+
+pub element_again : (b : ArrayValue) (count place : ℕ) → IsArray b → (has_elements b || (count == 0)) ≡ true → place < count
+    → filled_at b (Some (reshape_source (size_of b) place)) ≡ element_in b (reshape_source (size_of b) place)
+element_again b count place array fits inside = filled_in b (place % size_of b) array (mod-lt place (some_elements b count place fits inside))

@@ -1,6 +1,7 @@
 -- The elements along an axis, by their places.
 use Rattle.std.proofs.Common.{◌≡◌, get_or, pos, ℕ, zero, suc, ◌+◌, ◌*◌, ◌/◌, ◌%◌, ◌<◌, List, [], ◌∷◌, length, drop, slice_index, refl, ap, ◌∙◌, arith}
-use Rattle.std.specs.Prelude.{slice_set, Option, Some, None, option_map, IfSome, ◌≤◌, ◌^◌}
+use Rattle.std.specs.Prelude.{slice_set, take, Option, Some, None, option_map, IfSome, ◌≤◌, ◌^◌}
+use Rattle.std.proofs.lemmas.Grind.{get_or-set_at}
 use Rattle.std.proofs.lemmas.List.{nil_from_length}
 use Rattle.std.proofs.lemmas.Nat.{div-mul-add}
 use Rattle.std.proofs.Math.Nat.{le-mul_of_pos_right}
@@ -76,8 +77,32 @@ filled_scalar b index place array none inside =
     rw (only, first) (get_or-within b.ravel 0 (fill_of b.kind) (Int (pos 0)) (omega (arith, array.len, one)))
 
 -- how many index lists the axes to the left of one have
-pub outer_is : (outer m inner count : ℕ) → count ≡ outer * m * inner → 0 < m → 0 < inner → count / (m * inner) ≡ outer
+outer_is : (outer m inner count : ℕ) → count ≡ outer * m * inner → 0 < m → 0 < inner → count / (m * inner) ≡ outer
 outer_is outer m inner count is some wide =
     let block_some : 0 < m * inner = omega (arith, le-mul_of_pos_right m wide, some) in
     let all : count ≡ outer * (m * inner) + 0 = omega (arith, is) in
     rw all (div-mul-add outer (m * inner) 0 block_some)
+
+-- what the steps along axis k are where a result with elements has m indexes there
+pub record AreSteps (shape : List ℕ) (k m count long apart block : ℕ) : Type 0 where
+  pub long_is : long ≡ m
+  pub apart_is : apart ≡ count_of (drop (k + 1) shape)
+  pub block_is : block ≡ slice_index shape k * count_of (drop (k + 1) shape)
+  pub outer_is : count / (long * apart) ≡ count_of (take k shape)
+  pub count_is : count ≡ count_of (take k shape) * m * count_of (drop (k + 1) shape)
+
+pub are_steps : (shape changed argument : List ℕ) (k m count long apart block : ℕ) → k < length shape → changed ≡ slice_set shape k m → argument ≡ shape
+    → count ≡ count_of changed → count_of (slice_set shape k m) ≡ count_of (take k shape) * m * count_of (drop (k + 1) shape)
+    → long ≡ slice_index changed k → apart ≡ count_of (drop (k + 1) argument) → block ≡ slice_index argument k * count_of (drop (k + 1) argument)
+    → 0 < long → 0 < apart → AreSteps shape k m count long apart block
+are_steps shape changed argument k m count long apart block axis changed_is argument_is count_is all long_is apart_is block_is wide some =
+    let is : long ≡ m = long_is ∙ ap (λ s. slice_index s k) changed_is ∙ get_or-set_at shape k k m _ refl axis in
+    let inner : apart ≡ count_of (drop (k + 1) shape) = apart_is ∙ ap (λ s. count_of (drop (k + 1) s)) argument_is in
+    let whole : count ≡ count_of (take k shape) * m * count_of (drop (k + 1) shape) = count_is ∙ ap count_of changed_is ∙ all in
+    record {
+      long_is = is;
+      apart_is = inner;
+      block_is = block_is ∙ ap (λ s. slice_index s k * count_of (drop (k + 1) s)) argument_is;
+      outer_is = rw (is, inner) (outer_is (count_of (take k shape)) m (count_of (drop (k + 1) shape)) count whole (omega (arith, is, wide)) (omega (arith, inner, some)));
+      count_is = whole;
+    }

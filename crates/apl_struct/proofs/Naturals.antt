@@ -15,13 +15,6 @@ pub natural_is : (z : ℤ) → to_z w64 (of_z w64 z) ≡ z → int_lt (to_z w64 
 natural_is (pos n) turned least = refl
 natural_is (negsuc n) turned least = absurd (true≢false (sym (ap (λ z. int_lt z (pos 0)) turned) ∙ least))
 
-none_below : (n : ℕ) → int_lt (pos n) (pos 0) ≡ false
-none_below n = grind arith
-
-pub natural_not : (z : ℤ) → to_z w64 (of_z w64 z) ≡ z → int_lt (to_z w64 (of_z w64 z)) (pos 0) ≡ true → is_natural z ≡ false
-natural_not (pos n) turned below = absurd (true≢false (sym below ∙ ap (λ z. int_lt z (pos 0)) turned ∙ none_below n))
-natural_not (negsuc n) turned below = refl
-
 same_number : (z : ℤ) → is_natural z ≡ true → nat_abs z ≡ place_number z
 same_number (pos n) natural = refl
 same_number (negsuc n) natural = absurd (true≢false (sym natural))

@@ -6,19 +6,7 @@ use Rattle.std.proofs.lemmas.Nat.{div-add-mod', div-mul-add, mod-mul-add}
 use Rattle.std.proofs.lemmas.List.{get_or-set_same, drop-set-lt, length-set}
 use Rattle.apl_array.specs.Shape.{IsIndexOf, count_of, place_of, index_at}
 use Rattle.apl_struct.specs.Along.{line_index, line_number}
-
-pos_left : (m n : ℕ) → 0 < m * n → 0 < m
-pos_left zero n h = absurd (omega (arith, h))
-pos_left (suc m) n h = omega arith
-
-pos_right : (m n : ℕ) → 0 < m * n → 0 < n
-pos_right m zero h = absurd (omega (arith, h))
-pos_right m (suc n) h = omega arith
-
-pub remove-slice_set : (xs : List ℕ) (k m : ℕ) → remove (slice_set xs k m) k ≡ remove xs k
-remove-slice_set [] k m = refl
-remove-slice_set (x ∷ xs) zero m = refl
-remove-slice_set (x ∷ xs) (suc k) m = ap (λ ys. x ∷ ys) (remove-slice_set xs k m)
+use Rattle.apl_struct.proofs.Taken.{pos_left, pos_right}
 
 remove-insert : (xs : List ℕ) (k i : ℕ) → k ≤ length xs → remove (insert xs k i) k ≡ xs
 remove-insert xs zero i inside = refl
@@ -83,14 +71,3 @@ module _ (below : (shape index : List ℕ) → IsIndexOf shape index → place_o
       let long : k ≤ length base = omega (arith, base_lawful.len, length-remove shape k axis) in
       let back : remove (index_at shape place) k ≡ base = ap (λ x. remove x k) is ∙ remove-insert base k i long in
       sym (ap (place_of (remove shape k)) back ∙ same_place (remove shape k) p p_below)
-
-  -- the same where the axis has another length
-  pub line_along : (shape : List ℕ) (k m place q : ℕ) → k < length shape → place < count_of (slice_set shape k m)
-      → count_of (slice_set shape k m) ≡ q * m * count_of (drop (k + 1) shape) → count_of (remove shape k) ≡ q * count_of (drop (k + 1) shape)
-      → line_number m (count_of (drop (k + 1) shape)) place ≡ place_of (remove shape k) (remove (index_at (slice_set shape k m) place) k)
-  line_along shape k m place q axis inside all others =
-      let changed = slice_set shape k m in
-      let at_k : slice_index changed k ≡ m = get_or-set_same shape k m 0 axis in
-      let kept : drop (k + 1) changed ≡ drop (k + 1) shape = drop-set-lt (k + 1) shape k m (omega arith) in
-      let same : remove changed k ≡ remove shape k = remove-slice_set shape k m in
-      rw (at_k, kept, same) at (line_is changed k place q (omega (arith, axis, length-set shape k m)) inside (rw (at_k, kept) all) (rw (same, kept) others))

@@ -31,11 +31,6 @@ count_drop_some shape zero some = some
 count_drop_some [] (suc k) some = some
 count_drop_some (n ∷ ns) (suc k) some = count_drop_some ns k (pos_right n (count_of ns) some)
 
-pub axis_some : (shape : List ℕ) (k : ℕ) → k < length shape → 0 < count_of shape → 0 < slice_index shape k
-axis_some [] k inside some = absurd (omega arith)
-axis_some (n ∷ ns) zero inside some = pos_left n (count_of ns) some
-axis_some (n ∷ ns) (suc k) inside some = axis_some ns k (omega arith) (pos_right n (count_of ns) some)
-
 -- the elements from an axis on
 from_here : {T : Type 0} (xs : List T) (k : ℕ) (d : T) → k < length xs → drop k xs ≡ get_or xs k d ∷ drop (suc k) xs
 from_here [] k d inside = absurd (omega arith)

@@ -4,11 +4,11 @@ use Rattle.std.specs.Prelude.{◌≤◌, List, [], ◌∷◌, map, nat_lt, nat_a
 use Rattle.std.specs.Int.{int_rem_euclid}
 use Rattle.std.proofs.lemmas.Bool.{cases_lt}
 use Rattle.std.proofs.lemmas.Int.{ints, int_rem_euclid_is}
-use Rattle.std.proofs.Math.Nat.{mod-lt, mod-eq_of_lt, mod-eq-sub-mod, add-mod-mod, mod-add-div'}
+use Rattle.std.proofs.Math.Nat.{div-one, div-div-eq-div-mul, mod-one, mod-lt, mod-eq_of_lt, mod-eq-sub-mod, add-mod-mod, mod-add-div'}
 use Rattle.apl_array.specs.Axes.{place_number}
 use Rattle.apl_struct.specs.Moving.{rotated_index}
-use Rattle.apl_struct.specs.Rotation.{rotation_of}
-use Rattle.apl_walk.specs.Steps.{wrapped}
+use Rattle.apl_struct.specs.Rotation.{rotation_of, turned_place}
+use Rattle.apl_walk.specs.Steps.{wrapped, rotated_place}
 
 pub wrapped_is : (n j : ℕ) → 0 < n → j < n + n → j % n ≡ wrapped n j
 wrapped_is n j some below =
@@ -67,3 +67,20 @@ rotation_at_line n (z ∷ zs) (suc line) = rotation_at_line n zs line
 
 pub rotation_at_line_most : (n : ℕ) (rotations : List ℤ) (line : ℕ) → slice_index (map (rotation_of n) rotations) line ≤ n
 rotation_at_line_most n rotations line = rw (rotation_at_line n rotations line) (rotation_most n (slice_index_or rotations line (pos 0)))
+
+-- the places that rotated rows and columns take
+pub turned_row : (n inner : ℕ) (by : List ℕ) (place : ℕ) → inner ≡ 1 → rotated_place n by (place / n) (place / n) (place % n) ≡ turned_place n inner by place
+turned_row n inner by place only =
+    let row : rotated_place n by (place / n) (place / n) (place % n) ≡ place / n * n + wrapped n (place % n + slice_index by (place / n)) = refl in
+    let whole : place / 1 ≡ place = div-one place in
+    let left : place % 1 ≡ 0 = mod-one place in
+    let wide : n * 1 ≡ n = omega arith in
+    let line : place / n * 1 + 0 ≡ place / n = omega arith in
+    rw (only, whole, left, wide, line) (omega arith)
+
+pub turned_column : (n inner : ℕ) (by : List ℕ) (place : ℕ)
+    → rotated_place n by (place / inner / n) (place / inner / n * inner + place % inner) (place / inner % n) * inner + place % inner ≡ turned_place n inner by place
+turned_column n inner by place =
+    let turned : inner * n ≡ n * inner = omega arith in
+    let split : place / inner / n ≡ place / (n * inner) = div-div-eq-div-mul place inner n ∙ ap (λ d. place / d) turned in
+    rw split (omega arith)

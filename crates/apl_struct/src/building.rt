@@ -1,21 +1,21 @@
 //! Shapes, elements in row order, other shapes, and numbers from the origin.
-ghost use Rattle.std.specs.Prelude.{◌≡◌, ℕ, ◌≤◌, ◌<◌, ◌==◌, ◌⊎◌, ◌||◌, List, [], ◌∷◌, map, not, true, false, Ok, MatchResult};
+ghost use Rattle.std.specs.Prelude.{◌≡◌, ℕ, ◌≤◌, ◌<◌, ◌==◌, ◌⊎◌, ◌||◌, List, [], ◌∷◌, map, not, true, false, Ok, Some, MatchResult};
 ghost use Rattle.std.specs.List.{list_all};
 ghost use Rattle.apl_array.specs.Axes.{place_number};
 ghost use Rattle.apl_array.specs.declared.array.Elem.{Elem};
 ghost use Rattle.apl_array.specs.Shape.{is_shape, count_of, index_at};
-ghost use Rattle.apl_array.specs.Array.{element_in};
 ghost use Rattle.apl_array.specs.declared.shape.TheConstants.{MOST_ELEMENTS};
 ghost use Rattle.apl_pool.specs.declared.kernel.TheConstants.{MOST_PLACES};
 ghost use Rattle.apl_answer.specs.declared.fault.OpFault.TheVariants.{Limit, Memory};
 ghost use Rattle.apl_answer.specs.Arguments.{has_elements, is_natural, size_of};
 ghost use Rattle.apl_answer.specs.Pointwise.{answer_of, IsAnswerOf};
 ghost use Rattle.apl_answer.specs.Rows.{Answers};
+ghost use Rattle.apl_walk.specs.Gathered.{filled_at};
 ghost use Rattle.apl_struct.specs.Building.{shape_of_row, ravel_row, reshape_source, reshape_row, iota_row};
 
 use crate::arguments::numbers_among;
 use crate::workers::Workers;
-use apl_answer::{Element, OpFault, fill_array};
+use apl_answer::{Element, OpFault, array_of_elements, fill_array};
 use apl_array::{Array, MOST_AXES, MOST_ELEMENTS, Origin, Shape, places_match_index_lists};
 use apl_pool::{Cut, Fault, Gate, Kernel, Pool};
 use apl_walk::{ByLines, Round};
@@ -85,9 +85,8 @@ pub fn ravel<R: Threads + Sync, C: Cut + Sync, G: Gate + Sync>(
 ) -> Result<Array, OpFault>
     ensures { Answers (ravel_row b.now) result }
 {
-    let workers = Workers { rt, alloc, pool };
-    let count = b.shape().count();
-    workers.repeat(vector_shape(alloc, count), b)
+    let shape = vector_shape(alloc, b.shape().count());
+    array_of_elements(rt, alloc, pool, shape, b)
 }
 
 impl<R: Threads + Sync, C: Cut + Sync, G: Gate + Sync> Workers<'_, R, C, G> {
@@ -99,8 +98,7 @@ impl<R: Threads + Sync, C: Cut + Sync, G: Gate + Sync> Workers<'_, R, C, G> {
     ) -> Result<Array, OpFault>
         requires kind { b.now.kind ≡ T.kind }
         requires ravel { b.now.ravel ≡ map T.elem_of elements.now }
-        requires fits { (has_elements b.now || (count_of shape == 0)) ≡ true }
-        ensures { (element : List ℕ → Elem) → ((place : ℕ) → place < count_of shape → element_in b.now (reshape_source (size_of b.now) place) ≡ element (index_at shape place))
+        ensures { (element : List ℕ → Elem) → ((place : ℕ) → place < count_of shape → filled_at b.now (Some (reshape_source (size_of b.now) place)) ≡ element (index_at shape place))
             → IsAnswerOf (answer_of shape (λ index. Ok (element index)) b.now.kind) result }
     {
         // An array that was asked something is known to be lawful.
@@ -109,10 +107,9 @@ impl<R: Threads + Sync, C: Cut + Sync, G: Gate + Sync> Workers<'_, R, C, G> {
         fill_array(self.rt, self.alloc, self.pool, shape, &kernel)
     }
 
-    /// The array of this shape with the elements of an argument in row order, again and again.
-    fn repeat(&self, shape: Shape, b: &Array) -> Result<Array, OpFault>
-        requires fits { (has_elements b.now || (count_of shape == 0)) ≡ true }
-        ensures { (element : List ℕ → Elem) → ((place : ℕ) → place < count_of shape → element_in b.now (reshape_source (size_of b.now) place) ≡ element (index_at shape place))
+    /// The array of this shape with the elements of an argument in row order, again and again, and fills where it has none.
+    pub(crate) fn repeat(&self, shape: Shape, b: &Array) -> Result<Array, OpFault>
+        ensures { (element : List ℕ → Elem) → ((place : ℕ) → place < count_of shape → filled_at b.now (Some (reshape_source (size_of b.now) place)) ≡ element (index_at shape place))
             → IsAnswerOf (answer_of shape (λ index. Ok (element index)) b.now.kind) result }
     {
         match b.numbers() {

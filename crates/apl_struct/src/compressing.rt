@@ -11,7 +11,6 @@ ghost use Rattle.apl_struct.specs.Compressing.{as_vector, repeated_indexes, repl
 ghost use Rattle.apl_struct.specs.Replicating.{replicated};
 
 use crate::arguments::numbers_among;
-use crate::gather::Absent;
 use crate::repeating::{capped_product, capped_sum, kept_indexes, listed_indexes};
 use crate::scalars::{shape_with_axis, vector_length, vector_rank, vector_stride};
 use crate::workers::Workers;
@@ -78,7 +77,7 @@ impl<R: Threads + Sync, C: Cut + Sync, G: Gate + Sync> Workers<'_, R, C, G> {
         };
         let shape = shape_with_axis(self.alloc, b, k, extent)?;
         if shape.count() == 0 {
-            return self.gather(shape, b, Absent { count: 0 });
+            return self.empty(shape, b);
         }
         let indexes = listed_indexes(self.alloc, counts, extent)?;
         self.gather_repeated(shape, b, k, counts, indexes.as_slice())
@@ -104,7 +103,7 @@ impl<R: Threads + Sync, C: Cut + Sync, G: Gate + Sync> Workers<'_, R, C, G> {
         let extent = capped_product(length, times);
         let shape = shape_with_axis(self.alloc, b, k, extent)?;
         if shape.count() == 0 {
-            return self.gather(shape, b, Absent { count: 0 });
+            return self.empty(shape, b);
         }
         let stride = vector_stride(b, &shape, k);
         let map = Repeated {

@@ -9,7 +9,6 @@ ghost use Rattle.apl_struct.specs.Indexing.{is_slot_of_numbers, is_slot_within, 
 ghost use Rattle.apl_struct.specs.Selecting.{IsJudged, IsSelection};
 
 use crate::arguments::numbers_among;
-use crate::gather::Absent;
 use crate::selecting::{are_arrays, selected_walk};
 use crate::workers::Workers;
 use apl_answer::OpFault;
@@ -142,9 +141,8 @@ impl<R: Threads + Sync, C: Cut + Sync, G: Gate + Sync> Workers<'_, R, C, G> {
         requires { IsSelection a.now (map option_copied slots.now) origin shape }
         ensures { IsAnswerOf (answer_of shape (λ index. Ok (element_at a.now (select_source origin (map option_copied slots.now) index))) a.now.kind) result }
     {
-        let count = shape.count();
-        if count == 0 {
-            return self.gather(shape, a, Absent { count });
+        if shape.count() == 0 {
+            return self.empty(shape, a);
         }
         places_match_index_lists();
         are_arrays(slots);

@@ -13,7 +13,6 @@ mod gather;
 mod indexing;
 mod joining;
 mod laws;
-mod lines;
 mod moving;
 mod named;
 mod permuting;

@@ -4,7 +4,6 @@ ghost use Rattle.apl_answer.specs.Rows.{Answers};
 ghost use Rattle.apl_struct.specs.Moving.{reverse_row};
 
 use crate::along::{Steps, steps_along};
-use crate::gather::Absent;
 use crate::workers::Workers;
 use apl_answer::OpFault;
 use apl_array::{Array, Axis};
@@ -33,9 +32,8 @@ pub fn reverse<R: Threads + Sync, C: Cut + Sync, G: Gate + Sync>(
         return workers.gather_scalar(b);
     }
     let shape = b.shape().copy(alloc)?;
-    let count = shape.count();
-    if count == 0 {
-        return workers.gather(shape, b, Absent { count });
+    if shape.count() == 0 {
+        return workers.empty(shape, b);
     }
     let Steps { length, inner, .. } = steps_along(b.shape(), &shape, k);
     let map = Map::Reversed(Reversed::new(length, inner));

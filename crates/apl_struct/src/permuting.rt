@@ -14,7 +14,6 @@ ghost use Rattle.apl_walk.specs.Maps.{extent_of, walked};
 ghost use Rattle.apl_walk.specs.Walks.{maps_of};
 
 use crate::arguments::numbers_among;
-use crate::gather::Absent;
 use crate::named::{are_all_named, are_from_origin, axes_named, named_axes};
 use crate::shapes::lawful_shape;
 use crate::workers::Workers;
@@ -78,9 +77,8 @@ impl<R: Threads + Sync, C: Cut + Sync, G: Gate + Sync> Workers<'_, R, C, G> {
         transposed_index_has_place();
         // An array that was asked something is known to be lawful.
         let _kind = b.kind();
-        let count = shape.count();
-        if count == 0 {
-            return self.gather(shape, b, Absent { count });
+        if shape.count() == 0 {
+            return self.empty(shape, b);
         }
         let walk = transposed_walk(self.alloc, &shape, b.shape(), axes)?;
         self.gather_walk(shape, b, walk)

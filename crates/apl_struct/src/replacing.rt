@@ -25,6 +25,17 @@ use apl_walk::{AxisMap, Map, element_or, start_at};
 use std::alloc::Global;
 use std::thread::Threads;
 
+/// The element at a place, and the fill beyond the end.
+#[inline(always)]
+fn element_or<T: Element>(elements: &[T], place: usize, fill: T) -> T
+    ensures { result ≡ slice_index_or elements.now place fill }
+{
+    match elements.get(place) {
+        Some(element) => *element,
+        None => fill,
+    }
+}
+
 /// At each place the number, from 1, of the value that stays there, or 0 for none.
 pub(crate) trait Numbers {
     // How many places there are.

@@ -1,25 +1,29 @@
 //! Rotated lines.
-ghost use Rattle.std.specs.Prelude.{◌≡◌, ◌||◌, ◌==◌, ◌⊎◌, true, ℕ, pos, ◌+◌, ◌%◌, ◌<◌, ◌≤◌, List, Ok, IfOk, map, length, slice_index, slice_index_or, remove};
+ghost use Rattle.std.specs.Prelude.{◌≡◌, ◌||◌, ◌==◌, ◌⊎◌, true, ℕ, pos, ◌+◌, ◌%◌, ◌<◌, ◌≤◌, List, Ok, Some, IfOk, map, length, slice_index, slice_index_or, remove};
 ghost use Rattle.apl_array.specs.declared.array.Elem.{Elem};
 ghost use Rattle.apl_array.specs.Array.{element_at};
-ghost use Rattle.apl_array.specs.Shape.{IsIndexOf, place_of};
+ghost use Rattle.apl_array.specs.Shape.{IsIndexOf, count_of, index_at, place_of};
 ghost use Rattle.apl_pool.specs.declared.kernel.TheConstants.{MOST_PLACES};
 ghost use Rattle.apl_answer.specs.Arguments.{is_same_shape, has_one_element, rank_of};
 ghost use Rattle.apl_answer.specs.Pointwise.{answer_of, IsAnswerOf};
 ghost use Rattle.apl_answer.specs.Rows.{Answers};
 ghost use Rattle.apl_struct.specs.Gathering.{along_axis};
 ghost use Rattle.apl_struct.specs.Moving.{rotated_index, rotate_row};
-ghost use Rattle.apl_struct.specs.Rotation.{rotation_of};
+ghost use Rattle.apl_struct.specs.Rotation.{rotation_of, turned_place};
+ghost use Rattle.apl_walk.specs.Gathered.{filled_at};
 ghost use Rattle.apl_walk.specs.Steps.{wrapped};
 
-use crate::along::{Indexes, Steps, steps_along};
+use crate::along::{Steps, steps_along};
 use crate::arguments::{is_without_axis, numbers_among};
-use crate::gather::Absent;
 use crate::workers::Workers;
-use apl_answer::OpFault;
-use apl_array::{Array, Axis};
+use apl_answer::{Element, OpFault, fill_array};
+use apl_array::{
+    Array, Axis, Shape, inserted_index_has_place, places_match_index_lists,
+    replaced_index_has_place, split_index_has_place,
+};
+use apl_divisor::Divisor;
 use apl_pool::{Cut, Gate, Pool};
-use apl_walk::{Map, Rotated};
+use apl_walk::{ByLines, Map, Rotated, RotatedColumns, RotatedRows, Rotations};
 use std::alloc::{AllocError, Global};
 use std::thread::Threads;
 
@@ -51,38 +55,6 @@ fn rotations_within(
         .collect(alloc)
 }
 
-/// Each line rotated by a number of its own.
-#[derive(Drop)]
-struct RotatedEach<'a> {
-    length: usize,
-    by: &'a [usize],
-    ghost most: { length ≤ MOST_PLACES },
-    ghost below: { (line : ℕ) → slice_index by.now line ≤ length },
-}
-
-impl Indexes for RotatedEach<'_> {
-    ghost use Rattle.std.specs.Prelude.{Some};
-    ghost use Rattle.apl_walk.specs.Steps.{wrapped};
-
-    ghost extent = { λ r. r.length };
-
-    ghost reach = { λ r. r.length };
-
-    ghost index = { λ r line i. Some (wrapped r.length (i + slice_index r.by.now line)) };
-
-    #[inline(always)]
-    fn at(&self, line: usize, i: usize) -> Option<usize> {
-        let by = match self.by.get(line) {
-            Some(by) => *by,
-            None => 0,
-        };
-        let j = i + by;
-        Some(if j < self.length { j } else { j - self.length })
-    }
-
-    fn are_lawful(&self) {}
-}
-
 impl<R: Threads + Sync, C: Cut + Sync, G: Gate + Sync> Workers<'_, R, C, G> {
     /// All lines along axis `k` rotated by one number.
     fn rotate_all(&self, b: &Array, k: usize, rotation: i64) -> Result<Array, OpFault>
@@ -91,9 +63,8 @@ impl<R: Threads + Sync, C: Cut + Sync, G: Gate + Sync> Workers<'_, R, C, G> {
             → IsAnswerOf (answer_of b.now.shape (λ index. Ok (element index)) b.now.kind) result }
     {
         let shape = b.shape().copy(self.alloc)?;
-        let count = shape.count();
-        if count == 0 {
-            return self.gather(shape, b, Absent { count });
+        if shape.count() == 0 {
+            return self.empty(shape, b);
         }
         let Steps { length, inner, .. } = steps_along(b.shape(), &shape, k);
         let by = rotation_within(rotation, length);
@@ -105,6 +76,70 @@ impl<R: Threads + Sync, C: Cut + Sync, G: Gate + Sync> Workers<'_, R, C, G> {
         self.gather_mapped(shape, b, k, map)
     }
 
+    /// An argument whose lines along an axis are rotated, where neighbours along it are `inner` apart.
+    fn rotate_elements<T: Element + Send + Sync>(
+        &self,
+        shape: Shape,
+        b: &Array,
+        elements: &[T],
+        rotations: Rotations,
+        inner: usize,
+    ) -> Result<Array, OpFault>
+        requires some { 0 < inner }
+        requires most { inner ≤ MOST_PLACES }
+        requires kind { b.now.kind ≡ T.kind }
+        requires ravel { b.now.ravel ≡ map T.elem_of elements.now }
+        ensures { (element : List ℕ → Elem)
+            → ((place : ℕ) → place < count_of shape → filled_at b.now (Some (turned_place rotations.entry.length inner rotations.entry.by.now place)) ≡ element (index_at shape place))
+            → IsAnswerOf (answer_of shape (λ index. Ok (element index)) b.now.kind) result }
+    {
+        let count = shape.count();
+        let past = T::fill();
+        if inner == 1 {
+            let rows = ByLines::new(RotatedRows {
+                elements,
+                past,
+                rotations,
+                count,
+            });
+            return fill_array(self.rt, self.alloc, self.pool, shape, &rows);
+        }
+        let columns = ByLines::new(RotatedColumns {
+            elements,
+            past,
+            rotations,
+            length: Divisor::new(rotations.length),
+            inner,
+            count,
+        });
+        fill_array(self.rt, self.alloc, self.pool, shape, &columns)
+    }
+
+    /// The same, of whatever kind.
+    fn rotate_lines(
+        &self,
+        shape: Shape,
+        b: &Array,
+        rotations: Rotations,
+        inner: usize,
+    ) -> Result<Array, OpFault>
+        requires some { 0 < inner }
+        requires most { inner ≤ MOST_PLACES }
+        ensures { (element : List ℕ → Elem)
+            → ((place : ℕ) → place < count_of shape → filled_at b.now (Some (turned_place rotations.entry.length inner rotations.entry.by.now place)) ≡ element (index_at shape place))
+            → IsAnswerOf (answer_of shape (λ index. Ok (element index)) b.now.kind) result }
+    {
+        match b.numbers() {
+            Some(numbers) => self.rotate_elements(shape, b, numbers, rotations, inner),
+            None => {
+                let Some(characters) = b.characters() else {
+                    unreachable!()
+                };
+                self.rotate_elements(shape, b, characters, rotations, inner)
+            }
+        }
+    }
+
     /// Each line along axis `k` rotated by a number of its own.
     fn rotate_each(&self, b: &Array, k: usize, rotations: &[i64]) -> Result<Array, OpFault>
         requires { k < length b.now.shape }
@@ -112,14 +147,18 @@ impl<R: Threads + Sync, C: Cut + Sync, G: Gate + Sync> Workers<'_, R, C, G> {
             → ((index : List ℕ) → element_at b.now (along_axis k (rotated_index (slice_index_or rotations.now (place_of (remove b.now.shape k) (remove index k)) (pos 0)) (slice_index b.now.shape k)) index) ≡ element index)
             → IsAnswerOf (answer_of b.now.shape (λ index. Ok (element index)) b.now.kind) result }
     {
+        places_match_index_lists();
+        inserted_index_has_place();
+        replaced_index_has_place();
+        split_index_has_place();
         let shape = b.shape().copy(self.alloc)?;
-        let length = shape.axis(k);
+        if shape.count() == 0 {
+            return self.empty(shape, b);
+        }
+        let Steps { length, inner, .. } = steps_along(b.shape(), &shape, k);
         let by = rotations_within(self.alloc, rotations, length)?;
-        let indexes = RotatedEach {
-            length,
-            by: by.as_slice(),
-        };
-        self.gather_along(shape, b, k, indexes)
+        let by = by.as_slice();
+        self.rotate_lines(shape, b, Rotations { by, length }, inner)
     }
 }
 

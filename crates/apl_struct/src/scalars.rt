@@ -11,7 +11,6 @@ ghost use Rattle.apl_struct.specs.Scalars.{entry_index, vector_stride};
 ghost use Rattle.apl_walk.specs.Maps.{map_extent, map_step};
 
 use crate::along::steps_along;
-use crate::gather::Absent;
 use crate::workers::Workers;
 use apl_answer::OpFault;
 use apl_array::{Array, Shape, places_match_index_lists};
@@ -136,7 +135,7 @@ impl<R: Threads + Sync, C: Cut + Sync, G: Gate + Sync> Workers<'_, R, C, G> {
             → IsAnswerOf (answer_of shape (λ index. Ok (element index)) b.now.kind) result }
     {
         if shape.count() == 0 {
-            return self.gather(shape, b, Absent { count: 0 });
+            return self.empty(shape, b);
         }
         let stride = vector_stride(b, &shape, k);
         let map = ListedOrNone {

@@ -14,7 +14,6 @@ ghost use Rattle.apl_walk.specs.Walks.{maps_of};
 ghost use Rattle.apl_struct.specs.Shaped.{with_shape, left_number, left_numbers};
 
 use crate::arguments::numbers_among;
-use crate::gather::Absent;
 use crate::shapes::lawful_shape;
 use crate::workers::Workers;
 use apl_answer::OpFault;
@@ -167,7 +166,7 @@ impl<R: Threads + Sync, C: Cut + Sync, G: Gate + Sync> Workers<'_, R, C, G> {
         let _kind = b.kind();
         let count = shape.count();
         if count == 0 || argument.count() == 0 {
-            return self.gather(shape, b, Absent { count });
+            return self.repeat(shape, b);
         }
         let walk = taken_walk(self.alloc, numbers, argument)?;
         self.gather_walk(shape, b, walk)

@@ -70,6 +70,7 @@ fn small_arrays(rt: HostRuntime) -> Result<(), Fail> {
         (walks::BUILT, 28),
         (walks::SELECTED, 40),
         (walks::REPLACED, 16),
+        (walks::ROTATED, 18),
     ];
     check_small(&rt, rt.alloc(), &tables)?;
     one_grade();

@@ -7,6 +7,7 @@ use Rattle.apl_array.specs.Array.{element_in}
 use Rattle.apl_answer.specs.Arguments.{is_list, is_natural, has_elements, numbers_of, size_of}
 use Rattle.apl_answer.specs.Pointwise.{answer_of, IsAnswerOf}
 use Rattle.apl_struct.specs.Building.{reshape_source, reshape_row}
+use Rattle.apl_struct.proofs.Elements.{element_again}
 use Rattle.apl_struct.proofs.Passing.{answered}
 use Rattle.apl_struct.proofs.building.reshape.Goals as goal
 
@@ -24,5 +25,7 @@ returns g c =
     let fits : (has_elements b || (count_of shape == 0)) ≡ true = search rules in
     let P : List ℕ → Type 0 = λ s. IsAnswerOf (answer_of s (λ index. Ok (element_in b (reshape_source (size_of b) (place_of s index)))) b.kind) c.repeat.result in
     let repeated : P c.in_ok-shape.shape =
-    c.repeat.ensures _ (λ place inside. ap (λ p. element_in b (reshape_source (size_of b) p)) (sym (c.places_match_index_lists.ensures.same_place c.in_ok-shape.shape place inside))) in
+    c.repeat.ensures _ (λ place inside.
+    element_again b (count_of c.in_ok-shape.shape) place c.shape.ensures.lawful (rw (sym shapes) at fits) inside
+    ∙ ap (λ p. element_in b (reshape_source (size_of b) p)) (sym (c.places_match_index_lists.ensures.same_place c.in_ok-shape.shape place inside))) in
     answered row.checks (answer_of row.shape row.outcome row.kind) c.repeat.result (list, (c.in-Some.ensures.0, (natural, (lawful, (fits, tt))))) (subst P shapes repeated)

@@ -9,7 +9,7 @@ use Rattle.apl_answer.specs.Pointwise.{answer_of, IsAnswerOf}
 use Rattle.apl_struct.specs.Compressing.{as_vector, expanded_index}
 use Rattle.apl_struct.specs.Gathering.{element_or_fill, along_axis_or_none}
 use Rattle.apl_struct.specs.Scalars.{entry_index}
-use Rattle.apl_struct.proofs.AsVectors.{vector_shape_is, vector_axis}
+use Rattle.apl_struct.proofs.AsVectors.{axis_of_vector}
 use Rattle.apl_struct.proofs.Bits.{entry_is}
 use Rattle.apl_struct.proofs.expanding.expand.Goals as goal
 
@@ -47,7 +47,7 @@ returns g c =
     (λ below. omega (arith, below, c.vector_rank.ensures.rank))
     (λ none. absurd (omega (arith, none, c.vector_rank.ensures.rank)))
     c.in-Some.ensures.2 in
-    let axis : j < length vector.shape = rw (vector_shape_is (sum counts) b) (vector_axis (sum counts) j b.shape within) in
+    let axis : j < length vector.shape = axis_of_vector (sum counts) j b within in
     let P : List ℕ → ℕ → Type 0 = λ s i. IsAnswerOf (answer_of s (λ index. Ok (element_or_fill vector (along_axis_or_none i (expanded_index counts) index))) b.kind) c.gather_listed.result in
     let given : P c.in_ok-shape.shape j = c.gather_listed.ensures _ (λ index inside.
     let i = slice_index index j in

@@ -3,18 +3,18 @@ use Rattle.std.specs.Prelude.{slice_set, option_map}
 use Rattle.std.proofs.lemmas.List.{get_or-set_same}
 use Rattle.apl_struct.specs.Compressing.{as_vector}
 use Rattle.apl_struct.specs.Scalars.{entry_index}
-use Rattle.apl_struct.proofs.AsVectors.{vector_shape_is, vector_axis, entry_steps, entry_below}
+use Rattle.apl_struct.proofs.AsVectors.{axis_of_vector, entry_steps, entry_below}
 use Rattle.apl_struct.proofs.workers.Workers.gather_listed.Goals as goal
 
 pub returns-then-count-eq0 : goal.returns-then-count-eq0
 returns-then-count-eq0 g c = λ element same.
-    c.gather.ensures element (λ place inside. absurd (omega (arith, inside, c.count.ensures.count, c.if-count-eq0.true)))
+    c.empty.ensures element
 
 pub vector_stride-stride-requires-clause-shape : goal.vector_stride-stride-requires-clause-shape
 vector_stride-stride-requires-clause-shape g c = λ n.
     let b = c.args.b.now in
     let k = c.args.k in
-    let axis : k < length (as_vector n b).shape = rw (vector_shape_is n b) (vector_axis n k b.shape c.requires.axis) in
+    let axis : k < length (as_vector n b).shape = axis_of_vector n k b c.requires.axis in
     let m = length c.args.entries.now in
     let at : slice_index c.args.shape k ≡ m = ap (λ s. slice_index s k) (c.requires.shape n) ∙ get_or-set_same (as_vector n b).shape k m 0 axis in
     c.requires.shape n ∙ ap (slice_set (as_vector n b).shape k) (sym at)
@@ -24,7 +24,7 @@ invariant_of-map g c =
     let b = c.args.b.now in
     let k = c.args.k in
     let n = c.args.axis_length in
-    let axis : k < length (as_vector n b).shape = rw (vector_shape_is n b) (vector_axis n k b.shape c.requires.axis) in
+    let axis : k < length (as_vector n b).shape = axis_of_vector n k b c.requires.axis in
     let m = length c.args.entries.now in
     let at : slice_index c.args.shape k ≡ m = ap (λ s. slice_index s k) (c.requires.shape n) ∙ get_or-set_same (as_vector n b).shape k m 0 axis in
     record {

@@ -9,7 +9,7 @@ use Rattle.apl_answer.specs.Pointwise.{answer_of, IsAnswerOf}
 use Rattle.apl_struct.specs.Compressing.{as_vector, repeated_indexes}
 use Rattle.apl_struct.specs.Gathering.{along_axis, element_or_fill}
 use Rattle.apl_struct.specs.Scalars.{entry_index}
-use Rattle.apl_struct.proofs.AsVectors.{vector_shape_is, vector_axis, entry_there}
+use Rattle.apl_struct.proofs.AsVectors.{axis_of_vector, entry_there}
 use Rattle.apl_struct.proofs.CappedAxes.{capped_most}
 use Rattle.apl_struct.proofs.Repeated.{repeated_below, repeated_length}
 use Rattle.apl_struct.proofs.workers.Workers.gather_repeated.Goals as goal
@@ -19,7 +19,7 @@ gather_listed-requires-clause-most g c = λ lifetimes outlive.
     let b = c.args.b.now in
     let k = c.args.k in
     let n = length c.args.counts.now in
-    let axis : k < length (as_vector n b).shape = rw (vector_shape_is n b) (vector_axis n k b.shape c.requires.axis) in
+    let axis : k < length (as_vector n b).shape = axis_of_vector n k b c.requires.axis in
     capped_most (as_vector n b).shape k (length c.args.indexes.now) axis (ap is_shape (sym (c.requires.shape n)) ∙ c.requires.lawful)
 
 pub returns : goal.returns
@@ -30,7 +30,7 @@ returns g c =
     let counts = map place_number c.args.counts.now in
     let indexes = c.args.indexes.now in
     let vector = as_vector n b in
-    let axis : k < length vector.shape = rw (vector_shape_is n b) (vector_axis n k b.shape c.requires.axis) in
+    let axis : k < length vector.shape = axis_of_vector n k b c.requires.axis in
     let sum_is : length indexes ≡ sum counts = ap length c.requires.indexes ∙ repeated_length counts in
     let shape_is : c.args.shape ≡ slice_set vector.shape k (sum counts) = c.requires.shape n ∙ ap (slice_set vector.shape k) sum_is in
     let lawful : is_shape (slice_set vector.shape k (sum counts)) ≡ true = ap is_shape (sym shape_is) ∙ c.requires.lawful in

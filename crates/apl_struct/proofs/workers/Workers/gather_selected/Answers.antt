@@ -9,7 +9,7 @@ use Rattle.apl_struct.proofs.Sources.{filled_chosen}
 use Rattle.apl_struct.proofs.workers.Workers.gather_selected.Goals as goal
 
 pub returns-then-count-eq0 : goal.returns-then-count-eq0
-returns-then-count-eq0 g c = c.gather.ensures _ (λ place inside. absurd (omega (arith, inside, c.count-count.ensures.count, c.if-count-eq0.true)))
+returns-then-count-eq0 g c = c.empty.ensures _
 
 pub selected_walk-requires-clause-some : goal.selected_walk-requires-clause-some
 selected_walk-requires-clause-some g c =
@@ -17,7 +17,7 @@ selected_walk-requires-clause-some g c =
     omega (arith, count, ap count_of c.requires.shape_is)
 
 pub selected_walk-requires-clause-most : goal.selected_walk-requires-clause-most
-selected_walk-requires-clause-most g c = omega (arith, c.count-count.ensures.lawful.count, ap count_of c.requires.shape_is)
+selected_walk-requires-clause-most g c = omega (arith, c.count.ensures.lawful.count, ap count_of c.requires.shape_is)
 
 pub returns : goal.returns
 returns g c = c.gather_walk.ensures _ (λ place inside.

@@ -10,8 +10,8 @@ use Rattle.apl_struct.proofs.workers.Workers.rotate_all.Goals as goal
 pub returns-then-count-eq0 : goal.returns-then-count-eq0
 returns-then-count-eq0 g c = λ element told.
     let shapes : c.in_ok-shape.shape ≡ c.args.b.now.shape = search rules in
-    let P : List ℕ → Type 0 = λ s. IsAnswerOf (answer_of s (λ index. Ok (element index)) c.args.b.now.kind) c.gather.result in
-    subst P shapes (c.gather.ensures element (λ place inside. absurd (omega (arith, inside, c.count-count.ensures.count, c.if-count-eq0.true))))
+    let P : List ℕ → Type 0 = λ s. IsAnswerOf (answer_of s (λ index. Ok (element index)) c.args.b.now.kind) c.empty.result in
+    subst P shapes (c.empty.ensures element)
 
 pub returns : goal.returns
 returns g c = λ element told.

@@ -1,18 +1,22 @@
 use Rattle.std.proofs.Common.{◌≡◌, List, ℕ, ap, sym, subst, ◌∙◌, arith}
 use Rattle.std.specs.Prelude.{option_map}
 use Rattle.apl_array.specs.Shape.{IsIndexOf, count_of, place_of, index_at}
+use Rattle.apl_answer.specs.Arguments.{size_of}
 use Rattle.apl_walk.specs.Gathered.{filled_at}
+use Rattle.apl_struct.specs.Building.{reshape_source}
 use Rattle.apl_struct.specs.Gathering.{element_or_fill}
 use Rattle.apl_struct.specs.Shaped.{with_shape}
 use Rattle.apl_struct.specs.Taking.{take_source}
+use Rattle.apl_struct.proofs.Elements.{filled_past}
 use Rattle.apl_struct.proofs.Taken.{taken_none_of_empty, taken_element}
 use Rattle.apl_struct.proofs.workers.Workers.take_from.Goals as goal
 use Rattle.apl_struct.proofs.workers.Workers.take_from.Goals.{then-count-eq0-via-then-count-eq0, then-count-eq0-via-else-count-eq0+then-count-eq0-2}
 
 pub returns-then-count-eq0 : goal.returns-then-count-eq0
 returns-then-count-eq0 g c = λ element same.
+    let b = c.args.b.now in
     let argument = c.args.argument.now in
-    c.gather.ensures element
+    c.repeat.ensures element
     (λ place inside.
     let none : count_of argument ≡ 0 = elim c.then-count-eq0.branch [
       | then-count-eq0-via-then-count-eq0 w ↦ absurd (omega (arith, inside, w.if-count-eq0.true, c.count-count.ensures.count))
@@ -20,7 +24,8 @@ returns-then-count-eq0 g c = λ element same.
     ] in
     let lawful = c.places_match_index_lists.ensures.lawful c.args.shape place inside in
     let P : List ℕ → Type 0 = λ s. IsIndexOf s (index_at c.args.shape place) in
-    sym (ap (element_or_fill (with_shape argument c.args.b.now))
+    filled_past b (reshape_source (size_of b) place) c.kind-kind.ensures.lawful (sym c.requires.count ∙ none)
+    ∙ sym (ap (element_or_fill (with_shape argument b))
     (taken_none_of_empty c.args.numbers.now argument (index_at c.args.shape place) c.requires.len (subst P c.requires.shape lawful) none))
     ∙ same (index_at c.args.shape place) lawful)
 

@@ -7,7 +7,7 @@ use Rattle.apl_struct.proofs.Permuted.{axes_below}
 use Rattle.apl_struct.proofs.workers.Workers.transposed.Goals as goal
 
 pub returns-then-count-eq0 : goal.returns-then-count-eq0
-returns-then-count-eq0 g c = λ element same. c.gather.ensures element (λ place inside. absurd (omega (arith, inside, c.if-count-eq0.true, c.count-count.ensures.count)))
+returns-then-count-eq0 g c = λ element same. c.empty.ensures element
 
 pub transposed_walk-requires-clause-argument_some : goal.transposed_walk-requires-clause-argument_some
 transposed_walk-requires-clause-argument_some g c =

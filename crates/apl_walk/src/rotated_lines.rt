@@ -1,0 +1,143 @@
+//! Lines along an axis that are each rotated by a number of their own.
+ghost use Rattle.std.specs.Prelude.{◌≡◌, ℕ, ◌+◌, ◌<◌, ◌≤◌, slice_index};
+ghost use Rattle.apl_pool.specs.declared.kernel.TheConstants.{MOST_PLACES};
+ghost use Rattle.apl_walk.specs.Steps.{wrapped};
+
+use crate::lined::Lined;
+use crate::stretches::{element_or, write_or};
+use apl_divisor::Divisor;
+
+/// By how many indexes each line is rotated. Lines are counted in the row order of the other axes' index lists.
+#[derive(Clone, Copy)]
+pub struct Rotations<'a> {
+    pub by: &'a [usize],
+    pub length: usize,
+    ghost some: { 0 < length },
+    ghost most: { length ≤ MOST_PLACES },
+    ghost below: { (line : ℕ) → slice_index by.now line ≤ length },
+}
+
+impl Rotations<'_> {
+    /// The index of a line that is at an index of its rotation.
+    #[inline(always)]
+    fn index(&self, line: usize, i: usize) -> usize
+        requires { i < self.now.length }
+        ensures value { result ≡ wrapped self.now.length (i + slice_index self.now.by.now line) }
+        ensures below { result < self.now.length }
+    {
+        let by = match self.by.get(line) {
+            Some(by) => *by,
+            None => 0,
+        };
+        let j = i + by;
+        if j < self.length { j } else { j - self.length }
+    }
+}
+
+/// An argument whose lines along its last axis are rotated.
+#[derive(Drop)]
+pub struct RotatedRows<'a, T> {
+    pub elements: &'a [T],
+    pub past: T,
+    pub rotations: Rotations<'a>,
+    pub count: usize,
+    ghost count_most: { count ≤ MOST_PLACES },
+}
+
+impl<T: Copy> Lined for RotatedRows<'_, T> {
+    ghost use Rattle.std.specs.Prelude.{slice_index_or};
+    ghost use Rattle.apl_walk.specs.Steps.{rotated_place};
+
+    type Out = T;
+
+    ghost place_count = { λ r. r.count };
+
+    ghost extent = { λ r. r.rotations.length };
+
+    ghost value = { λ r line index. slice_index_or r.elements.now (rotated_place r.rotations.length r.rotations.by.now line line index) r.past };
+
+    fn count(&self) -> usize {
+        self.count
+    }
+
+    fn extent(&self) -> usize {
+        self.rotations.length
+    }
+
+    #[inline(always)]
+    fn at(&self, line: usize, index: usize) -> T {
+        let place = line * self.rotations.length + self.rotations.index(line, index);
+        element_or(self.elements, place, self.past)
+    }
+
+    #[inline(always)]
+    fn write(&self, line: usize, from: usize, count: usize, room: &mut [T]) {
+        if count == 0 {
+            return;
+        }
+        let base = line * self.rotations.length;
+        let start = self.rotations.index(line, from);
+        let first = count.min(self.rotations.length - start);
+        write_or(self.elements, self.past, base + start, first, room);
+        write_or(
+            self.elements,
+            self.past,
+            base,
+            count - first,
+            &mut room[first..],
+        );
+    }
+}
+
+/// An argument whose lines along another axis are rotated: there is one line for each of the `inner` places at one index of that axis.
+#[derive(Drop)]
+pub struct RotatedColumns<'a, T> {
+    pub elements: &'a [T],
+    pub past: T,
+    pub rotations: Rotations<'a>,
+    pub length: Divisor,
+    pub inner: usize,
+    pub count: usize,
+    ghost length_is: { length ≡ rotations.length },
+    ghost some: { 0 < inner },
+    ghost most: { inner ≤ MOST_PLACES },
+    ghost count_most: { count ≤ MOST_PLACES },
+}
+
+impl<T: Copy> Lined for RotatedColumns<'_, T> {
+    ghost use Rattle.std.specs.Prelude.{◌*◌, ◌/◌, ◌%◌, slice_index_or};
+    ghost use Rattle.apl_walk.specs.Steps.{rotated_place};
+
+    type Out = T;
+
+    ghost place_count = { λ r. r.count };
+
+    ghost extent = { λ r. r.inner };
+
+    ghost value = { λ r row column. slice_index_or r.elements.now
+        (rotated_place r.rotations.length r.rotations.by.now (row / r.rotations.length) (row / r.rotations.length * r.inner + column) (row % r.rotations.length) * r.inner + column) r.past };
+
+    fn count(&self) -> usize {
+        self.count
+    }
+
+    fn extent(&self) -> usize {
+        self.inner
+    }
+
+    #[inline(always)]
+    fn at(&self, row: usize, column: usize) -> T {
+        let outer = self.length.quotient(row);
+        let line = outer * self.inner + column;
+        let index = self.rotations.index(line, self.length.remainder(row));
+        let taken = outer * self.rotations.length + index;
+        element_or(self.elements, taken * self.inner + column, self.past)
+    }
+
+    #[inline(always)]
+    fn write(&self, row: usize, from: usize, count: usize, room: &mut [T]) {
+        for k in 0..count {
+            room[k] = self.at(row, from + k);
+        }
+    }
+}
