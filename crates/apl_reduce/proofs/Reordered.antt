@@ -1,9 +1,10 @@
 -- An inner product is the same with the right argument in the order of its columns.
-use Rattle.std.proofs.Common.{◌≡◌, ℕ, zero, suc, ℤ, pos, ◌+◌, ◌*◌, ◌/◌, ◌%◌, ◌<◌, ◌≤◌, List, ◌∷◌, map, get_or, Result, Ok, Err, refl, sym, ap, subst, ◌∙◌, arith}
+use Rattle.std.proofs.Common.{◌≡◌, ℕ, zero, suc, ℤ, pos, ◌+◌, ◌*◌, ◌/◌, ◌%◌, ◌<◌, ◌≤◌, List, [], ◌∷◌, length, map, get_or, Result, Ok, refl, sym, ap, subst, ◌∙◌, arith}
 use Rattle.std.proofs.Math.ListN.{get_or-map}
-use Rattle.std.proofs.Math.Nat.{mod-lt, mod-eq_of_lt, mul-le-mul_right, mul-add-mod_self_right, div-lt_iff_lt-mul}
+use Rattle.std.proofs.Math.Nat.{mod-lt, mod-eq_of_lt, mul-le-mul_right, mul-add-mod_self_right}
 use Rattle.std.proofs.lemmas.Nat.{div-mul-add}
-use Rattle.std.specs.Prelude.{IsOk, IfOk, IfErr}
+use Rattle.std.proofs.lemmas.List.{get_or_default}
+use Rattle.std.specs.Prelude.{Some, IsOk}
 use Rattle.std.specs.List.{range_with_len}
 use Rattle.apl_array.specs.declared.array.Elem.{Elem}
 use Rattle.apl_array.specs.declared.array.Elem.TheVariants.{Int}
@@ -15,6 +16,12 @@ use Rattle.apl_pool.specs.declared.kernel.Stop.TheVariants.{Fault as FaultAt, Me
 use Rattle.apl_pool.specs.declared.kernel.TheConstants.{MOST_PLACES}
 use Rattle.apl_pool.specs.Pool.{AreValues, IsStopOf}
 use Rattle.apl_scalar.specs.Scalar.{as_element, dyadic_of}
+use Rattle.apl_walk.specs.declared.window.Window.{Window as WindowMap}
+use Rattle.apl_walk.specs.declared.maps.Map.{Map}
+use Rattle.apl_walk.specs.declared.maps.Map.TheVariants.{Window}
+use Rattle.apl_walk.specs.Gathered.{value_or}
+use Rattle.apl_walk.specs.Maps.{step_of, walked}
+use Rattle.apl_walk.specs.Steps.{and_step}
 use Rattle.apl_reduce.specs.declared.layouts.Layout.{Layout}
 use Rattle.apl_reduce.specs.Items.{as_number, judged_items, item_in}
 use Rattle.apl_reduce.specs.Layouts.{left_place, right_place, column_place, IsWithin, HasColumns, IsByColumns, AreByColumns, inner_item, inner_number}
@@ -106,44 +113,38 @@ module _ (layout ordered : Layout) (is : IsByColumns layout ordered) where
 same_number : (x y : ℤ) (r : Result ℤ Fault) → r ≡ Ok x → r ≡ Ok y → x ≡ y
 same_number x y r first second = cc
 
-pub column_within : (layout : Layout) (size items place column k : ℕ) → HasColumns layout size → items ≡ layout.items → place < layout.columns * layout.items → column ≡ place / items → k < items
-    → column_place layout column k < size
-column_within layout size items place column k within long inside is below =
-    let inside' : place < layout.columns * items = subst (λ n. place < layout.columns * n) (sym long) inside in
-    let some : 0 < items = omega arith in
-    let narrow : place / items < layout.columns = (div-lt_iff_lt-mul some).1 inside' in
-    within column k (omega arith) (omega arith)
+-- a walk along columns and items
+module _ (layout : Layout) (numbers : List ℤ) (fill : ℤ) (columns items : WindowMap) where
+  abbrev pub reached : ℕ → Result ℤ Fault
+  reached place = Ok (value_or numbers fill (and_step (step_of items (place % items.extent)) (walked (Window columns ∷ []) (place / items.extent))))
 
-item_after : (column items k : ℕ) → k < items → (column * items + k) % items ≡ k
-item_after column items k below = mul-add-mod_self_right column items k ∙ mod-eq_of_lt below
+  module _ (within : HasColumns layout (length numbers)) (wide : columns.extent ≡ layout.columns) (long : items.extent ≡ layout.items)
+      (column_step : (i : ℕ) → i < layout.columns → step_of columns i ≡ Some (i * layout.right.line)) (item_step : (i : ℕ) → i < layout.items → step_of items i ≡ Some (i * layout.right.item)) where
+    reached_is : (column k : ℕ) → column < layout.columns → k < layout.items → reached (column * layout.items + k) ≡ Ok (get_or numbers (column_place layout column k) (pos 0))
+    reached_is column k narrow below =
+        let place = column * layout.items + k in
+        let add : ℕ → ℕ → Result ℤ Fault = λ i c. Ok (value_or numbers fill (and_step (step_of items i) (and_step (step_of columns c) (Some 0)))) in
+        let item : place % items.extent ≡ k = ap (λ e. place % e) long ∙ mul-add-mod_self_right column layout.items k ∙ mod-eq_of_lt below in
+        let quotient : place / items.extent ≡ column = ap (λ e. place / e) long ∙ div-mul-add column layout.items k below in
+        let own : place / items.extent % columns.extent ≡ column = ap (λ c. c % columns.extent) quotient ∙ ap (λ e. column % e) wide ∙ mod-eq_of_lt narrow in
+        let there : k * layout.right.item + (column * layout.right.line + 0) ≡ column_place layout column k = omega arith in
+        ap (λ i. add i (place / items.extent % columns.extent)) item ∙ ap (add k) own
+        ∙ ap (λ s. Ok (value_or numbers fill (and_step s (and_step (step_of columns column) (Some 0))))) (item_step k below)
+        ∙ ap (λ s. Ok (value_or numbers fill (and_step (Some (k * layout.right.item)) (and_step s (Some 0))))) (column_step column narrow)
+        ∙ ap (λ p. Ok (get_or numbers p fill)) there
+        ∙ ap Ok (get_or_default numbers (column_place layout column k) fill (pos 0) (within column k narrow below))
 
-module _ (layout : Layout) (numbers : List ℤ) where
-  abbrev pub column_number : ℕ → Result ℤ Fault
-  column_number place = Ok (get_or numbers (column_place layout (place / layout.items) (place % layout.items)) (pos 0))
+    by_columns : (values : List ℤ) → AreValues reached (columns.extent * 1 * items.extent) values → AreByColumns layout numbers values
+    by_columns values are =
+        let all : columns.extent * 1 * items.extent ≡ layout.columns * layout.items = ap (λ e. e * 1 * items.extent) wide ∙ ap (λ e. layout.columns * 1 * e) long ∙ omega arith in
+        record {
+          len = are.len ∙ all;
+          each = λ column k narrow below.
+              let row : column + 1 ≤ layout.columns = omega arith in
+              let inside : column * layout.items + k < columns.extent * 1 * items.extent = omega (arith, mul-le-mul_right layout.items row, all) in
+              same_number _ _ (reached (column * layout.items + k)) (are.each (column * layout.items + k) (pos 0) inside) (reached_is column k narrow below);
+        }
 
-  pub by_columns : (values : List ℤ) → AreValues column_number (layout.columns * layout.items) values → AreByColumns layout numbers values
-  by_columns values are =
-      record {
-        len = are.len;
-        each = λ column k narrow below.
-            let row : column + 1 ≤ layout.columns = omega arith in
-            let here = are.each (column * layout.items + k) (pos 0) (omega (arith, mul-le-mul_right layout.items row)) in
-            let first = div-mul-add column layout.items k below in
-            let second = item_after column layout.items k below in
-            let found = ap (λ c. get_or numbers (column_place layout c ((column * layout.items + k) % layout.items)) (pos 0)) first ∙ ap (λ i. get_or numbers (column_place layout column i) (pos 0)) second in
-            same_number (get_or values (column * layout.items + k) (pos 0)) (get_or numbers (column_place layout column k) (pos 0)) (column_number (column * layout.items + k)) here (ap Ok found);
-      }
-
-  pub no_fault : (count : ℕ) (stop : Stop) → IsStopOf column_number count stop → stop ≡ Memory
-  no_fault count (FaultAt place fault) is = let faulty = is.faulty in absurd cc
-  no_fault count Memory is = refl
-
--- ---- what holds of a value, if there is one
-
-pub if_ok : {X Y : Type 0} (P Q : X → Type 0) (r : Result X Y) → ((x : X) → P x → Q x) → IfOk r P → IfOk r Q
-if_ok P Q (Ok x) more holds = more x holds
-if_ok P Q (Err y) more holds = tt
-
-pub if_err : {X Y : Type 0} (P Q : Y → Type 0) (r : Result X Y) → ((y : Y) → P y → Q y) → IfErr r P → IfErr r Q
-if_err P Q (Ok x) more holds = tt
-if_err P Q (Err y) more holds = more y holds
+    pub walked_by_columns : (values elements : List ℤ) (outer : List Map) (last : WindowMap) (count : ℕ) → elements ≡ numbers → outer ≡ Window columns ∷ [] → last ≡ items → count ≡ columns.extent * 1 * items.extent
+        → AreValues (λ place. Ok (value_or elements fill (and_step (step_of last (place % last.extent)) (walked outer (place / last.extent))))) count values → AreByColumns layout numbers values
+    walked_by_columns values elements outer last count same along across all are = by_columns values (rw (same, along, across, all) at are)

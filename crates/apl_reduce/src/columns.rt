@@ -7,22 +7,20 @@ ghost use Rattle.apl_reduce.specs.Layouts.{HasColumns, IsByColumns, AreByColumns
 
 use crate::layouts::{Layout, Strides};
 use crate::workers::Workers;
-use apl_divisor::Divisor;
-use apl_pool::{Cut, Fault, Gate, Kernel, MOST_PLACES, Stop};
+use apl_pool::{Cut, Gate, MOST_PLACES, Stop};
+use apl_walk::{ByLines, Gathered, Map, Window};
 use std::thread::Threads;
 
 impl Layout {
-    /// Whether it is repaid to bring the right argument into the order of its columns, and there is room for that.
+    /// Whether it is repaid to bring the right argument from the order of its rows into that of its columns, and there is room for that.
     pub(crate) fn repays_an_order(&self) -> bool
-        ensures { IsTrue result ↔ (0 < self.now.items) × (1 < self.now.columns) × (SEVERAL_LINES * self.now.columns ≤ self.now.count) × (self.now.columns * self.now.items ≤ MOST_PLACES) }
+        ensures { IsTrue result ↔ (self.now.right.line ≡ 1) × (self.now.right.item ≡ self.now.columns) × (0 < self.now.items) × (1 < self.now.columns) × (SEVERAL_LINES * self.now.columns ≤ self.now.count) × (self.now.columns * self.now.items ≤ MOST_PLACES) }
     {
-        if self.items == 0 || !self.repays_a_pass() {
-            return false;
-        }
-        match self.columns.checked_mul(self.items) {
-            Some(places) => places <= MOST_PLACES,
-            None => false,
-        }
+        let by_rows = self.right.line == 1 && self.right.item == self.columns;
+        by_rows
+            && self.items > 0
+            && self.repays_a_pass()
+            && self.columns * self.items <= MOST_PLACES
     }
 
     /// The layout for a right argument in the order of its columns.
@@ -43,54 +41,21 @@ impl Layout {
     }
 }
 
-/// The numbers of a right argument, one column after the other.
-#[derive(Drop)]
-struct Columns<'a> {
-    numbers: &'a [i64],
-    layout: &'a Layout,
-    items: Divisor,
-    ghost items_are: { items ≡ layout.now.items },
-    ghost within: { HasColumns layout.now (length numbers.now) },
-    ghost most: { layout.now.columns * layout.now.items ≤ MOST_PLACES },
-}
-
-impl Kernel for Columns<'_> {
-    ghost use Rattle.std.specs.Prelude.{pos, ◌*◌, ◌/◌, ◌%◌, Ok, slice_index_or};
-    ghost use Rattle.apl_reduce.specs.Layouts.{column_place};
-
-    type Out = i64;
-
-    ghost place_count = { λ k. k.layout.now.columns * k.layout.now.items };
-
-    ghost outcome = { λ k place. Ok (slice_index_or k.numbers.now (column_place k.layout.now (place / k.layout.now.items) (place % k.layout.now.items)) (pos 0)) };
-
-    fn count(&self) -> usize {
-        self.layout.columns * self.layout.items
-    }
-
-    #[inline(always)]
-    fn at(&self, place: usize) -> Result<i64, Fault> {
-        let strides = self.layout.right;
-        let column = self.items.quotient(place);
-        let item = self.items.remainder(place);
-        Ok(self.numbers[column * strides.line + item * strides.item])
-    }
-}
-
 impl<R: Threads + Sync, C: Cut + Sync, G: Gate + Sync> Workers<'_, R, C, G> {
     /// The numbers of a right argument, one column after the other.
     pub(crate) fn fill_columns(&self, layout: &Layout, numbers: &[i64]) -> Result<Vec<i64>, Stop>
+        requires line { layout.now.right.line ≡ 1 }
+        requires item { layout.now.right.item ≡ layout.now.columns }
         requires some { 0 < layout.now.items }
         requires within { HasColumns layout.now (length numbers.now) }
         requires most { layout.now.columns * layout.now.items ≤ MOST_PLACES }
         ensures values { IfOk result (λ v. AreByColumns layout.now numbers.now v.items) }
         ensures stop { IfErr result (λ stop. stop ≡ Memory) }
     {
-        let kernel = Columns {
-            numbers,
-            layout,
-            items: Divisor::new(layout.items),
-        };
+        let strides = layout.right;
+        let columns = [Map::Window(Window::whole(layout.columns, strides.line))];
+        let items = Window::whole(layout.items, strides.item);
+        let kernel = ByLines::new(Gathered::new(numbers, &columns, layout.columns, items));
         self.pool.fill(self.rt, self.alloc, &kernel)
     }
 }

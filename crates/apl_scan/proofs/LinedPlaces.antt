@@ -1,11 +1,18 @@
 -- Places in the order of the lines along an axis, and the folds up to them.
-use Rattle.std.proofs.Common.{◌≡◌, ℕ, zero, suc, ℤ, pos, ◌+◌, ◌-◌, ◌*◌, ◌/◌, ◌%◌, ◌<◌, ◌≤◌, List, length, Result, Ok, slice_index_or, refl, ap, sym, ◌∙◌, arith, ⊎_elim, mul-le-mul_right}
+use Rattle.std.proofs.Common.{◌≡◌, ℕ, zero, suc, ℤ, pos, ◌+◌, ◌-◌, ◌*◌, ◌/◌, ◌%◌, ◌<◌, ◌≤◌, List, [], ◌∷◌, length, Option, Some, Result, Ok, slice_index_or, refl, ap, sym, ◌∙◌, arith, ⊎_elim, mul-le-mul_right}
 use Rattle.std.proofs.lemmas.Bool.{cases_lt}
 use Rattle.std.proofs.lemmas.Result.{IfOk-at_ok}
-use Rattle.std.proofs.Math.Nat.{mod-lt, div-one, div-add-mod', div-eq_of_lt-le}
+use Rattle.std.proofs.lemmas.List.{get_or_default}
+use Rattle.std.proofs.Math.Nat.{mod-lt, mod-eq_of_lt, mul-pos, div-one, div-add-mod', div-eq_of_lt-le}
 use Rattle.apl_pool.specs.declared.kernel.Fault.{Fault}
 use Rattle.apl_pool.specs.Pool.{AreValues}
 use Rattle.apl_pool.specs.Summaries.{and_then}
+use Rattle.apl_walk.specs.declared.window.Window.{Window as WindowMap}
+use Rattle.apl_walk.specs.declared.maps.Map.{Map}
+use Rattle.apl_walk.specs.declared.maps.Map.TheVariants.{Window}
+use Rattle.apl_walk.specs.Gathered.{value_or}
+use Rattle.apl_walk.specs.Maps.{step_of, walked}
+use Rattle.apl_walk.specs.Steps.{and_step}
 use Rattle.apl_scan.specs.Lined.{place_exchanged, exchanged_at}
 use Rattle.apl_scan.specs.Lines.{folded, number_along, scan_at}
 
@@ -49,20 +56,80 @@ exchanged_back items inner place some apart =
     ∙ ap (λ c. (line * items + row) * inner + c) is.row_is
     ∙ sym (whole_of_parts items inner place)
 
--- whole blocks hold the places that are exchanged
-pub exchanged_within : (items inner place count : ℕ) → 0 < items → 0 < inner → count / (items * inner) * (items * inner) ≡ count → place < count → place_exchanged items inner place < count
-exchanged_within items inner place count some apart whole inside =
-    let line = place / inner / items in
-    let row = place / inner % items in
-    let column = place % inner in
-    let blocks = count / (items * inner) in
+-- a place is in one of the whole blocks
+line_within : (items inner blocks place : ℕ) → 0 < items → 0 < inner → place < blocks * (items * inner) → place / inner / items < blocks
+line_within items inner blocks place some apart inside =
     let is = whole_of_parts items inner place in
+    ⊎_elim (λ less. less) (λ more. absurd (omega (arith, is, inside, mul-le-mul_right (items * inner) more))) (cases_lt (place / inner / items) blocks)
+
+-- whole blocks hold the places that are exchanged
+exchanged_within : (items inner blocks place : ℕ) → 0 < items → 0 < inner → place < blocks * (items * inner) → place_exchanged items inner place < blocks * (items * inner)
+exchanged_within items inner blocks place some apart inside =
+    let line = place / inner / items in
+    let column = place % inner in
+    let earlier = line_within items inner blocks place some apart inside in
     let row_inside = mod-lt (place / inner) some in
     let column_inside = mod-lt place apart in
-    let earlier : line < blocks = ⊎_elim (λ less. less) (λ more. absurd (omega (arith, is, whole, inside, mul-le-mul_right (items * inner) more))) (cases_lt line blocks) in
     let next : (line + 1) * (items * inner) ≤ blocks * (items * inner) = mul-le-mul_right (items * inner) (omega (arith, earlier)) in
     let column_next : (column + 1) * items ≤ inner * items = mul-le-mul_right items (omega (arith, column_inside)) in
-    omega (arith, next, column_next, whole, row_inside)
+    omega (arith, next, column_next, row_inside)
+
+-- whole blocks, of which there are some
+pub record AreBlocks (items inner count : ℕ) : Type 0 where
+  pub some : 0 < count / (items * inner)
+  pub most : count / (items * inner) ≤ count
+  pub near : items * inner ≤ count
+
+pub whole_blocks : (items inner count : ℕ) → 0 < items → 0 < inner → 0 < count → count / (items * inner) * (items * inner) ≡ count → AreBlocks items inner count
+whole_blocks items inner count some apart any whole =
+    let blocks = count / (items * inner) in
+    let filled : 0 < items * inner = mul-pos some apart in
+    let first : 0 < blocks = ⊎_elim (λ more. more) (λ none. absurd (omega (arith, whole, any, mul-le-mul_right (items * inner) none))) (cases_lt 0 blocks) in
+    let one : 1 * blocks ≤ items * inner * blocks = mul-le-mul_right blocks (omega (arith, filled)) in
+    let block : 1 * (items * inner) ≤ blocks * (items * inner) = mul-le-mul_right (items * inner) (omega (arith, first)) in
+    record { some = first; most = omega (arith, one, whole); near = omega (arith, block, whole) }
+
+-- a walk along blocks, rows and columns
+module _ (items inner blocks : ℕ) (rows lines columns : WindowMap) (some : 0 < items) (apart : 0 < inner) (high : rows.extent ≡ items) (many : lines.extent ≡ blocks) (wide : columns.extent ≡ inner)
+    (row_step : (i : ℕ) → i < items → step_of rows i ≡ Some (i * 1)) (line_step : (i : ℕ) → i < blocks → step_of lines i ≡ Some (i * (items * inner)))
+    (column_step : (i : ℕ) → i < inner → step_of columns i ≡ Some (i * items)) where
+  abbrev reached : ℕ → Option ℕ
+  reached place = and_step (step_of columns (place % columns.extent)) (walked (Window rows ∷ Window lines ∷ []) (place / columns.extent))
+
+  reached_is : (place : ℕ) → place < blocks * (items * inner) → reached place ≡ Some (place_exchanged items inner place)
+  reached_is place inside =
+      let line = place / inner / items in
+      let row = place / inner % items in
+      let column = place % inner in
+      let earlier = line_within items inner blocks place some apart inside in
+      let there : column * items + (row * 1 + (line * (items * inner) + 0)) ≡ place_exchanged items inner place = omega arith in
+      ap (λ e. and_step (step_of columns (place % e)) (walked (Window rows ∷ Window lines ∷ []) (place / e))) wide
+      ∙ ap (λ e. and_step (step_of columns column) (and_step (step_of rows (place / inner % e)) (walked (Window lines ∷ []) (place / inner / e)))) high
+      ∙ ap (λ e. and_step (step_of columns column) (and_step (step_of rows row) (and_step (step_of lines (line % e)) (Some 0)))) many
+      ∙ ap (λ l. and_step (step_of columns column) (and_step (step_of rows row) (and_step (step_of lines l) (Some 0)))) (mod-eq_of_lt earlier)
+      ∙ ap (λ s. and_step (step_of columns column) (and_step (step_of rows row) (and_step s (Some 0)))) (line_step line earlier)
+      ∙ ap (λ s. and_step (step_of columns column) (and_step s (Some (line * (items * inner) + 0)))) (row_step row (mod-lt (place / inner) some))
+      ∙ ap (λ s. and_step s (Some (row * 1 + (line * (items * inner) + 0)))) (column_step column (mod-lt place apart))
+      ∙ ap (λ p. Some p) there
+
+  module _ (numbers values : List ℤ) (fill : ℤ) (whole : blocks * (items * inner) ≡ length numbers) where
+    exchanged_values : AreValues (λ place. Ok (value_or numbers fill (reached place))) (rows.extent * (lines.extent * 1) * columns.extent) values → AreValues (exchanged_at numbers items inner) (length numbers) values
+    exchanged_values are =
+        let all : rows.extent * (lines.extent * 1) * columns.extent ≡ length numbers =
+        ap (λ e. e * (lines.extent * 1) * columns.extent) high ∙ ap (λ e. items * (e * 1) * columns.extent) many ∙ ap (λ e. items * (blocks * 1) * e) wide ∙ omega (arith, whole) in
+        record {
+          len = are.len ∙ all;
+          each = λ place d inside.
+              let within : place < blocks * (items * inner) = omega (arith, inside, whole) in
+              let there : place_exchanged items inner place < length numbers = omega (arith, exchanged_within items inner blocks place some apart within, whole) in
+              ap Ok (get_or_default numbers (place_exchanged items inner place) (pos 0) fill there) ∙ ap (λ p. Ok (value_or numbers fill p)) (sym (reached_is place within))
+              ∙ are.each place d (omega (arith, inside, all));
+        }
+
+    pub walked_exchanged : (elements : List ℤ) (outer : List Map) (last : WindowMap) (count : ℕ) → elements ≡ numbers → outer ≡ Window rows ∷ Window lines ∷ [] → last ≡ columns
+        → count ≡ rows.extent * (lines.extent * 1) * columns.extent
+        → AreValues (λ place. Ok (value_or elements fill (and_step (step_of last (place % last.extent)) (walked outer (place / last.extent))))) count values → AreValues (exchanged_at numbers items inner) (length numbers) values
+    walked_exchanged elements outer last count same across along all are = exchanged_values (rw (same, across, along, all) at are)
 
 -- folds of the same numbers are the same
 pub same_folds : (step : ℤ → ℤ → Result ℤ Fault) (f g : ℕ → ℤ) (j more : ℕ) → ((k : ℕ) → k ≤ j + more → f k ≡ g k) → folded step f j more ≡ folded step g j more
@@ -118,7 +185,7 @@ module _ (step : ℤ → ℤ → Result ℤ Fault) (numbers : List ℤ) (items i
     len = back.len ∙ are.len;
     each = λ place d inside.
         ap (scan_at step numbers items inner) (sym (exchanged_back items inner place some apart))
-        ∙ are.each (place_exchanged items inner place) (pos 0) (exchanged_within items inner place (length numbers) some apart whole inside)
+        ∙ are.each (place_exchanged items inner place) (pos 0) (omega (arith, exchanged_within items inner (length numbers / (items * inner)) place some apart (omega (arith, inside, whole)), whole))
         ∙ back.each place d (omega (arith, inside, are.len));
   }
 

@@ -10,58 +10,13 @@ ghost use Rattle.apl_scan.specs.Lines.{scan_at};
 
 use crate::summarized::fill_by_summary;
 use apl_array::ScalarFunction;
-use apl_divisor::Divisor;
-use apl_pool::{Cut, Fault, Gate, Kernel, Pool, Stop};
+use apl_pool::{Cut, Gate, Pool, Stop};
+use apl_walk::{ByLines, Gathered, Map, Window};
 use std::alloc::Global;
 use std::thread::Threads;
 
-/// Numbers of lines that stand one behind the other, by the places where neighbours in a line are apart.
-#[derive(Drop)]
-struct Exchanged<'a> {
-    numbers: &'a [i64],
-    /// How many numbers a line has.
-    items: Divisor,
-    /// How far apart neighbours in a line are.
-    inner: Divisor,
-    ghost most: { length numbers.now ≤ MOST_PLACES },
-    ghost whole: { length numbers.now / (items * inner) * (items * inner) ≡ length numbers.now },
-}
-
-impl Exchanged<'_> {
-    /// Where the number stands that belongs to a place.
-    #[inline(always)]
-    fn source(&self, place: usize) -> usize
-        requires { place < length self.now.numbers.now }
-        ensures value { result ≡ place_exchanged self.now.items self.now.inner place }
-        ensures within { result < length self.now.numbers.now }
-    {
-        let column = self.inner.remainder(place);
-        let quotient = self.inner.quotient(place);
-        let row = self.items.remainder(quotient);
-        let line = self.items.quotient(quotient);
-        (line * self.inner.number() + column) * self.items.number() + row
-    }
-}
-
-impl Kernel for Exchanged<'_> {
-    ghost use Rattle.std.specs.Prelude.{length};
-    ghost use Rattle.apl_scan.specs.Lined.{exchanged_at};
-
-    type Out = i64;
-
-    ghost place_count = { λ k. length k.numbers.now };
-
-    ghost outcome = { λ k. exchanged_at k.numbers.now k.items k.inner };
-
-    fn count(&self) -> usize {
-        self.numbers.len()
-    }
-
-    #[inline(always)]
-    fn at(&self, place: usize) -> Result<i64, Fault> {
-        Ok(self.numbers[self.source(place)])
-    }
-}
+/// So many numbers of a line are taken before those of the next one, since their cache lines are near.
+const TILE: usize = 256;
 
 /// Numbers of lines that stand one behind the other, in the order in which neighbours in a line are `inner`
 /// apart; and with `items` and `inner` exchanged, the way back.
@@ -76,15 +31,18 @@ fn exchange<R: Threads + Sync, C: Cut + Sync, G: Gate + Sync>(
     requires most { length numbers.now ≤ MOST_PLACES }
     requires items { (0 < items) × (items ≤ MOST_PLACES) }
     requires inner { (0 < inner) × (inner ≤ MOST_PLACES) }
+    requires some { 0 < length numbers.now }
     requires whole { length numbers.now / (items * inner) * (items * inner) ≡ length numbers.now }
     ensures values { IfOk result (λ v. AreValues (exchanged_at numbers.now items inner) (length numbers.now) v.items) }
     ensures stop { IfErr result (λ stop. stop ≡ Memory) }
 {
-    let kernel = Exchanged {
-        numbers,
-        items: Divisor::new(items),
-        inner: Divisor::new(inner),
-    };
+    let block = items * inner;
+    let blocks = numbers.len() / block;
+    let rows = Map::Window(Window::whole(items, 1));
+    let outer = [rows, Map::Window(Window::whole(blocks, block))];
+    let columns = Window::whole(inner, items);
+    let walk = Gathered::new(numbers, &outer, blocks * items, columns);
+    let kernel = ByLines::tiled(walk, TILE);
     pool.fill(rt, alloc, &kernel)
 }
 
@@ -103,6 +61,7 @@ fn fill_lined<R: Threads + Sync, C: Cut + Sync, G: Gate + Sync>(
     requires most { length numbers.now ≤ MOST_PLACES }
     requires items { (0 < items) × (items ≤ MOST_PLACES) }
     requires inner { (0 < inner) × (inner ≤ MOST_PLACES) }
+    requires some { 0 < length numbers.now }
     requires whole { length numbers.now / (items * inner) * (items * inner) ≡ length numbers.now }
     ensures { IfOk result (λ v. AreValues (λ place. scan_at (dyadic_numbers f) numbers.now items inner (place_exchanged inner items place)) (length numbers.now) v.items) }
 {
@@ -125,6 +84,7 @@ pub(crate) fn fill_by_lines<R: Threads + Sync, C: Cut + Sync, G: Gate + Sync>(
     requires most { length numbers.now ≤ MOST_PLACES }
     requires items { (0 < items) × (items ≤ MOST_PLACES) }
     requires inner { (0 < inner) × (inner ≤ MOST_PLACES) }
+    requires some { 0 < length numbers.now }
     requires whole { length numbers.now / (items * inner) * (items * inner) ≡ length numbers.now }
     ensures { IfOk result (λ v. AreValues (scan_at (dyadic_numbers f) numbers.now items inner) (length numbers.now) v.items) }
 {

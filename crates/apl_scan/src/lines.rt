@@ -28,6 +28,7 @@ pub(crate) struct AxisLines<'a> {
     items: Divisor,
     /// How far apart neighbours in a line are.
     inner: Divisor,
+    ghost some: { 0 < length numbers.now },
     ghost most: { length numbers.now ≤ MOST_PLACES },
     ghost whole: { length numbers.now / (items * inner) * (items * inner) ≡ length numbers.now },
 }
@@ -35,6 +36,7 @@ pub(crate) struct AxisLines<'a> {
 impl<'a> AxisLines<'a> {
     /// Lines of so many numbers, which are `inner` apart.
     pub(crate) fn new(numbers: &'a [i64], items: usize, inner: usize) -> AxisLines<'a>
+        requires some { 0 < length numbers.now }
         requires most { length numbers.now ≤ MOST_PLACES }
         requires items { (0 < items) × (items ≤ MOST_PLACES) }
         requires inner { (0 < inner) × (inner ≤ MOST_PLACES) }

@@ -1,11 +1,17 @@
-use Rattle.apl_pool.specs.Pool.{AreValues}
-use Rattle.apl_reduce.specs.Layouts.{AreByColumns}
-use Rattle.std.proofs.Common.{◌*◌}
-use Rattle.apl_reduce.proofs.Reordered.{column_number, by_columns, if_ok}
+use Rattle.std.proofs.Common.{ap, ◌∙◌}
+use Rattle.std.proofs.lemmas.Result.{IfOk-weaker}
+use Rattle.apl_reduce.proofs.Reordered.{walked_by_columns}
 use Rattle.apl_reduce.proofs.workers.Workers.fill_columns.Goals as goal
 
 pub returns-clause-values : goal.returns-clause-values
 returns-clause-values g c =
-    let layout = c.args.layout.now in
-    let numbers = c.args.numbers.now in
-    if_ok (λ v. AreValues (column_number layout numbers) (layout.columns * layout.items) v.items) (λ v. AreByColumns layout numbers v.items) c.fill.result (λ v are. by_columns layout numbers v.items are) c.fill.ensures.values
+    let walk = c.new-kernel.result.lines in
+    let same = c.new-kernel.ensures in
+    let is = c.new.ensures in
+    let columns = c.whole.ensures in
+    let items = c.whole-items.ensures in
+    IfOk-weaker c.fill.result _ _
+    (λ v.
+    walked_by_columns c.args.layout.now c.args.numbers.now walk.fill c.whole.result c.whole-items.result c.requires.within columns.extent items.extent columns.step items.step v.items walk.elements.now
+    walk.outer.now walk.last walk.count (ap (λ w. w.elements.now) same ∙ is.elements) (ap (λ w. w.outer.now) same ∙ is.outer) (ap (λ w. w.last) same ∙ is.last) (ap (λ w. w.count) same ∙ is.count))
+    c.fill.ensures.values

@@ -1,8 +1,9 @@
 use Rattle.std.proofs.Common.{◌≤◌, length, map, sym, subst, rules}
+use Rattle.std.proofs.lemmas.Result.{IfOk-weaker, IfErr-weaker}
 use Rattle.apl_array.specs.declared.array.Elem.TheVariants.{Int}
 use Rattle.apl_pool.specs.Pool.{AreValues, IsStopOf}
 use Rattle.apl_reduce.specs.Layouts.{AreByColumns, inner_number}
-use Rattle.apl_reduce.proofs.Reordered.{has_columns, number_same, values_same, stop_same, if_ok, if_err}
+use Rattle.apl_reduce.proofs.Reordered.{has_columns, number_same, values_same, stop_same}
 use Rattle.apl_reduce.proofs.workers.Workers.fill_inner_ordered.Goals as goal
 
 pub fill_columns-requires-clause-within : goal.fill_columns-requires-clause-within
@@ -21,7 +22,7 @@ returns-clause-values g c =
     let are : AreByColumns layout c.args.right.now columns = subst (AreByColumns layout c.args.right.now) (sym c.as_slice.ensures.value) c.in_ok-columns.ensures.values in
     let there = inner_number ordered left (map Int columns) c.args.f c.args.g in
     let here = inner_number layout left (map Int c.args.right.now) c.args.f c.args.g in
-    if_ok (λ v. AreValues there ordered.count v.items) (λ v. AreValues here layout.count v.items) c.fill_inner_numbers-2.result
+    IfOk-weaker c.fill_inner_numbers-2.result (λ v. AreValues there ordered.count v.items) (λ v. AreValues here layout.count v.items)
     (λ v values. values_same there here layout.count (λ place inside. number_same layout ordered is left c.args.right.now columns are c.args.f c.args.g place) v.items (subst (λ n. AreValues there n v.items) is.count values))
     c.fill_inner_numbers-2.ensures.values
 
@@ -35,6 +36,6 @@ returns-clause-stop g c =
     let are : AreByColumns layout c.args.right.now columns = subst (AreByColumns layout c.args.right.now) (sym c.as_slice.ensures.value) c.in_ok-columns.ensures.values in
     let there = inner_number ordered left (map Int columns) c.args.f c.args.g in
     let here = inner_number layout left (map Int c.args.right.now) c.args.f c.args.g in
-    if_err (IsStopOf there ordered.count) (IsStopOf here layout.count) c.fill_inner_numbers-2.result
+    IfErr-weaker c.fill_inner_numbers-2.result (IsStopOf there ordered.count) (IsStopOf here layout.count)
     (λ stop found. stop_same there here layout.count (λ place inside. number_same layout ordered is left c.args.right.now columns are c.args.f c.args.g place) stop (subst (λ n. IsStopOf there n stop) is.count found))
     c.fill_inner_numbers-2.ensures.stop
