@@ -88,14 +88,29 @@ fn a_source_that_fails(rt: HostRuntime) {
     }
 }
 
+/// Sessions, and what they write: values, a row of them, and reports.
+const WRITTEN: [(&str, &str); 4] = [
+    ("2+3 4 5\n", "5 6 7\n"),
+    (
+        "A+A←3\n1 2+1 2 3\n",
+        "6\nLENGTH ERROR\n      1 2+1 2 3\n         ∧\n",
+    ),
+    ("M←2 2⍴⍳4\nM[2;]←9\nM\n", "1 2\n9 9\n"),
+    (
+        "A←2 2⍴⍳4\nA[3;1]\n(⍳3)[1;1]\nA\n",
+        "INDEX ERROR\n      A[3;1]\n       ∧\nRANK ERROR\n      (⍳3)[1;1]\n          ∧\n1 2\n3 4\n",
+    ),
+];
+
 #[test]
 fn a_sink_that_fails_at_each_call_in_turn(rt: HostRuntime) {
-    let text = "6\nLENGTH ERROR\n      1 2+1 2 3\n         ∧\n".as_bytes();
     for workers in [1, 64] {
         let pool = Pool::new(workers, Every(1), Door::Open);
         for most in [1, 7] {
-            let session = "A+A←3\n1 2+1 2 3\n".as_bytes();
-            fail_in_turn(&rt, rt.alloc(), &pool, session, most, text);
+            for (session, text) in WRITTEN {
+                let text = text.as_bytes();
+                fail_in_turn(&rt, rt.alloc(), &pool, session.as_bytes(), most, text);
+            }
         }
     }
 }
@@ -110,8 +125,8 @@ fn fail_in_turn<R: Abort + Threads + Sync>(
     text: &[u8],
 ) {
     let mut is_whole = false;
-    for call in 1..100 {
-        let mut source = MemorySource::new(session, 64, None);
+    for call in 1..1000 {
+        let mut source = MemorySource::new(session, most.max(1), None);
         let mut sink = MemorySink::new(alloc, most.max(1), Some(call));
         let outcome = run(rt, alloc, pool, &mut source, &mut sink);
         is_whole = outcome.is_ok();
@@ -119,6 +134,7 @@ fn fail_in_turn<R: Abort + Threads + Sync>(
             text.starts_with(sink.bytes())
                 && is_whole == (sink.bytes() == text)
                 && (is_whole || outcome == Err(RunFault::Write))
+                && (call > 1 || sink.bytes().is_empty())
         );
         if is_whole {
             break;

@@ -1,14 +1,15 @@
 //! Work is done by two workers at once: of places, of functions of arrays, and of lines.
 ghost use Rattle.std.specs.Prelude.{◌<◌, ◌≤◌};
 ghost use Rattle.apl_pool.specs.declared.kernel.TheConstants.{MOST_PLACES};
-ghost use Rattle.tests_sessions.specs.declared.gates.TheConstants.{HALF};
+ghost use Rattle.apl_pool.specs.declared.pool.TheConstants.{MOST_WORKERS};
+ghost use Rattle.tests_sessions.specs.declared.gates.TheConstants.{LONGEST};
 
 use super::pools::Numbers;
 use crate::doors::{Door, Meeting};
 use crate::transcripts::{Table, lines_of};
 use apl_pool::{Every, Fault, Gate, Kernel, MOST_PLACES, Pool, Schedule, Summary};
 use apl_print::MemorySink;
-use apl_session::{BLOCK, MemorySource, run};
+use apl_session::{BLOCK, Next, Session};
 use apl_summary::SignedSum;
 use std::alloc::{AllocError, Global};
 use std::sync::atomic::{AtomicU64, Ordering};
@@ -40,21 +41,24 @@ impl Kernel for AllOnes {
     }
 }
 
-/// Half as many places as the largest arrays here have.
+/// Half as many places as the largest arrays of the sessions here have.
 const HALF: usize = 1 << 19;
 
-/// The pieces 0 and 1 are each held at the gate until another piece has come there.
+/// As many places as the longest pieces here have.
+const LONGEST: usize = 1 << 21;
+
+/// Two of at most four pieces are each held at the gate until the other one has come there. It notes who came with each piece.
 #[derive(Drop)]
 struct Holding {
-    awaited: [usize; 2],
+    pair: [usize; 2],
     come: [AtomicU64; 4],
     met: AtomicU64,
 }
 
 impl Holding {
-    fn new(awaited: [usize; 2]) -> Holding {
+    fn new(pair: [usize; 2]) -> Holding {
         Holding {
-            awaited,
+            pair,
             come: [
                 AtomicU64::new(0),
                 AtomicU64::new(0),
@@ -65,25 +69,40 @@ impl Holding {
         }
     }
 
-    /// How many pieces were held until the other one had come.
-    fn met(&self) -> u64 {
-        self.met.load(Ordering::SeqCst)
+    /// The number of the worker who came with a piece last, and 1 more. It is 0 where none came.
+    fn comer(&self, piece: usize) -> u64 {
+        match self.come.get(piece) {
+            Some(here) => here.load(Ordering::SeqCst),
+            None => 0,
+        }
+    }
+
+    /// Whether both held pieces went on, with different workers, and with these where they are known. A worker's number is 1 more here too.
+    fn met(&self, workers: Option<(u64, u64)>) -> bool {
+        let [first, second] = self.pair;
+        let one = self.comer(first);
+        let other = self.comer(second);
+        let are_known = match workers {
+            Some(known) => (one, other) == known,
+            None => one != other,
+        };
+        are_known && self.met.load(Ordering::SeqCst) == 2
     }
 }
 
 impl Gate for Holding {
-    fn pass(&self, _worker: u8, piece: u32) {
-        if let Some(here) = self.come.get(piece as usize) {
-            here.fetch_add(1, Ordering::SeqCst);
+    fn pass(&self, worker: u8, piece: u32) {
+        let piece = piece as usize;
+        if let Some(here) = self.come.get(piece) {
+            here.store(u64::from(worker) + 1, Ordering::SeqCst);
         }
-        let Some(awaited) = self.awaited.get(piece as usize) else {
+        let [first, second] = self.pair;
+        if piece != first && piece != second {
             return;
-        };
-        let Some(other) = self.come.get(*awaited) else {
-            return;
-        };
+        }
+        let awaited = if piece == first { second } else { first };
         for _ in 0..2_000_000_000u64 {
-            if other.load(Ordering::SeqCst) > 0 {
+            if self.comer(awaited) > 0 {
                 self.met.fetch_add(1, Ordering::SeqCst);
                 return;
             }
@@ -91,95 +110,100 @@ impl Gate for Holding {
     }
 }
 
-/// Fills the places of so many pieces by two workers, and says whether each place has its value, and both held pieces went on.
-fn holds_while_filling<R: Threads + Sync>(
-    rt: &R,
-    alloc: Global,
+/// A pass of so many workers over so many pieces of this length, two of which are held. Where it is known who has these, it says so.
+#[derive(Clone, Copy)]
+struct Held {
+    workers: u8,
     schedule: Schedule,
-    awaited: [usize; 2],
     pieces: usize,
     length: usize,
-) -> Result<bool, Fail>
-    requires { (pieces ≤ 4) × (length ≤ HALF) }
-{
-    let holding = Holding::new(awaited);
-    let count = pieces * length;
-    let kernel = Numbers {
-        count,
-        limit: count,
-    };
-    let values = Pool::with(2, schedule, Every(length), &holding).fill(rt, alloc, &kernel)?;
-    let has_values = values
-        .iter()
-        .enumerate()
-        .all(|(place, value)| place == *value);
-    Ok(has_values && values.len() == count && holding.met() == 2)
+    pair: [usize; 2],
+    known: Option<(u64, u64)>,
+    ghost some_worker: { 0 < workers },
+    ghost few_workers: { workers ≤ MOST_WORKERS },
+    ghost some_pieces: { 0 < pieces },
+    ghost few_pieces: { pieces ≤ 4 },
+    ghost some: { 0 < length },
+    ghost short: { length ≤ LONGEST },
 }
 
-/// Sums the places of so many pieces by two workers, and says whether each place was summed, and both held pieces went on.
-fn holds_while_folding<R: Threads + Sync>(
-    rt: &R,
-    alloc: Global,
-    schedule: Schedule,
-    awaited: [usize; 2],
-    pieces: usize,
-    length: usize,
-) -> Result<bool, Fail>
-    requires { (0 < pieces) × (pieces ≤ 4) × (0 < length) × (length ≤ HALF) }
-{
-    let holding = Holding::new(awaited);
-    let ones = AllOnes {
-        count: pieces * length,
-    };
-    let sum: SignedSum<0> = Pool::with(2, schedule, Every(length), &holding).fold(
-        rt, alloc, &ones,
-    )?;
-    Ok(sum.apply(0) == Ok((pieces * length) as i64) && holding.met() == 2)
+impl Held {
+    /// Fills the places, and says whether each has its value, and both held pieces went on.
+    fn fills<R: Threads + Sync>(&self, rt: &R, alloc: Global) -> Result<bool, Fail> {
+        let holding = Holding::new(self.pair);
+        let count = self.pieces * self.length;
+        let kernel = Numbers {
+            count,
+            limit: count,
+        };
+        let pool = Pool::with(self.workers, self.schedule, Every(self.length), &holding);
+        let values = pool.fill(rt, alloc, &kernel)?;
+        let has_values = values
+            .iter()
+            .enumerate()
+            .all(|(place, value)| place == *value);
+        Ok(has_values && values.len() == count && holding.met(self.known))
+    }
+
+    /// Sums the places, and says whether each was summed, and both held pieces went on.
+    fn folds<R: Threads + Sync>(&self, rt: &R, alloc: Global) -> Result<bool, Fail> {
+        let holding = Holding::new(self.pair);
+        let ones = AllOnes {
+            count: self.pieces * self.length,
+        };
+        let pool = Pool::with(self.workers, self.schedule, Every(self.length), &holding);
+        let sum: SignedSum<0> = pool.fold(rt, alloc, &ones)?;
+        let is_whole = sum.apply(0) == Ok((self.pieces * self.length) as i64);
+        Ok(is_whole && holding.met(self.known))
+    }
 }
 
-/// Whether both held pieces go on while two workers fill, and while they sum, the places of so many pieces.
-fn holds<R: Threads + Sync>(
-    rt: &R,
-    alloc: Global,
-    schedule: Schedule,
-    awaited: [usize; 2],
-    pieces: usize,
-    length: usize,
-) -> Result<bool, Fail>
-    requires { (0 < pieces) × (pieces ≤ 4) × (0 < length) × (length ≤ HALF) }
-{
-    let filled = holds_while_filling(rt, alloc, schedule, awaited, pieces, length)?;
-    let folded = holds_while_folding(rt, alloc, schedule, awaited, pieces, length)?;
-    Ok(filled && folded)
-}
-
-/// Each of two pieces waits for the other one.
+/// Each of two pieces waits for the other one, so they come to two workers, also of the first two of four.
 #[test]
 fn gate_two(rt: HostRuntime) -> Result<(), Fail> {
     for schedule in [Schedule::Claims, Schedule::Deques] {
-        for length in [1, HALF] {
-            assert!(rt; holds(&rt, rt.alloc(), schedule, [1, 0], 2, length)?);
+        for (workers, pieces, length) in [
+            (2, 2, 1),
+            (2, 2, LONGEST),
+            (2, 4, 1000),
+            (3, 2, 1),
+            (64, 2, 1000),
+            (64, 4, 1),
+        ] {
+            let held = Held {
+                workers,
+                schedule,
+                pieces,
+                length,
+                pair: [0, 1],
+                known: None,
+            };
+            assert!(rt; held.fills(&rt, rt.alloc())? && held.folds(&rt, rt.alloc())?);
         }
     }
     Ok(())
 }
 
-/// Of four pieces the first two wait for each other, so they come to two workers.
-#[test]
-fn gate_four(rt: HostRuntime) -> Result<(), Fail> {
-    for schedule in [Schedule::Claims, Schedule::Deques] {
-        for length in [1, 1000] {
-            assert!(rt; holds(&rt, rt.alloc(), schedule, [1, 0], 4, length)?);
-        }
-    }
-    Ok(())
-}
-
-/// Of four pieces in two deques the first two wait for the last one, which is the second worker's from the start.
+/// Worker w of m begins with the pieces from w × p / m on, rounded down. So the first and the last of four pieces are those of two
+/// workers, and of more workers than pieces it is known which have one.
 #[test]
 fn gate_deal(rt: HostRuntime) -> Result<(), Fail> {
-    for length in [1, 1000] {
-        assert!(rt; holds(&rt, rt.alloc(), Schedule::Deques, [3, 3], 4, length)?);
+    for (workers, pieces, pair, known) in [
+        (2, 4, [0, 3], (1, 2)),
+        (3, 2, [0, 1], (2, 3)),
+        (64, 2, [0, 1], (32, 64)),
+    ] {
+        for length in [1, 1000] {
+            let held = Held {
+                workers,
+                schedule: Schedule::Deques,
+                pieces,
+                length,
+                pair,
+                known: Some(known),
+            };
+            assert!(rt; held.fills(&rt, rt.alloc())? && held.folds(&rt, rt.alloc())?);
+        }
     }
     Ok(())
 }
@@ -479,30 +503,49 @@ const CUT_FOLDS: &str = r"
     F≠.×F → 1⏎
     ";
 
-/// Answers a session by two workers and pieces of this length. Says whether it wrote the text, and both pieces met
-/// at each of so many functions.
-fn meets<R: Threads + Sync>(
+/// Answers a line, and says whether the session goes on after it. A line has no line feed.
+fn goes_on<R: Threads + Sync>(
+    rt: &R,
+    alloc: Global,
+    pool: &Pool<Every, Door>,
+    session: &mut Session,
+    line: &str,
+    sink: &mut MemorySink,
+) -> bool {
+    if line.as_bytes().contains(&b'\n') {
+        return false;
+    }
+    session.line(rt, alloc, pool, line.as_bytes(), sink) == Ok(Next::Go)
+}
+
+/// Opens a session by some lines, and answers others by two workers and pieces of this length. An error names the first of these that
+/// wrote another text, or at which the workers did not meet.
+fn meet_at_each<R: Threads + Sync>(
     rt: &R,
     alloc: Global,
     schedule: Schedule,
     piece: usize,
-    session: &str,
-    functions: u32,
-    text: &str,
-) -> bool {
+    opening: &str,
+    rows: &[(String, String)],
+) -> Result<(), Fail> {
     let meeting = Meeting::new();
     let pool = Pool::with(2, schedule, Every(piece), Door::Meeting(&meeting));
-    let mut source = MemorySource::new(session.as_bytes(), BLOCK, None);
+    let mut session = Session::new(alloc);
     let mut sink = MemorySink::new(alloc, BLOCK, None);
-    let outcome = run(rt, alloc, &pool, &mut source, &mut sink);
-    outcome.is_ok() && sink.bytes() == text.as_bytes() && meeting.met() == 2 * u64::from(functions)
-}
-
-#[test]
-fn gate_run(rt: HostRuntime) {
-    for schedule in [Schedule::Claims, Schedule::Deques] {
-        assert!(rt; meets(&rt, rt.alloc(), schedule, 1, "1 2+3 4\n", 1, "4 6\n"));
+    for line in opening.lines() {
+        if !goes_on(rt, alloc, &pool, &mut session, line, &mut sink) {
+            return Err(Fail::new(format_args!("{line}")));
+        }
     }
+    for (line, text) in rows {
+        let before = meeting.met();
+        let mut sink = MemorySink::new(alloc, BLOCK, None);
+        let is_answered = goes_on(rt, alloc, &pool, &mut session, line.as_str(), &mut sink);
+        if !is_answered || sink.bytes() != text.as_bytes() || meeting.met() == before {
+            return Err(Fail::new(format_args!("{line}")));
+        }
+    }
+    Ok(())
 }
 
 /// The line that makes `A` so many numbers 1.
@@ -515,35 +558,57 @@ fn ones(alloc: Global, count: usize) -> Result<String, AllocError> {
     Ok(line)
 }
 
-/// Adds the lines of a table to a session, what they write to its text, and each line with its value in `B` to another session.
-fn push_lines(
-    alloc: Global,
-    table: Table,
-    session: &mut String,
-    texts: &mut String,
-    assigned: &mut String,
-) -> Result<(), Fail> {
+/// A line of a table.
+fn row(alloc: Global, line: &str, text: &str) -> Result<(String, String), AllocError> {
+    Ok((
+        String::from_str(alloc, line)?,
+        String::from_str(alloc, text)?,
+    ))
+}
+
+/// The lines of a table and what they write.
+fn rows_of(alloc: Global, table: Table) -> Result<Vec<(String, String)>, Fail> {
+    let mut rows = Vec::new(alloc);
     for (line, text) in lines_of(alloc, table)? {
-        write!(session, "{line}\n")?;
-        texts.push_str(text.as_str())?;
-        write!(assigned, "B←{line}\n")?;
+        rows.push(row(alloc, line, text.as_str())?)?;
     }
-    Ok(())
+    Ok(rows)
+}
+
+/// The lines of a table, each with its value in `B`: they write nothing.
+fn assigned_rows(alloc: Global, table: Table) -> Result<Vec<(String, String)>, Fail> {
+    let mut rows = Vec::new(alloc);
+    for (line, _) in lines_of(alloc, table)? {
+        let line = format!(in alloc; "B←{line}")?;
+        rows.push((line, String::new(alloc)))?;
+    }
+    Ok(rows)
 }
 
 #[test]
 fn each_scalar_function_uses_the_pool(rt: HostRuntime) -> Result<(), Fail> {
     let alloc = rt.alloc();
-    let mut two = String::from_str(alloc, "A←1 1\n")?;
-    let mut texts = String::new(alloc);
-    let mut some = ones(alloc, 2048)?;
-    push_lines(alloc, (FUNCTIONS, 28), &mut two, &mut texts, &mut some)?;
-    let mut many = ones(alloc, 2 * HALF)?;
-    many.push_str("B←~A\nB←A+A\n")?;
+    let two = rows_of(alloc, (FUNCTIONS, 28))?;
+    let some = assigned_rows(alloc, (FUNCTIONS, 28))?;
+    let many = rows_of(alloc, ("B←~A →\nB←A+A →", 2))?;
     for schedule in [Schedule::Claims, Schedule::Deques] {
-        assert!(rt; meets(&rt, alloc, schedule, 1, two.as_str(), 28, texts.as_str()));
-        assert!(rt; meets(&rt, alloc, schedule, 1024, some.as_str(), 29, ""));
-        assert!(rt; meets(&rt, alloc, schedule, HALF, many.as_str(), 3, ""));
+        meet_at_each(&rt, alloc, schedule, 1, "A←1 1", &two)?;
+        meet_at_each(
+            &rt,
+            alloc,
+            schedule,
+            1024,
+            ones(alloc, 2048)?.as_str(),
+            &some,
+        )?;
+        meet_at_each(
+            &rt,
+            alloc,
+            schedule,
+            HALF,
+            ones(alloc, 2 * HALF)?.as_str(),
+            &many,
+        )?;
     }
     Ok(())
 }
@@ -551,21 +616,26 @@ fn each_scalar_function_uses_the_pool(rt: HostRuntime) -> Result<(), Fail> {
 #[test]
 fn each_structural_function_uses_the_pool(rt: HostRuntime) -> Result<(), Fail> {
     let alloc = rt.alloc();
-    let mut two = String::from_str(alloc, "N←2\nS←1 2\nT←0 2\nA←1 1\n")?;
-    two.push_str(ARGUMENTS)?;
-    let mut texts = String::new(alloc);
-    let mut some = ones(alloc, 2048)?;
-    some.push_str("N←2048\nS←1 2048\nT←0 2048\n")?;
-    some.push_str(ARGUMENTS)?;
-    push_lines(alloc, (STRUCTURES, 52), &mut two, &mut texts, &mut some)?;
-    two.push_str("⍴M\n")?;
-    texts.push_str("1 2\n")?;
-    let mut many = ones(alloc, 2 * HALF)?;
-    many.push_str("B←⌽A\nB←A,''\nB←A[A]\nA[1]←2\n")?;
+    let mut few = String::from_str(alloc, "A←1 1\nN←2\nS←1 2\nT←0 2\n")?;
+    few.push_str(ARGUMENTS)?;
+    let mut more = ones(alloc, 2048)?;
+    more.push_str("N←2048\nS←1 2048\nT←0 2048\n")?;
+    more.push_str(ARGUMENTS)?;
+    let mut two = rows_of(alloc, (STRUCTURES, 52))?;
+    two.push(row(alloc, "⍴M", "1 2\n")?)?;
+    let some = assigned_rows(alloc, (STRUCTURES, 52))?;
+    let many = rows_of(alloc, ("B←⌽A →\nB←A,'' →\nB←A[A] →\nA[1]←2 →", 4))?;
     for schedule in [Schedule::Claims, Schedule::Deques] {
-        assert!(rt; meets(&rt, alloc, schedule, 1, two.as_str(), 54, texts.as_str()));
-        assert!(rt; meets(&rt, alloc, schedule, 1024, some.as_str(), 54, ""));
-        assert!(rt; meets(&rt, alloc, schedule, HALF, many.as_str(), 5, ""));
+        meet_at_each(&rt, alloc, schedule, 1, few.as_str(), &two)?;
+        meet_at_each(&rt, alloc, schedule, 1024, more.as_str(), &some)?;
+        meet_at_each(
+            &rt,
+            alloc,
+            schedule,
+            HALF,
+            ones(alloc, 2 * HALF)?.as_str(),
+            &many,
+        )?;
     }
     Ok(())
 }
@@ -573,47 +643,49 @@ fn each_structural_function_uses_the_pool(rt: HostRuntime) -> Result<(), Fail> {
 #[test]
 fn each_reduction_uses_the_pool(rt: HostRuntime) -> Result<(), Fail> {
     let alloc = rt.alloc();
-    let mut two = String::from_str(alloc, "V←3 2\nW←2 3\nR←1 1 1\nA←1 1\n")?;
-    two.push_str(ITEMS)?;
-    let mut texts = String::new(alloc);
-    let mut some = ones(alloc, 2048)?;
-    some.push_str("V←2 2048\nW←2048 2\nR←1 1\n")?;
-    some.push_str(ITEMS)?;
-    push_lines(alloc, (REDUCTIONS, 116), &mut two, &mut texts, &mut some)?;
-    two.push_str("-\\A\n")?;
-    texts.push_str("1 0\n")?;
-    let mut many = ones(alloc, 2 * HALF)?;
-    many.push_str("V←2 1048576\nB←+⌿V⍴A\nB←A∘.×1\nB←+/A\nB←A+.×A\n")?;
-    // Both workers meet three times where they reshape, and once at each place of a fold whose items they share.
+    let mut few = String::from_str(alloc, "A←1 1\nV←3 2\nW←2 3\nR←1 1 1\n")?;
+    few.push_str(ITEMS)?;
+    let mut more = ones(alloc, 2048)?;
+    more.push_str("V←2 2048\nW←2048 2\nR←1 1\n")?;
+    more.push_str(ITEMS)?;
+    let mut two = rows_of(alloc, (REDUCTIONS, 116))?;
+    two.push(row(alloc, "-\\A", "1 0\n")?)?;
+    let some = assigned_rows(alloc, (REDUCTIONS, 116))?;
+    let mut largest = ones(alloc, 2 * HALF)?;
+    largest.push_str("V←2 1048576\n")?;
+    let many = rows_of(alloc, ("B←+⌿V⍴A →\nB←A∘.×1 →\nB←+/A →\nB←A+.×A →", 4))?;
     for schedule in [Schedule::Claims, Schedule::Deques] {
-        assert!(rt; meets(&rt, alloc, schedule, 1, two.as_str(), 199, texts.as_str()));
-        assert!(rt; meets(&rt, alloc, schedule, 1024, some.as_str(), 121, ""));
-        assert!(rt; meets(&rt, alloc, schedule, HALF, many.as_str(), 7, ""));
+        meet_at_each(&rt, alloc, schedule, 1, few.as_str(), &two)?;
+        meet_at_each(&rt, alloc, schedule, 1024, more.as_str(), &some)?;
+        meet_at_each(&rt, alloc, schedule, HALF, largest.as_str(), &many)?;
     }
     Ok(())
 }
 
-/// Adds the line that makes `F` so many numbers 1, by a constant.
-fn push_items(session: &mut String, count: usize) -> Result<(), AllocError> {
-    session.push_str("F←")?;
+/// The line that makes `F` so many numbers 1, by a constant.
+fn items(alloc: Global, count: usize) -> Result<String, AllocError> {
+    let mut line = String::from_str(alloc, "F←")?;
     for _ in 0..count {
-        session.push_str("1 ")?;
+        line.push_str("1 ")?;
     }
-    session.push('\n')
+    Ok(line)
 }
 
 #[test]
 fn each_cut_fold_uses_the_pool(rt: HostRuntime) -> Result<(), Fail> {
     let alloc = rt.alloc();
-    let mut three = String::new(alloc);
-    push_items(&mut three, 3)?;
-    let mut texts = String::new(alloc);
-    let mut some = String::new(alloc);
-    push_items(&mut some, 2049)?;
-    push_lines(alloc, (CUT_FOLDS, 75), &mut three, &mut texts, &mut some)?;
+    let three = rows_of(alloc, (CUT_FOLDS, 75))?;
+    let some = assigned_rows(alloc, (CUT_FOLDS, 75))?;
     for schedule in [Schedule::Claims, Schedule::Deques] {
-        assert!(rt; meets(&rt, alloc, schedule, 1, three.as_str(), 75, texts.as_str()));
-        assert!(rt; meets(&rt, alloc, schedule, 1024, some.as_str(), 75, ""));
+        meet_at_each(&rt, alloc, schedule, 1, items(alloc, 3)?.as_str(), &three)?;
+        meet_at_each(
+            &rt,
+            alloc,
+            schedule,
+            1024,
+            items(alloc, 2049)?.as_str(),
+            &some,
+        )?;
     }
     Ok(())
 }

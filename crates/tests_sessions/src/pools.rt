@@ -1,4 +1,4 @@
-//! Each piece passes the gate once, and the answers of small kernels.
+//! How often each piece passes the gate, and the answers of small kernels.
 ghost use Rattle.std.specs.Prelude.{◌≤◌};
 ghost use Rattle.apl_pool.specs.declared.kernel.TheConstants.{MOST_PLACES};
 
@@ -229,6 +229,31 @@ fn each_piece_passes_once(rt: HostRuntime) -> Result<(), Fail> {
         }
     }
     Ok(())
+}
+
+/// Of 3 pieces the second has a fault. Several workers begin it once, and the caller begins it once more at the end; the third one may
+/// be left out. One worker passes all three before it writes their places in one stretch.
+#[test]
+fn a_faulty_piece_passes_twice(rt: HostRuntime) {
+    let stop = Stop::Fault {
+        place: 3,
+        fault: Fault::Limit,
+    };
+    for schedule in [Schedule::Claims, Schedule::Deques] {
+        for (workers, second) in [(1u8, 1), (2, 2), (3, 2), (64, 2)] {
+            let noting = Noting::new();
+            let kernel = Numbers { count: 5, limit: 3 };
+            let pool = Pool::with(workers, schedule, Every(2), &noting);
+            let answer = pool.fill(&rt, rt.alloc(), &kernel);
+            let [before, faulty, behind, none] = noting.times();
+            assert!(rt;
+                answer.err() == Some(stop)
+                    && (before, faulty, none) == (1, second, 0)
+                    && behind <= 1,
+                "{workers} workers"
+            );
+        }
+    }
 }
 
 #[test]

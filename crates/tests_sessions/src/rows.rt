@@ -47,41 +47,41 @@ const WORKERS: [u8; 4] = [1, 2, 3, 64];
 /// What a cut answers to how many elements a piece has. One of none and one of more than there are cut too.
 const PIECES: [usize; 6] = [1, 2, 3, 4096, 0, usize::MAX];
 
-/// Checks what each session of the tables writes, by takes and puts of each size, and on each pool under both schedules.
+/// Checks what each session of the tables writes.
 fn check<R: Abort + Threads + Sync>(rt: &R, alloc: Global, tables: &[Table]) -> Result<(), Fail> {
     for table in tables {
-        let transcripts = transcripts_of(alloc, *table)?;
-        check_on_each(rt, alloc, &transcripts);
+        for Transcript { session, text } in transcripts_of(alloc, *table)? {
+            check_session(
+                rt,
+                alloc,
+                session.as_bytes(),
+                text.as_bytes(),
+                session.as_str(),
+            );
+        }
     }
     Ok(())
 }
 
-fn check_on_each<R: Abort + Threads + Sync>(rt: &R, alloc: Global, transcripts: &[Transcript]) {
+/// Checks what a session writes, by takes and puts of each size, and on each pool under both schedules.
+fn check_session<R: Abort + Threads + Sync>(
+    rt: &R,
+    alloc: Global,
+    session: &[u8],
+    text: &[u8],
+    name: &str,
+) {
     let pool = Pool::new(3, Every(2), Door::Open);
     for most in SIZES {
-        check_on(rt, alloc, &pool, most, transcripts);
+        assert!(rt; writes(rt, alloc, &pool, session, most, text), "{name}");
     }
     for workers in WORKERS {
         for piece in PIECES {
             for schedule in [Schedule::Claims, Schedule::Deques] {
                 let pool = Pool::with(workers, schedule, Every(piece), Door::Open);
-                check_on(rt, alloc, &pool, ALL, transcripts);
+                assert!(rt; writes(rt, alloc, &pool, session, ALL, text), "{name}");
             }
         }
-    }
-}
-
-/// Checks what sessions write on a pool, by takes and puts of at most so many bytes.
-fn check_on<R: Abort + Threads + Sync>(
-    rt: &R,
-    alloc: Global,
-    pool: &Pool<Every, Door>,
-    most: usize,
-    transcripts: &[Transcript],
-) {
-    for Transcript { session, text } in transcripts {
-        let is_written = writes(rt, alloc, pool, session.as_bytes(), most, text.as_bytes());
-        assert!(rt; is_written, "{session}");
     }
 }
 
@@ -149,17 +149,14 @@ fn lines(rt: HostRuntime) -> Result<(), Fail> {
 
 #[test]
 fn bytes_that_are_no_text(rt: HostRuntime) {
-    let pool = Pool::new(2, Every(1), Door::Open);
     let sessions: [(&[u8], &str); 4] = [
         (b"A\xff\n", "CHARACTER ERROR\n      A\n       ∧\n"),
         (b"1+\xe2\x8d\n", "CHARACTER ERROR\n      1+\n        ∧\n"),
         (b"\xc0\x80\n", "CHARACTER ERROR\n      \n      ∧\n"),
         (b"\xed\xa0\x80\n", "CHARACTER ERROR\n      \n      ∧\n"),
     ];
-    for most in SIZES {
-        for (session, text) in sessions {
-            assert!(rt; writes(&rt, rt.alloc(), &pool, session, most, text.as_bytes()));
-        }
+    for (session, text) in sessions {
+        check_session(&rt, rt.alloc(), session, text.as_bytes(), text);
     }
 }
 
@@ -180,26 +177,21 @@ fn report(alloc: Global, name: &str, line: &[u8], column: usize) -> Result<Vec<u
 /// How many brackets or digits a long line has.
 const MANY: usize = 10_000;
 
-/// Checks what a long session writes.
-fn check_long<R: Abort + Threads + Sync>(rt: &R, alloc: Global, session: &[u8], text: &[u8]) {
-    let pool = Pool::new(4, Every(4096), Door::Open);
-    for most in SIZES {
-        assert!(rt;
-            writes(rt, alloc, &pool, session, most, text),
-            "{most} at a time"
-        );
-    }
-}
-
 #[test]
 fn long_lines(rt: HostRuntime) -> Result<(), Fail> {
     let alloc = rt.alloc();
     let digits = vec![in alloc; b'9'; 1000]?;
     let limit = report(alloc, "LIMIT", digits.as_slice(), 0)?;
-    check_long(&rt, alloc, digits.as_slice(), limit.as_slice());
+    check_session(&rt, alloc, digits.as_slice(), limit.as_slice(), "digits");
     let unlisted = vec![in alloc; 0xe2; 100_000]?;
     let character = report(alloc, "CHARACTER", b"", 0)?;
-    check_long(&rt, alloc, unlisted.as_slice(), character.as_slice());
+    check_session(
+        &rt,
+        alloc,
+        unlisted.as_slice(),
+        character.as_slice(),
+        "unlisted",
+    );
     Ok(())
 }
 
@@ -209,13 +201,25 @@ fn many_parentheses(rt: HostRuntime) -> Result<(), Fail> {
     let mut opened = vec![in alloc; b'('; MANY]?;
     opened.push(b'1')?;
     let unclosed = report(alloc, "SYNTAX", opened.as_slice(), MANY - 1)?;
-    check_long(&rt, alloc, opened.as_slice(), unclosed.as_slice());
+    check_session(
+        &rt,
+        alloc,
+        opened.as_slice(),
+        unclosed.as_slice(),
+        "unclosed",
+    );
     let closing = vec![in alloc; b')'; MANY]?;
     opened.extend_from_slice(closing.as_slice())?;
-    check_long(&rt, alloc, opened.as_slice(), b"1\n");
+    check_session(&rt, alloc, opened.as_slice(), b"1\n", "closed");
     let mut closed = vec![in alloc; b'1'; 1]?;
     closed.extend_from_slice(closing.as_slice())?;
     let unopened = report(alloc, "SYNTAX", closed.as_slice(), 0)?;
-    check_long(&rt, alloc, closed.as_slice(), unopened.as_slice());
+    check_session(
+        &rt,
+        alloc,
+        closed.as_slice(),
+        unopened.as_slice(),
+        "unopened",
+    );
     Ok(())
 }

@@ -9,7 +9,7 @@ use std::test::Fail;
 #[test]
 fn many_elements(rt: HostRuntime) -> Result<(), Fail> {
     let alloc = rt.alloc();
-    for count in [1 << 17, (1 << 20) + 1] {
+    for count in [1 << 17, (1 << 20) + 1, 1 << 22] {
         let mut session = String::from_str(alloc, "A←'")?;
         for _ in 0..count {
             session.push('x')?;
