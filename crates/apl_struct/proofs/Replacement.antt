@@ -1,13 +1,13 @@
 -- The number at each place is that of the last choice of its index list.
-use Rattle.std.proofs.Common.{◌≡◌, ℕ, pos, zero, suc, ◌+◌, ◌-◌, ◌*◌, ◌/◌, ◌<◌, ◌≤◌, Bool, true, false, List, [], ◌∷◌, length, take, drop, Option, Some, None, slice_index, slice_index_or, refl, ap, sym, ◌∙◌, arith}
+use Rattle.std.proofs.Common.{◌≡◌, ℕ, pos, zero, suc, ◌+◌, ◌-◌, ◌*◌, ◌/◌, ◌%◌, ◌<◌, ◌≤◌, Bool, true, false, List, [], ◌∷◌, length, take, drop, map, Option, Some, None, Result, Ok, slice_index_or, refl, ap, sym, ◌∙◌, arith}
 use Rattle.std.specs.Prelude.{nat_eq, ◌||◌, if◌then◌else◌}
 use Rattle.std.specs.Cmp.Lexicographic.{same_text}
 use Rattle.std.proofs.lemmas.Bool.{eq-eqb, eqb-true, and_from}
 use Rattle.std.proofs.lemmas.Grind.{get_or-set_at}
 use Rattle.std.proofs.lemmas.List.{get_or-set_other}
 use Rattle.std.proofs.lemmas.Nat.{mod-mul-add, div-mul-add}
-use Rattle.std.proofs.Math.ListN.{set}
-use Rattle.std.proofs.Math.Nat.{mul-le-mul_right, le-mul_of_pos_right}
+use Rattle.std.proofs.Math.ListN.{set, get_or-map}
+use Rattle.std.proofs.Math.Nat.{mul-le-mul_right, mod-eq_of_lt}
 use Rattle.apl_array.specs.declared.array.Elem.TheVariants.{Int}
 use Rattle.apl_array.specs.declared.array.Elem.{Elem}
 use Rattle.apl_array.specs.declared.axis.Origin.{Origin}
@@ -16,10 +16,13 @@ use Rattle.apl_array.specs.Array.{ArrayValue, IsArray, element_at, element_in}
 use Rattle.apl_answer.specs.Arguments.{fill_of, has_one_element, is_same_shape}
 use Rattle.apl_struct.specs.Indexing.{Slots, selected_shape, select_source, last_choice, replaced_element}
 use Rattle.apl_walk.specs.declared.maps.Map.{Map}
-use Rattle.apl_walk.specs.declared.maps.Map.TheVariants.{Window, Reversed, Rotated, Listed, ListedOrNone, Repeated}
+use Rattle.apl_walk.specs.declared.window.Window.{Window as WindowMap}
+use Rattle.apl_walk.specs.Gathered.{value_or}
 use Rattle.apl_walk.specs.Steps.{and_step}
-use Rattle.apl_walk.specs.Maps.{map_extent, map_step, walked}
-use Rattle.apl_struct.specs.Numbering.{IsReached, last_number, element_numbered, value_step, IsReplacement}
+use Rattle.apl_walk.specs.Maps.{map_extent, map_step, step_of, walked}
+use Rattle.apl_pool.specs.declared.kernel.Fault.{Fault}
+use Rattle.apl_pool.specs.Pool.{AreValues}
+use Rattle.apl_struct.specs.Numbering.{IsReached, last_number, value_numbered, element_numbered, value_step, IsReplacement}
 use Rattle.apl_struct.specs.Selecting.{chosen_place, AreArrays, IsSelection}
 use Rattle.apl_struct.proofs.Filled.{get_or-within}
 use Rattle.apl_struct.proofs.Sources.{place_chosen, lawful_index, rest_of}
@@ -30,16 +33,18 @@ same_numbers f g step p (suc n) same =
     let deeper = same_numbers f g step p n (λ m inside. same m (omega arith)) in
     ap (λ q. if nat_eq q p then n * step + 1 else last_number f step p n) (same n (omega arith)) ∙ ap (λ r. if nat_eq (g n) p then n * step + 1 else r) deeper
 
--- one more number, at its place
-pub number_more : (choice : ℕ → ℕ) (step n q v : ℕ) (numbers : List ℕ) → q < length numbers → q ≡ choice n → v ≡ n * step + 1
-    → ((p : ℕ) → p < length numbers → slice_index numbers p ≡ last_number choice step p n)
-    → (p : ℕ) → p < length numbers → slice_index (set numbers q v) p ≡ last_number choice step p (suc n)
-number_more choice step n q v numbers within is value before p inside = by_test (nat_eq (choice n) p) refl
+-- one more value, at its place
+pub value_more : {T : Type 0} (elements values room : List T) (fill v : T) (choice : ℕ → ℕ) (step n q : ℕ) → q < length room → q ≡ choice n → v ≡ slice_index_or values (n * step) fill
+    → ((p : ℕ) → p < length room → slice_index_or room p fill ≡ value_numbered elements values fill (last_number choice step p n) p)
+    → (p : ℕ) → p < length room → slice_index_or (set room q v) p fill ≡ value_numbered elements values fill (last_number choice step p (suc n)) p
+value_more elements values room fill v choice step n q within is value before p inside = by_test (nat_eq (choice n) p) refl
   where
-    by_test : (b : Bool) → nat_eq (choice n) p ≡ b → slice_index (set numbers q v) p ≡ (if b then n * step + 1 else last_number choice step p n)
-    by_test true same = get_or-set_at numbers q p v 0 (sym (is ∙ eqb-true (choice n) p same)) within ∙ value
+    by_test : (b : Bool) → nat_eq (choice n) p ≡ b → slice_index_or (set room q v) p fill ≡ value_numbered elements values fill (if b then n * step + 1 else last_number choice step p n) p
+    by_test true same =
+        let number : suc (n * step) ≡ n * step + 1 = omega arith in
+        get_or-set_at room q p v fill (sym (is ∙ eqb-true (choice n) p same)) within ∙ value ∙ ap (λ m. value_numbered elements values fill m p) number
     by_test false other =
-        get_or-set_other numbers q p v 0 (λ same. let test : nat_eq (choice n) p ≡ true = eq-eqb (choice n) p (sym is ∙ sym same) in absurd cc) ∙ before p inside
+        get_or-set_other room q p v fill (λ same. let test : nat_eq (choice n) p ≡ true = eq-eqb (choice n) p (sym is ∙ sym same) in absurd cc) ∙ before p inside
 
 -- ---- lines of a walk
 
@@ -48,19 +53,6 @@ line_reached last outer line i inside =
     let e = map_extent last in
     ap (λ j. and_step (map_step last j) (walked outer ((line * e + i) / e))) (mod-mul-add line e i inside)
     ∙ ap (λ l. and_step (map_step last i) (walked outer l)) (div-mul-add line e i inside)
-
-pub map_some : (m : Map) → 0 < map_extent m
-map_some (Window w) = w.extent_some
-map_some (Reversed r) = r.some
-map_some (Rotated r) = r.some
-map_some (Listed l) = l.count_some
-map_some (ListedOrNone l) = l.count_some
-map_some (Repeated r) = omega (arith, le-mul_of_pos_right r.axis_length r.times_some, r.length_some)
-
-pub first_reached : (last : Map) (outer : List Map) → walked (last ∷ outer) 0 ≡ and_step (map_step last 0) (walked outer 0)
-first_reached last outer =
-    let first : 0 ≡ 0 * map_extent last + 0 = omega arith in
-    ap (walked (last ∷ outer)) first ∙ line_reached last outer 0 0 (map_some last)
 
 -- the map of the last axis and the others, as a slice pattern gives them
 pub walked_parts : (maps : List Map) (last : Map) (place : ℕ) → 0 < length maps → last ≡ slice_index_or maps 0 last → walked (last ∷ take (length maps - 1) (drop 1 maps)) place ≡ walked maps place
@@ -76,6 +68,31 @@ line_within line i lines e below inside =
 pub not_reached : (n : ℕ) (step : Option ℕ) → IsReached n (and_step step None) → ⊥
 not_reached n (Some m) is = is
 not_reached n None is = is
+
+-- ---- lists of values
+
+same_value : {T : Type 0} (x y : T) (r : Result T Fault) → r ≡ Ok x → r ≡ Ok y → x ≡ y
+same_value x y r first second = cc
+
+-- a walk along all elements
+pub copied_each : {T : Type 0} (elements : List T) (fill : T) (all : WindowMap) → all.extent ≡ length elements → ((i : ℕ) → i < length elements → step_of all i ≡ Some (i * 1))
+    → (values source : List T) (outer : List Map) (last : WindowMap) (count : ℕ) → source ≡ elements → outer ≡ [] → last ≡ all → count ≡ 1 * all.extent
+    → AreValues (λ place. Ok (value_or source fill (and_step (step_of last (place % last.extent)) (walked outer (place / last.extent))))) count values
+    → (p : ℕ) (d : T) → p < length elements → slice_index_or values p d ≡ slice_index_or elements p d
+copied_each elements fill all wide step values source outer last count same along across long are p d inside =
+    let reached : ℕ → Result _ Fault = λ place. Ok (value_or elements fill (and_step (step_of all (place % all.extent)) (Some 0))) in
+    let own : p % all.extent ≡ p = ap (λ e. p % e) wide ∙ mod-eq_of_lt inside in
+    let there : p * 1 + 0 ≡ p = omega arith in
+    let is : reached p ≡ Ok (slice_index_or elements p fill) =
+    ap (λ i. Ok (value_or elements fill (and_step (step_of all i) (Some 0)))) own ∙ ap (λ s. Ok (value_or elements fill (and_step s (Some 0)))) (step p inside) ∙ ap (λ q. Ok (slice_index_or elements q fill)) there in
+    let below : p < count = omega (arith, long, wide, inside) in
+    let given = rw (same, along, across) at are in
+    same_value _ _ (reached p) (given.each p d below) is ∙ get_or-within elements p fill d inside
+
+pub numbered_element : {T : Type 0} (elem_of : T → Elem) (elements first values : List T) (fill : T) (blank : Elem) (number place : ℕ) → elem_of fill ≡ blank
+    → slice_index_or first place fill ≡ slice_index_or elements place fill → elem_of (value_numbered first values fill number place) ≡ value_numbered (map elem_of elements) (map elem_of values) blank number place
+numbered_element elem_of elements first values fill blank zero place is same = ap elem_of same ∙ sym (get_or-map elem_of elements place fill) ∙ ap (slice_index_or (map elem_of elements) place) is
+numbered_element elem_of elements first values fill blank (suc number) place is same = sym (get_or-map elem_of values number fill) ∙ ap (slice_index_or (map elem_of values) number) is
 
 -- ---- values
 

@@ -2,12 +2,12 @@ use Rattle.std.proofs.Common.{◌≡◌, ℕ, ◌+◌, ◌*◌, ◌<◌, ◌∷�
 use Rattle.std.specs.Prelude.{Option, Some, None}
 use Rattle.apl_walk.specs.Steps.{and_step}
 use Rattle.apl_walk.specs.Maps.{map_extent, map_step, extent_of, walked}
-use Rattle.apl_struct.specs.Numbering.{reached, IsReached, last_number}
+use Rattle.apl_struct.specs.Numbering.{reached, IsReached, last_number, value_numbered}
 use Rattle.apl_struct.proofs.Replacement.{line_reached, line_within, not_reached}
-use Rattle.apl_struct.proofs.replacing.number_lines.Goals as goal
+use Rattle.apl_struct.proofs.replacing.write_lines.Goals as goal
 
-pub number_line-requires-clause-within : goal.number_line-requires-clause-within
-number_line-requires-clause-within c = λ i inside.
+pub write_line-requires-clause-within : goal.write_line-requires-clause-within
+write_line-requires-clause-within g c = λ i inside.
     let last = c.args.last.now in
     let outer = c.args.outer.now in
     let line = c.loop-line.line in
@@ -15,10 +15,10 @@ number_line-requires-clause-within c = λ i inside.
     let there : walked (last ∷ outer) (line * map_extent last + i) ≡ and_step (map_step last i) (Some c.in-Some.base) = line_reached last outer line i inside ∙ ap (and_step (map_step last i)) base in
     let below : line * map_extent last + i < extent_of (last ∷ outer) = line_within line i (extent_of outer) (map_extent last) (omega arith) inside in
     let P : ℕ → Option ℕ → Type 0 = IsReached in
-    subst (λ n. P n (and_step (map_step last i) (Some c.in-Some.base))) (sym c.loop-line.invariant.len) (subst (P (length c.args.numbers.now)) there (c.requires.within (line * map_extent last + i) below))
+    subst (λ n. P n (and_step (map_step last i) (Some c.in-Some.base))) (sym c.loop-line.invariant.len) (subst (P (length c.args.room.now)) there (c.requires.within (line * map_extent last + i) below))
 
 pub unreachable-requires : goal.unreachable-requires
-unreachable-requires c =
+unreachable-requires g c =
     let last = c.args.last.now in
     let outer = c.args.outer.now in
     let line = c.loop-line.line in
@@ -27,23 +27,25 @@ unreachable-requires c =
     let there : walked (last ∷ outer) (line * map_extent last + 0) ≡ and_step (map_step last 0) None = line_reached last outer line 0 some ∙ ap (and_step (map_step last 0)) base in
     let below : line * map_extent last + 0 < extent_of (last ∷ outer) = line_within line 0 (extent_of outer) (map_extent last) (omega arith) some in
     let P : ℕ → Option ℕ → Type 0 = IsReached in
-    not_reached (length c.args.numbers.now) (map_step last 0) (subst (P (length c.args.numbers.now)) there (c.requires.within (line * map_extent last + 0) below))
+    not_reached (length c.args.room.now) (map_step last 0) (subst (P (length c.args.room.now)) there (c.requires.within (line * map_extent last + 0) below))
 
 pub loop-line-preserved : goal.loop-line-preserved
-loop-line-preserved c = record {
-  numbers = λ p inside.
+loop-line-preserved g c = record {
+  values = λ p inside.
       let last = c.args.last.now in
       let outer = c.args.outer.now in
       let line = c.loop-line.line in
       let step = c.args.step in
+      let first = c.args.room.now in
       let chosen : ℕ → ℕ = λ place. reached (walked (last ∷ outer) place) in
-      let len : length c.loop-line.numbers ≡ length c.args.numbers.now = c.loop-line.invariant.len in
+      let value = λ n q. value_numbered first c.args.values.now c.args.fill (last_number chosen step q n) q in
+      let len : length c.loop-line.room ≡ length first = c.loop-line.invariant.len in
       let extent : c.extent-extent.result ≡ map_extent last = c.extent-extent.ensures.value in
       let base : walked outer line ≡ Some c.in-Some.base = sym c.start_at.ensures.value ∙ c.in-Some.is in
       let whole : line * c.extent-extent.result + map_extent last ≡ (line + 1) * map_extent last = omega (arith, ap (λ e. line * e) extent) in
-      c.number_line.ensures.numbers chosen
+      c.write_line.ensures.values chosen first
       (λ i low. ap reached (sym (line_reached last outer line i low ∙ ap (and_step (map_step last i)) base)) ∙ ap (λ e. chosen (line * e + i)) (sym extent))
-      (λ q low. c.loop-line.invariant.numbers q (omega (arith, low, len)) ∙ ap (λ e. last_number chosen step q (line * e)) (sym extent)) p (omega (arith, inside, len))
-      ∙ ap (last_number chosen step p) whole;
-  len = omega (arith, c.number_line.ensures.len, c.loop-line.invariant.len);
+      (λ q low. c.loop-line.invariant.values q (omega (arith, low, len)) ∙ ap (λ e. value (line * e) q) (sym extent)) p (omega (arith, inside, len))
+      ∙ ap (λ n. value n p) whole;
+  len = omega (arith, c.write_line.ensures.len, c.loop-line.invariant.len);
 }
