@@ -7,10 +7,3 @@ module _ {T : Type 0} (outcome : ℕ → Result T Fault) where
   pub record AreWritten (from to : ℕ) (values : List T) : Type 0 where
     pub room : to ≤ from + length values
     pub each : (k : ℕ) (d : T) → from + k < to → outcome (from + k) ≡ Ok (slice_index_or values k d)
-
-  -- the values at four places side by side
-  pub record AreFour (place : ℕ) (first second third fourth : T) : Type 0 where
-    pub first_is : outcome place ≡ Ok first
-    pub second_is : outcome (place + 1) ≡ Ok second
-    pub third_is : outcome (place + 2) ≡ Ok third
-    pub fourth_is : outcome (place + 3) ≡ Ok fourth

@@ -39,9 +39,9 @@ pub const MOST_PLACES: usize = 1 << 30;
 
 /// A value or a fault at each place below a count. A kernel is lent to all workers.
 pub trait Kernel {
-    ghost use Rattle.std.specs.Prelude.{◌+◌, ◌≤◌, IfSome, length};
+    ghost use Rattle.std.specs.Prelude.{◌+◌, ◌≤◌, length};
     ghost use Rattle.apl_pool.specs.declared.kernel.Fault.{Fault};
-    ghost use Rattle.apl_pool.specs.Runs.{AreFour, AreWritten};
+    ghost use Rattle.apl_pool.specs.Runs.{AreWritten};
 
     /// The type of the values.
     type Out;
@@ -61,22 +61,6 @@ pub trait Kernel {
     fn at(&self, place: usize) -> Result<Self::Out, Fault>
         requires { place < place_count self.now }
         ensures { result ≡ outcome self.now place };
-
-    /// The values at a place and the three after it, all before `to`, if the kernel gives them together.
-    /// It gives none if one has a fault. It is for kernels that take few instructions at a place, so that
-    /// faults are looked for once in four. It takes no memory.
-    fn four(
-        &self,
-        _place: usize,
-        _to: usize,
-    ) -> Option<(Self::Out, Self::Out, Self::Out, Self::Out)>
-        requires order { _place ≤ _to }
-        requires places { _to ≤ place_count self.now }
-        ensures within { IfSome result (λ four. _place + 4 ≤ _to) }
-        ensures values { IfSome result (λ four. AreFour (outcome self.now) _place four.0 four.1 four.2 four.3) }
-    {
-        None
-    }
 
     /// Writes values into the room for the places from `from` up to before `to`. It answers the place at which it
     /// stopped: at most `to`, and `from` if it wrote none. It is for kernels that are faster over a run of places

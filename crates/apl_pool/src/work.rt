@@ -45,40 +45,6 @@ where
     }
 }
 
-/// Writes values that the kernel gives by fours into the room for the places from `from` on. It begins at `first`, and
-/// answers the place at which it stopped.
-fn write_fours<K: Kernel>(
-    kernel: &K,
-    from: usize,
-    first: usize,
-    to: usize,
-    room: &mut [K::Out],
-) -> usize
-where
-    K::Out: Copy,
-    requires order { from ≤ first }
-    requires within { first ≤ to }
-    requires places { to ≤ K.place_count kernel.now }
-    requires most { to ≤ MOST_PLACES }
-    requires room { from + length room.old ≡ to }
-    requires before { AreWritten (K.outcome kernel.now) from first room.old }
-    ensures order { first ≤ result }
-    ensures within { result ≤ to }
-    ensures values { AreWritten (K.outcome kernel.now) from result room.new }
-    ensures len { length room.new ≡ length room.old }
-{
-    let mut place = first;
-    while let Some((one, two, three, four)) = kernel.four(place, to) {
-        let at = place - from;
-        room[at] = one;
-        room[at + 1] = two;
-        room[at + 2] = three;
-        room[at + 3] = four;
-        place += 4;
-    }
-    place
-}
-
 /// Writes the values at the places from `first` up to before `to` into the room for those from `from`
 /// on, one by one.
 fn write_places<K: Kernel>(
@@ -125,7 +91,6 @@ where
     ensures len { length room.new ≡ length room.old }
 {
     let first = write_runs(kernel, piece.from, piece.to, room);
-    let first = write_fours(kernel, piece.from, first, piece.to, room);
     write_places(kernel, piece.from, first, piece.to, room)
 }
 
