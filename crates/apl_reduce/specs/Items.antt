@@ -21,10 +21,6 @@ outer_number f left right place = dyadic_of f (item_in left (place / length righ
 abbrev pub pair_number : ScalarFunction → Elem → List Elem → ℕ → Result ℤ Fault
 pair_number f x others k = dyadic_of f x (item_in others k)
 
--- item k of a line, where lines and items are so far apart
-abbrev pub line_item : List Elem → ℕ → ℕ → ℕ → ℕ → Elem
-line_item elements line_stride item_stride line k = item_in elements (line * line_stride + k * item_stride)
-
 -- the number that an element is, or the fault
 abbrev pub as_number : Result Elem Fault → Result ℤ Fault
 as_number (Ok x) = Ok (number_of x)

@@ -21,7 +21,7 @@ use apl_walk::{Map, Repeated};
 use std::alloc::Global;
 use std::thread::Threads;
 
-/// Whether so many numbers serve an axis of this length: one for each index, or one for all.
+/// Whether this many numbers serve an axis of this length: one for each index, or one for all.
 fn serves(count: usize, length: usize) -> bool
     ensures { result ≡ ((count == 1) || (count == length)) }
 {
@@ -83,7 +83,7 @@ impl<R: Threads + Sync, C: Cut + Sync, G: Gate + Sync> Workers<'_, R, C, G> {
         self.gather_repeated(shape, b, k, counts, indexes.as_slice())
     }
 
-    /// Each index of axis `k`, which has this length, so many times.
+    /// Each index of axis `k`, which has this length, several times.
     fn replicate_all(
         &self,
         b: &Array,

@@ -23,7 +23,7 @@ use std::thread::Threads;
 /// Stands in a list of entries where there is no index: more than any index.
 const ABSENT: u32 = u32::MAX;
 
-/// The entry at a bit before which there are so many ones. Both are at hand, and nothing hangs on a bit that no processor can foresee.
+/// The entry at a bit, after a count of ones. Both entries are at hand, so no jump depends on a bit that no processor can foresee.
 #[inline(always)]
 fn entry_at(bit: i64, ones: u32) -> u32
     ensures { result ≡ (if int_eq bit (pos 1) then ones else ABSENT) }

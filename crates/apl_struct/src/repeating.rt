@@ -44,7 +44,7 @@ pub(crate) fn is_bit(number: i64) -> bool
     number == 0 || number == 1
 }
 
-/// Puts an index so many times behind others.
+/// Puts an index several times after others.
 #[inline(always)]
 fn push_times(table: &mut Vec<u32>, index: u32, times: usize)
     requires { vec_len table.old + times ≤ vec_capacity table.old }

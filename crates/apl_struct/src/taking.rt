@@ -133,7 +133,7 @@ fn taking_numbers<'a>(a: &'a Array, b: &Array) -> Result<&'a [i64], OpFault>
     }
 }
 
-/// The shape of an array of which a scalar serves as one of one element with so many axes.
+/// The shape of an array, where a scalar serves as an array of one element with `rank` axes.
 fn shape_with_axes(alloc: Global, b: &Array, rank: usize) -> Result<Shape, AllocError>
     requires { rank ≤ MOST_AXES }
     ensures shape { IfOk result (λ shape. shape ≡ (with_axes rank b.now).shape) }

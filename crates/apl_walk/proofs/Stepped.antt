@@ -132,17 +132,3 @@ values_rotated elements room fill base extent by stride f count start first with
             ∙ ap (λ p. slice_index_or elements p d) (split k) ∙ sym (front k d here)
       ];
 }
-
--- ---- listed indexes
-
-pub values_listed : {T : Type 0} (elements room : List T) (fill : T) (base reach first stride f count : ℕ) (step : ℕ → ℕ)
-    → base + reach < length elements → ((k : ℕ) → k < count → step (f + k) ≤ reach)
-    → ((k : ℕ) (d : T) → k < count → slice_index_or room k d ≡ slice_index_or elements (base + step (f + k)) d)
-    → BeginsWith (λ k. value_or elements fill (and_step (Some (step (f + k))) (Some base))) count room
-values_listed elements room fill base reach first stride f count step near below each = record {
-  each = λ k d inside.
-      let there : step (f + k) + base ≡ base + step (f + k) = omega arith in
-      get_or-within elements (step (f + k) + base) fill d (omega (arith, near, below k inside))
-      ∙ ap (λ p. slice_index_or elements p d) there
-      ∙ sym (each k d inside);
-}

@@ -3,7 +3,7 @@ use Rattle.std.proofs.Common.{◌≡◌, ℕ, ◌+◌, ◌-◌, ◌*◌, ◌/◌
 use Rattle.std.specs.Prelude.{◌&&◌, nat_le, nat_lt, Option, Some, None}
 use Rattle.std.proofs.lemmas.Bool.{and_parts, leb-true, ltb-true, le-leb, lt-ltb}
 use Rattle.std.proofs.Math.Arith.{mod-mul}
-use Rattle.std.proofs.Math.Nat.{add_assoc, mod-lt, mod-one, div-one, div-div-eq-div-mul, mul-le-mul_right, mul-lt-mul_of_pos_right, lt_of_mul-lt-mul_right}
+use Rattle.std.proofs.Math.Nat.{add_assoc, mod-lt, div-one, div-div-eq-div-mul, mul-le-mul_right, mul-lt-mul_of_pos_right, lt_of_mul-lt-mul_right}
 use Rattle.apl_walk.specs.declared.window.Window.{Window}
 use Rattle.apl_walk.specs.declared.maps.Map.{Map}
 use Rattle.apl_walk.specs.declared.maps.Map.TheVariants.{Window as WindowMap, Reversed, Rotated, Listed, ListedOrNone, Repeated}
@@ -96,16 +96,6 @@ joined_step outer inner place from start to stride =
     rw split
     (joined_value outer.from outer.to outer.start e inner.stride q r rest
     ∙ rw stride (ap (λ s. and_step s (if nat_le outer.from q && nat_lt q outer.to then Some ((q + outer.start - outer.from) * (inner.stride * e)) else None)) (sym (whole_step inner r from start to rest))))
-
--- ---- an inner axis of one index, which adds nothing
-
-pub joined_to_one : (outer : Map) (inner : Window) (place : ℕ) → inner.extent ≡ 1 → inner.from ≡ 0 → inner.start ≡ 0 → inner.to ≡ inner.extent
-    → map_step outer (place % map_extent outer) ≡ and_step (step_of inner (place % inner.extent)) (map_step outer (place / inner.extent % map_extent outer))
-joined_to_one outer inner place one from start to =
-    let none : place % inner.extent ≡ 0 = ap (λ m. place % m) one ∙ mod-one place in
-    let all : place / inner.extent ≡ place = ap (λ m. place / m) one ∙ div-one place in
-    let nothing : step_of inner (place % inner.extent) ≡ Some 0 = ap (step_of inner) none ∙ whole_step inner 0 from start to (omega (arith, one)) ∙ ap Some (omega arith) in
-    rw (nothing, all) (sym (zero-and_step (map_step outer (place % map_extent outer))))
 
 pub map_some : (m : Map) → 0 < map_extent m
 map_some (WindowMap w) = w.extent_some

@@ -36,7 +36,7 @@ listed_step first stride numbers i = Some (place_number (slice_index_or numbers 
 abbrev pub entry_step : (axis_length stride entry : ℕ) → Option ℕ
 entry_step axis_length stride entry = if nat_lt entry axis_length then Some (entry * stride) else None
 
--- each index so many times
+-- each index `times` times
 abbrev pub repeated_step : (times stride i : ℕ) → Option ℕ
 repeated_step times stride i = Some (i / times * stride)
 

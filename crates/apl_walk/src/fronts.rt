@@ -67,7 +67,7 @@ pub(crate) fn write_stretch<T: Copy>(
     }
 }
 
-/// So many of them, and behind them others.
+/// A count of them, and after them others.
 #[inline(always)]
 pub(crate) fn write_two_stretches<T: Copy>(
     elements: &[T],

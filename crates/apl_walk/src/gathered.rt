@@ -31,7 +31,7 @@ pub struct Gathered<'a, T, M: AxisMap> {
 }
 
 impl<'a, T: Element, M: AxisMap> Gathered<'a, T, M> {
-    /// The walk along these axes, of which the others have so many index lists.
+    /// The walk along these axes. The others have `lines` index lists.
     pub fn new(elements: &'a [T], outer: &'a [Map<'a>], lines: usize, last: M) -> Gathered<'a, T, M>
         requires few { length outer.now ≤ MOST_MAPS }
         requires lines { lines ≡ extent_of outer.now }

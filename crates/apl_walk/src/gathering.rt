@@ -21,7 +21,7 @@ use apl_pool::{Cut, Gate, Pool};
 use std::alloc::Global;
 use std::thread::Threads;
 
-/// So many cache lines of the argument stay near while several lines are written.
+/// How many cache lines of the argument stay near while several lines are written.
 const TILE: usize = 256;
 
 impl<R: Threads + Sync, C: Cut + Sync, G: Gate + Sync> Workers<'_, R, C, G> {

@@ -16,7 +16,7 @@ pub struct Part<'a, T> {
 }
 
 impl<'a, T: Copy> Part<'a, T> {
-    /// So many elements in each line, past the last of which there is always the first one.
+    /// `length` elements in each line. Past the last element there is always the first one.
     pub fn new(elements: &'a [T], fill: T, length: usize) -> Part<'a, T>
         requires { length ≤ MOST_PLACES }
         ensures elements { result.elements.now ≡ elements.now }

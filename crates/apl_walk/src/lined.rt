@@ -67,7 +67,7 @@ impl<L: Lined> ByLines<L> {
         ByLines::tiled(lines, tile)
     }
 
-    /// Lines that are written so many indexes at a time.
+    /// Lines that are written `tile` indexes at a time.
     pub fn tiled(lines: L, tile: usize) -> ByLines<L>
         requires { 0 < tile }
         ensures { result.lines ≡ lines }

@@ -5,7 +5,7 @@ ghost use Rattle.apl_walk.specs.declared.map.TheConstants.{MOST_STEP};
 
 use crate::map::{AxisMap, MOST_STEP};
 
-/// Each index of an axis so many times in a row.
+/// Each index of an axis, several times in a row.
 #[derive(Clone, Copy)]
 pub struct Repeated {
     pub axis_length: usize,
