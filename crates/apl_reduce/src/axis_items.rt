@@ -9,6 +9,7 @@ ghost use Rattle.apl_reduce.specs.Folded.{fold_at, number_of_axis};
 
 use crate::folded_rows::{fold_last_rows, fold_rows, from_place};
 use crate::folding::fold_along;
+use crate::pairs::NARROW;
 use crate::workers::shares_items;
 use apl_answer::Element;
 use apl_array::{
@@ -71,9 +72,6 @@ impl<'a, T: Element> AxisItems<'a, T> {
         }
     }
 }
-
-/// Rows of fewer places are folded place by place.
-const NARROW: usize = 8;
 
 /// The most places whose totals are kept beside one another.
 const MOST_TOTALS: usize = 2048;

@@ -10,7 +10,7 @@ ghost use Rattle.apl_reduce.specs.Items.{outer_number, pair_number};
 ghost use Rattle.apl_reduce.specs.Products.{outer_row};
 
 use crate::dyadic::{Chosen, Dyadic, Typed};
-use crate::pairs::write_pairs;
+use crate::pairs::{NARROW, write_pairs};
 use crate::shapes::{characters_of, joined_shape};
 use crate::workers::Workers;
 use apl_answer::{Element, OpFault, array_from_fill};
@@ -35,9 +35,6 @@ struct EachPair<'a, T, U, F: Dyadic> {
     ghost count_is: { count ≡ length left.now * length right.now },
     ghost columns_are: { columns ≡ length right.now },
 }
-
-/// Rows of fewer elements are gone through place by place.
-const NARROW: usize = 8;
 
 impl<T: Element, U: Element, F: Dyadic> EachPair<'_, T, U, F> {
     /// The left element of a place's row, and the right ones from that place on, up to before another

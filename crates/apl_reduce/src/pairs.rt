@@ -7,6 +7,9 @@ use crate::dyadic::Dyadic;
 use apl_answer::Element;
 use apl_pool::Fault;
 
+/// Rows of fewer elements are gone through place by place.
+pub(crate) const NARROW: usize = 8;
+
 /// What a function gives of one element and one of others.
 #[inline(always)]
 fn pair_at<T: Element, U: Element, F: Dyadic>(
