@@ -44,3 +44,18 @@ pub one_more : (number : ℕ → ℤ) (k : ℕ) (total x y a b : ℤ) → total 
 one_more number k total x y a b so_far left right here fits =
     let read : to_z w64 (of_z w64 (x *ℤ y)) ≡ x *ℤ y = to_z-of_z w64 (x *ℤ y) fits in
     rw (left, right, read, here, so_far) refl
+
+-- numbers of 32 bits
+module _ (numbers : List ℤ) (k : ℕ) (narrow : magnitude numbers < 2 ^ 31) where
+  pub narrow_read : to_z w64 (of_z w64 (get_or numbers k (pos 0))) ≡ get_or numbers k (pos 0)
+  narrow_read = to_z-of_z w64 (get_or numbers k (pos 0)) (fits_signed_from_abs w64 (get_or numbers k (pos 0)) (omega (arith, near_of numbers k, narrow)))
+
+  pub read_narrow : unsigned_abs (to_z w64 (of_z w64 (get_or numbers k (pos 0)))) < 2147483648
+  read_narrow = rw narrow_read (omega (arith, near_of numbers k, narrow))
+
+-- the same of a product that is at hand
+pub one_sum_more : (number : ℕ → ℤ) (k : ℕ) (total product x y a b : ℤ) → total ≡ sum_of number k → product ≡ a *ℤ b → a ≡ x → b ≡ y → x *ℤ y ≡ number k → FitsSigned w64 (x *ℤ y)
+    → total +ℤ to_z w64 (of_z w64 product) ≡ sum_of number (suc k)
+one_sum_more number k total product x y a b so_far is left right here fits =
+    let read : to_z w64 (of_z w64 (x *ℤ y)) ≡ x *ℤ y = to_z-of_z w64 (x *ℤ y) fits in
+    rw (is, left, right, read, here, so_far) refl

@@ -14,7 +14,7 @@ use crate::dyadic::{Chosen, Dyadic, Typed};
 use crate::inner_folds::LineRows;
 use crate::items::{Items, reduced};
 use crate::layouts::Layout;
-use crate::magnitudes::sums_are_small;
+use crate::magnitudes::{are_narrow, sums_are_small};
 use crate::meeting::{common_length, layout_of, left_lengths, right_lengths};
 use crate::shapes::{characters_of, joined_shape};
 use crate::sums::Sums;
@@ -191,11 +191,13 @@ impl<R: Threads + Sync, C: Cut + Sync, G: Gate + Sync> Workers<'_, R, C, G> {
         if !layout.repays_a_pass() || !sums_are_small(left, right, layout.items) {
             return self.typed::<i64, Plus, Times>(layout, left, right);
         }
+        let is_near = layout.left.item == 1 && layout.right.item == 1;
         let kernel = Sums {
             left,
             right,
             layout,
             columns: Divisor::new(layout.columns),
+            is_narrow: is_near && are_narrow(left) && are_narrow(right),
         };
         self.pool.fill(self.rt, self.alloc, &kernel)
     }

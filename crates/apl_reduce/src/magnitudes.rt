@@ -13,6 +13,13 @@ fn magnitude(numbers: &[i64]) -> u64
     greatest
 }
 
+/// Whether 32 bits hold each number and its negation.
+pub(crate) fn are_narrow(numbers: &[i64]) -> bool
+    ensures { IsTrue result ↔ magnitude numbers.now < 2 ^ 31 }
+{
+    magnitude(numbers) < 1 << 31
+}
+
 /// Whether so many products of a left number and a right one are within the range, and each sum of them, whatever their signs.
 pub(crate) fn sums_are_small(left: &[i64], right: &[i64], count: usize) -> bool
     ensures { IsTrue result ↔ magnitude left.now * magnitude right.now * count < 2 ^ 63 }

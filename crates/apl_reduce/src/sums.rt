@@ -1,5 +1,5 @@
 //! Sums of products that cannot leave the range.
-ghost use Rattle.std.specs.Prelude.{◌≡◌, ◌*◌, ◌^◌, ◌<◌, length};
+ghost use Rattle.std.specs.Prelude.{◌≡◌, ◌*◌, ◌*ℤ◌, ◌^◌, ◌<◌, true, length, unsigned_abs};
 ghost use Rattle.apl_reduce.specs.Layouts.{IsWithin, product_at};
 ghost use Rattle.apl_reduce.specs.Magnitudes.{magnitude, sum_of};
 
@@ -15,9 +15,25 @@ pub(crate) struct Sums<'a> {
     pub right: &'a [i64],
     pub layout: &'a Layout,
     pub columns: Divisor,
+    /// Whether all numbers are of 32 bits, and the items of each line are neighbours.
+    pub is_narrow: bool,
     ghost columns_are: { columns ≡ layout.now.columns },
     ghost within: { IsWithin layout.now (length left.now) (length right.now) },
     ghost small: { magnitude left.now * magnitude right.now * layout.now.items < 2 ^ 63 },
+    ghost left_narrow: { is_narrow ≡ true → magnitude left.now < 2 ^ 31 },
+    ghost right_narrow: { is_narrow ≡ true → magnitude right.now < 2 ^ 31 },
+    ghost left_near: { is_narrow ≡ true → layout.now.left.item ≡ 1 },
+    ghost right_near: { is_narrow ≡ true → layout.now.right.item ≡ 1 },
+}
+
+/// The product of numbers of 32 bits. A processor multiplies several such pairs at once.
+#[inline(always)]
+fn narrow_product(x: i64, y: i64) -> i64
+    requires left { unsigned_abs x < 2 ^ 31 }
+    requires right { unsigned_abs y < 2 ^ 31 }
+    ensures { result ≡ x *ℤ y }
+{
+    i64::from(x as i32) * i64::from(y as i32)
 }
 
 impl Sums<'_> {
@@ -34,6 +50,22 @@ impl Sums<'_> {
             let left = self.left[left_start + k * self.layout.left.item];
             let right = self.right[right_start + k * self.layout.right.item];
             total += left * right;
+        }
+        total
+    }
+
+    /// The same of numbers of 32 bits that are neighbours.
+    #[inline(never)]
+    fn narrow_sum_at(&self, place: usize) -> i64
+        requires place { place < self.now.layout.now.count }
+        requires narrow { self.now.is_narrow ≡ true }
+        ensures { result ≡ sum_of (product_at self.now.layout.now self.now.left.now self.now.right.now place) self.now.layout.now.items }
+    {
+        let left_start = self.columns.quotient(place) * self.layout.left.line;
+        let right_start = self.columns.remainder(place) * self.layout.right.line;
+        let mut total = 0;
+        for k in 0..self.layout.items {
+            total += narrow_product(self.left[left_start + k], self.right[right_start + k]);
         }
         total
     }
@@ -58,6 +90,9 @@ impl Kernel for Sums<'_> {
     #[inline(always)]
     fn at(&self, place: usize) -> Result<i64, Fault> {
         range_is_decided();
+        if self.is_narrow {
+            return Ok(self.narrow_sum_at(place));
+        }
         Ok(self.sum_at(place))
     }
 }

@@ -90,8 +90,9 @@ impl<R: Threads + Sync, C: Cut + Sync, G: Gate + Sync> Workers<'_, R, C, G> {
         ensures each { IfOk result (λ v. (p : ℕ) (d : T) → p < length elements.now → slice_index_or v.items p d ≡ slice_index_or elements.now p d) }
         ensures memory { IfErr result (λ stop. stop ≡ Memory) }
     {
+        let outer: [Map; 0] = [];
         let all = Window::whole(elements.len(), 1);
-        let kernel = ByLines::new(Gathered::new(elements, &[], 1, all));
+        let kernel = ByLines::new(Gathered::new(elements, &outer, 1, all));
         self.pool.fill(self.rt, self.alloc, &kernel)
     }
 
