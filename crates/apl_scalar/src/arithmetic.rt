@@ -1,6 +1,6 @@
 //! Exact arithmetic, refused only if the exact result leaves the range. No loop runs once for
 //! each unit of a large number.
-ghost use Rattle.std.specs.Prelude.{◌≡◌, pos, negsuc, ◌*ℤ◌, ◌+◌, ◌%◌, ◌^◌, ◌<◌, ◌≤◌, ◌==◌, if◌then◌else◌};
+ghost use Rattle.std.specs.Prelude.{◌≡◌, true, Ok, pos, negsuc, ◌*ℤ◌, unsigned_abs, ◌+◌, ◌%◌, ◌^◌, ◌<◌, ◌≤◌, ◌==◌, if◌then◌else◌};
 ghost use Rattle.std.specs.Int.{int_pow};
 ghost use Rattle.apl_scalar.specs.Arithmetic.{factorial, binomial, residue};
 ghost use Rattle.apl_scalar.specs.Scalar.{exact, reciprocal, quotient, power, factorial_of, combinations};
@@ -29,6 +29,38 @@ pub(crate) fn product(x: i64, y: i64) -> Result<i64, Fault>
         return Ok(left as i64 * right as i64);
     }
     limited(x.checked_mul(y))
+}
+
+/// The value and `true`, or some number and `false`.
+#[inline(always)]
+pub(crate) fn likely_value(outcome: Result<i64, Fault>) -> (i64, bool)
+    ensures { result.1 ≡ true → outcome ≡ Ok result.0 }
+{
+    match outcome {
+        Ok(value) => (value, true),
+        Err(_) => (0, false),
+    }
+}
+
+/// The number that the lower 32 bits of `x` are, and whether it is `x`.
+#[inline(always)]
+fn lower_half(x: i64) -> (i64, bool)
+    ensures value { result.1 ≡ true → result.0 ≡ x }
+    ensures small { unsigned_abs result.0 ≤ 2 ^ 31 }
+{
+    let half = (x << 32) >> 32;
+    (half, half == x)
+}
+
+/// `x` times `y` and `true` if both are numbers of 32 bits, else some number and `false`. It has no branches.
+#[inline(always)]
+pub(crate) fn likely_product(x: i64, y: i64) -> (i64, bool)
+    ensures { result.1 ≡ true → exact (x *ℤ y) ≡ Ok result.0 }
+{
+    let (left, is_left) = lower_half(x);
+    let (right, is_right) = lower_half(y);
+    range_is_decided();
+    (left * right, is_left & is_right)
 }
 
 /// 1 divided by `x`.

@@ -3,7 +3,8 @@
 ghost use Rattle.apl_scalar.specs.Scalar.{bit};
 
 use crate::arithmetic::{
-    combinations, factorial, limited, power, product, quotient, reciprocal, residue,
+    combinations, factorial, likely_product, likely_value, limited, power, product, quotient,
+    reciprocal, residue,
 };
 use crate::truth::{and, bit, nand, negation, nor, or};
 use apl_array::ScalarFunction;
@@ -11,7 +12,7 @@ use apl_pool::Fault;
 
 /// A type that names a scalar function, and has its bodies.
 pub trait Function {
-    ghost use Rattle.std.specs.Prelude.{◌≡◌};
+    ghost use Rattle.std.specs.Prelude.{◌≡◌, true, Ok};
     ghost use Rattle.apl_array.specs.declared.function.ScalarFunction.{ScalarFunction};
     ghost use Rattle.apl_scalar.specs.Scalar.{monadic_number, dyadic_numbers, identity_of};
 
@@ -32,10 +33,31 @@ pub trait Function {
     fn identity() -> Option<i64>
         ensures { result ≡ identity_of FUNCTION };
 
-    /// Whether four places together are faster than one by one, since the dyadic function takes few
-    /// instructions.
+    /// A number, and whether it is sure to be the result of the monadic function. It takes no memory.
     #[inline(always)]
-    fn is_quick() -> bool {
+    fn likely_monadic(right: i64) -> (i64, bool)
+        ensures { result.1 ≡ true → monadic_number FUNCTION right ≡ Ok result.0 }
+    {
+        likely_value(Self::apply_monadic(right))
+    }
+
+    /// A number, and whether it is sure to be the result of the dyadic function. It takes no memory.
+    #[inline(always)]
+    fn likely(left: i64, right: i64) -> (i64, bool)
+        ensures { result.1 ≡ true → dyadic_numbers FUNCTION left right ≡ Ok result.0 }
+    {
+        likely_value(Self::apply(left, right))
+    }
+
+    /// Whether the likely results of the monadic function are found without branches, so that a run of them is quick.
+    #[inline(always)]
+    fn has_monadic_runs() -> bool {
+        false
+    }
+
+    /// Whether the likely results of the dyadic function are found without branches, so that a run of them is quick.
+    #[inline(always)]
+    fn has_runs() -> bool {
         false
     }
 }
@@ -96,7 +118,12 @@ impl Function for Plus {
     }
 
     #[inline(always)]
-    fn is_quick() -> bool {
+    fn has_monadic_runs() -> bool {
+        true
+    }
+
+    #[inline(always)]
+    fn has_runs() -> bool {
         true
     }
 }
@@ -127,7 +154,12 @@ impl Function for Minus {
     }
 
     #[inline(always)]
-    fn is_quick() -> bool {
+    fn has_monadic_runs() -> bool {
+        true
+    }
+
+    #[inline(always)]
+    fn has_runs() -> bool {
         true
     }
 }
@@ -155,6 +187,21 @@ impl Function for Times {
 
     fn identity() -> Option<i64> {
         Some(1)
+    }
+
+    #[inline(always)]
+    fn likely(left: i64, right: i64) -> (i64, bool) {
+        likely_product(left, right)
+    }
+
+    #[inline(always)]
+    fn has_monadic_runs() -> bool {
+        true
+    }
+
+    #[inline(always)]
+    fn has_runs() -> bool {
+        true
     }
 }
 
@@ -207,6 +254,11 @@ impl Function for Stile {
 
     fn identity() -> Option<i64> {
         Some(0)
+    }
+
+    #[inline(always)]
+    fn has_monadic_runs() -> bool {
+        true
     }
 }
 
@@ -286,6 +338,16 @@ impl Function for Floor {
     fn identity() -> Option<i64> {
         Some(i64::MAX)
     }
+
+    #[inline(always)]
+    fn has_monadic_runs() -> bool {
+        true
+    }
+
+    #[inline(always)]
+    fn has_runs() -> bool {
+        true
+    }
 }
 
 /// `⌈`: the number itself, and the greater.
@@ -311,6 +373,16 @@ impl Function for Ceiling {
 
     fn identity() -> Option<i64> {
         Some(i64::MIN)
+    }
+
+    #[inline(always)]
+    fn has_monadic_runs() -> bool {
+        true
+    }
+
+    #[inline(always)]
+    fn has_runs() -> bool {
+        true
     }
 }
 
@@ -338,6 +410,11 @@ impl Function for And {
     fn identity() -> Option<i64> {
         Some(1)
     }
+
+    #[inline(always)]
+    fn has_runs() -> bool {
+        true
+    }
 }
 
 /// `∨` of truth values.
@@ -363,6 +440,11 @@ impl Function for Or {
 
     fn identity() -> Option<i64> {
         Some(0)
+    }
+
+    #[inline(always)]
+    fn has_runs() -> bool {
+        true
     }
 }
 
@@ -390,6 +472,11 @@ impl Function for Nand {
     fn identity() -> Option<i64> {
         None
     }
+
+    #[inline(always)]
+    fn has_runs() -> bool {
+        true
+    }
 }
 
 /// `⍱` of truth values.
@@ -415,6 +502,11 @@ impl Function for Nor {
 
     fn identity() -> Option<i64> {
         None
+    }
+
+    #[inline(always)]
+    fn has_runs() -> bool {
+        true
     }
 }
 
@@ -442,6 +534,11 @@ impl Function for Less {
     fn identity() -> Option<i64> {
         Some(0)
     }
+
+    #[inline(always)]
+    fn has_runs() -> bool {
+        true
+    }
 }
 
 /// `≤`: 1 if the left number is less or equal, else 0.
@@ -467,6 +564,11 @@ impl Function for LessOrEqual {
 
     fn identity() -> Option<i64> {
         Some(1)
+    }
+
+    #[inline(always)]
+    fn has_runs() -> bool {
+        true
     }
 }
 
@@ -494,6 +596,11 @@ impl Function for Equal {
     fn identity() -> Option<i64> {
         Some(1)
     }
+
+    #[inline(always)]
+    fn has_runs() -> bool {
+        true
+    }
 }
 
 /// `≥`: 1 if the left number is greater or equal, else 0.
@@ -519,6 +626,11 @@ impl Function for GreaterOrEqual {
 
     fn identity() -> Option<i64> {
         Some(1)
+    }
+
+    #[inline(always)]
+    fn has_runs() -> bool {
+        true
     }
 }
 
@@ -546,6 +658,11 @@ impl Function for Greater {
     fn identity() -> Option<i64> {
         Some(0)
     }
+
+    #[inline(always)]
+    fn has_runs() -> bool {
+        true
+    }
 }
 
 /// `≠`: 1 if the numbers differ, else 0.
@@ -572,6 +689,11 @@ impl Function for NotEqual {
     fn identity() -> Option<i64> {
         Some(0)
     }
+
+    #[inline(always)]
+    fn has_runs() -> bool {
+        true
+    }
 }
 
 /// `~`: the negation of a truth value.
@@ -597,5 +719,10 @@ impl Function for Tilde {
 
     fn identity() -> Option<i64> {
         None
+    }
+
+    #[inline(always)]
+    fn has_monadic_runs() -> bool {
+        true
     }
 }

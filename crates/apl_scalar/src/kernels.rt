@@ -2,9 +2,10 @@
 ghost use Rattle.std.specs.Prelude.{ℕ, ◌≤◌, length};
 ghost use Rattle.apl_pool.specs.declared.kernel.TheConstants.{MOST_PLACES};
 
-use crate::elements::dyadic_elements;
+use crate::elements::{dyadic_elements, likely_elements};
 use crate::function_types::Function;
 use crate::operands::Operand;
+use crate::runs::{Results, write_results};
 use apl_pool::{Fault, Kernel};
 use std::marker::PhantomData;
 
@@ -14,6 +15,25 @@ pub(crate) struct NumberKernel<'a, F> {
     pub numbers: &'a [i64],
     pub function: PhantomData<F>,
     ghost most: { length numbers.now ≤ MOST_PLACES },
+}
+
+impl<F: Function> Results for NumberKernel<'_, F> {
+    ghost use Rattle.std.specs.Prelude.{length, pos, slice_index_or};
+    ghost use Rattle.apl_scalar.specs.Scalar.{monadic_number};
+
+    ghost served = { λ k. length k.numbers.now };
+
+    ghost outcome = { λ k place. monadic_number F.FUNCTION (slice_index_or k.numbers.now place (pos 0)) };
+
+    #[inline(always)]
+    fn result_at(&self, place: usize) -> Result<i64, Fault> {
+        F::apply_monadic(self.numbers[place])
+    }
+
+    #[inline(always)]
+    fn likely_at(&self, place: usize) -> (i64, bool) {
+        F::likely_monadic(self.numbers[place])
+    }
 }
 
 impl<F: Function> Kernel for NumberKernel<'_, F> {
@@ -30,8 +50,18 @@ impl<F: Function> Kernel for NumberKernel<'_, F> {
         self.numbers.len()
     }
 
+    #[inline(always)]
     fn at(&self, place: usize) -> Result<i64, Fault> {
-        F::apply_monadic(self.numbers[place])
+        self.result_at(place)
+    }
+
+    #[inline(always)]
+    fn write_run(&self, from: usize, to: usize, room: &mut [i64]) -> usize {
+        if F::has_monadic_runs() {
+            write_results(self, from, to, room)
+        } else {
+            from
+        }
     }
 }
 
@@ -45,6 +75,24 @@ pub(crate) struct PairsKernel<L: Operand, R: Operand, F> {
     ghost most: { count ≤ MOST_PLACES },
     ghost left_serves: { count ≤ L.served left },
     ghost right_serves: { count ≤ R.served right },
+}
+
+impl<L: Operand, R: Operand, F: Function> Results for PairsKernel<L, R, F> {
+    ghost use Rattle.apl_scalar.specs.Scalar.{dyadic_of};
+
+    ghost served = { λ k. k.count };
+
+    ghost outcome = { λ k place. dyadic_of F.FUNCTION (L.element k.left place) (R.element k.right place) };
+
+    #[inline(always)]
+    fn result_at(&self, place: usize) -> Result<i64, Fault> {
+        dyadic_elements::<F>(self.left.at(place), self.right.at(place))
+    }
+
+    #[inline(always)]
+    fn likely_at(&self, place: usize) -> (i64, bool) {
+        likely_elements::<F>(self.left.at(place), self.right.at(place))
+    }
 }
 
 impl<L: Operand, R: Operand, F: Function> Kernel for PairsKernel<L, R, F> {
@@ -62,19 +110,15 @@ impl<L: Operand, R: Operand, F: Function> Kernel for PairsKernel<L, R, F> {
 
     #[inline(always)]
     fn at(&self, place: usize) -> Result<i64, Fault> {
-        dyadic_elements::<F>(self.left.at(place), self.right.at(place))
+        self.result_at(place)
     }
 
     #[inline(always)]
-    fn four(&self, place: usize, to: usize) -> Option<(i64, i64, i64, i64)> {
-        if !F::is_quick() || to - place < 4 {
-            return None;
-        }
-        let front = (self.at(place), self.at(place + 1));
-        let back = (self.at(place + 2), self.at(place + 3));
-        match (front, back) {
-            ((Ok(one), Ok(two)), (Ok(three), Ok(four))) => Some((one, two, three, four)),
-            _ => None,
+    fn write_run(&self, from: usize, to: usize, room: &mut [i64]) -> usize {
+        if F::has_runs() {
+            write_results(self, from, to, room)
+        } else {
+            from
         }
     }
 }

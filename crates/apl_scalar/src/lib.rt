@@ -16,6 +16,7 @@ mod kernels;
 mod laws;
 mod operands;
 mod passes;
+mod runs;
 mod truth;
 
 pub use apl_answer::{OpFault, answer_is_each_outcome};

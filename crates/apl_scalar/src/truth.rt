@@ -1,4 +1,4 @@
-//! The functions of truth values, of which 1 is true and 0 is false.
+//! The functions of truth values, of which 1 is true and 0 is false. Tests are joined by `&` and `|`, without branches.
 ghost use Rattle.std.specs.Prelude.{◌≡◌, Ok, Err, ◌&&◌, ◌||◌, not, if◌then◌else◌};
 ghost use Rattle.apl_pool.specs.declared.kernel.Fault.TheVariants.{Domain};
 ghost use Rattle.apl_answer.specs.Arguments.{is_bit};
@@ -17,7 +17,7 @@ pub(crate) fn bit(truth: bool) -> i64
 fn is_bit(x: i64) -> bool
     ensures { result ≡ is_bit x }
 {
-    x == 0 || x == 1
+    (x == 0) | (x == 1)
 }
 
 #[inline(always)]
@@ -43,7 +43,7 @@ pub(crate) fn negation(x: i64) -> Result<i64, Fault>
 fn truth_values(x: i64, y: i64) -> Result<(bool, bool), Fault>
     ensures { result ≡ (if is_bit x && is_bit y then Ok (is_one x, is_one y) else Err Domain) }
 {
-    if is_bit(x) && is_bit(y) {
+    if is_bit(x) & is_bit(y) {
         Ok((is_one(x), is_one(y)))
     } else {
         Err(Fault::Domain)

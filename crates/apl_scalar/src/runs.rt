@@ -1,0 +1,94 @@
+//! Runs of results. A run is first written as if no place had a fault.
+ghost use Rattle.std.specs.Prelude.{◌≡◌, ◌+◌, ◌≤◌, true, length};
+ghost use Rattle.apl_pool.specs.declared.kernel.TheConstants.{MOST_PLACES};
+ghost use Rattle.apl_pool.specs.Runs.{AreWritten};
+
+use apl_pool::Fault;
+
+/// The most places of a run.
+const LONGEST_RUN: usize = 1024;
+
+/// The results of a scalar function at places.
+pub(crate) trait Results {
+    ghost use Rattle.std.specs.Prelude.{◌≡◌, ◌<◌, ℕ, ℤ, true, Result, Ok};
+    ghost use Rattle.apl_pool.specs.declared.kernel.Fault.{Fault};
+
+    // How many places there are.
+    ghost served: { Self → ℕ };
+
+    // The result at a place.
+    ghost outcome: { Self → ℕ → Result ℤ Fault };
+
+    /// The result at a place.
+    fn result_at(&self, place: usize) -> Result<i64, Fault>
+        requires { place < served self.now }
+        ensures { result ≡ outcome self.now place };
+
+    /// A number, and whether it is sure to be the result at a place.
+    fn likely_at(&self, place: usize) -> (i64, bool)
+        requires { place < served self.now }
+        ensures { result.1 ≡ true → outcome self.now place ≡ Ok result.0 };
+}
+
+/// Writes the likely results into the room for the places from `from` on. It answers whether all are sure.
+#[inline(always)]
+fn write_likely<P: Results>(results: &P, from: usize, count: usize, room: &mut [i64]) -> bool
+    requires places { from + count ≤ P.served results.now }
+    requires most { from + count ≤ MOST_PLACES }
+    requires room { count ≤ length room.old }
+    ensures values { result ≡ true → AreWritten (P.outcome results.now) from (from + count) room.new }
+    ensures len { length room.new ≡ length room.old }
+{
+    let mut all_sure = true;
+    for k in 0..count {
+        let (value, is_sure) = results.likely_at(from + k);
+        room[k] = value;
+        all_sure &= is_sure;
+    }
+    all_sure
+}
+
+/// Writes results into the room for the places from `from` on, one by one. It answers the place of the first fault,
+/// or where the places end.
+fn write_before_fault<P: Results>(results: &P, from: usize, count: usize, room: &mut [i64]) -> usize
+    requires places { from + count ≤ P.served results.now }
+    requires most { from + count ≤ MOST_PLACES }
+    requires room { count ≤ length room.old }
+    ensures order { from ≤ result }
+    ensures within { result ≤ from + count }
+    ensures values { AreWritten (P.outcome results.now) from result room.new }
+    ensures len { length room.new ≡ length room.old }
+{
+    for k in 0..count {
+        match results.result_at(from + k) {
+            Ok(value) => room[k] = value,
+            Err(_) => return from + k,
+        }
+    }
+    from + count
+}
+
+/// Writes a run of results into the room for the places from `from` up to before `to`. It answers the place at which it stopped: that of a
+/// fault, or where the run ends.
+#[inline(always)]
+pub(crate) fn write_results<P: Results>(
+    results: &P,
+    from: usize,
+    to: usize,
+    room: &mut [i64],
+) -> usize
+    requires order { from ≤ to }
+    requires places { to ≤ P.served results.now }
+    requires most { to ≤ MOST_PLACES }
+    requires room { from + length room.old ≡ to }
+    ensures order { from ≤ result }
+    ensures within { result ≤ to }
+    ensures values { AreWritten (P.outcome results.now) from result room.new }
+    ensures len { length room.new ≡ length room.old }
+{
+    let count = (to - from).min(LONGEST_RUN);
+    if write_likely(results, from, count, room) {
+        return from + count;
+    }
+    write_before_fault(results, from, count, room)
+}
