@@ -6,9 +6,13 @@ use Rattle.std.specs.Ordering.{nat_cmp}
 use Rattle.apl_array.specs.declared.function.ScalarFunction.{ScalarFunction}
 use Rattle.apl_array.specs.declared.function.ScalarFunction.TheVariants.{Plus, Minus, Times, Divide}
 use Rattle.apl_array.specs.Array.{ArrayValue, number_array}
-use Rattle.apl_tokens.specs.declared.token.Glyph.TheVariants.{Scalar, Rho, Iota, CircleStile, Slash}
-use Rattle.apl_grammar.specs.declared.program.Form.{Form}
-use Rattle.apl_grammar.specs.declared.program.Form.TheVariants.{Plain, Reduce, Inner}
+use Rattle.apl_grammar.specs.declared.forms.DefaultAxis.TheVariants.{Last}
+use Rattle.apl_grammar.specs.declared.forms.MonadicFunction.TheVariants as of_one
+use Rattle.apl_grammar.specs.declared.forms.DyadicFunction.TheVariants as of_two
+use Rattle.apl_grammar.specs.declared.forms.Operator.TheVariants.{Reduction}
+use Rattle.apl_grammar.specs.declared.forms.MonadicForm.TheVariants as one
+use Rattle.apl_grammar.specs.declared.forms.DyadicForm.{DyadicForm}
+use Rattle.apl_grammar.specs.declared.forms.DyadicForm.TheVariants as two
 use Rattle.apl_grammar.specs.Tree.{value, dyadic, monadic, assign, assign_at, Operand, constant, name, group, index, last, given, none, along}
 use Rattle.apl_eval.specs.declared.error.EvalError.TheVariants.{Value, Index, Length, Domain, Limit}
 use Rattle.apl_eval.specs.Workspace.{WorkspaceValue, value_of, assigned, opening_workspace}
@@ -25,8 +29,8 @@ vector ns = number_array (length ns ∷ []) (map pos ns)
 abbrev number : ℕ → ℕ → Operand
 number column n = constant column (scalar n)
 
-abbrev symbol : ℕ → ScalarFunction → Form
-symbol column f = Plain column (Scalar f)
+abbrev symbol : ℕ → ScalarFunction → DyadicForm
+symbol column f = two.Plain column (of_two.Scalar f)
 
 abbrev A : List ℕ
 A = codes "A"
@@ -50,19 +54,19 @@ unfolding dyadic_result
 from_the_right = refl
 
 -- 2 3⍴⍳6
-table : meaning_of (dyadic (constant 0 (vector (2 ∷ 3 ∷ []))) (Plain 3 Rho) none (monadic (Plain 4 Iota) none (value (number 5 6)))) opening
+table : meaning_of (dyadic (constant 0 (vector (2 ∷ 3 ∷ []))) (two.Plain 3 of_two.Reshape) none (monadic (one.Plain 4 of_one.Iota) none (value (number 5 6)))) opening
     ≡ done (number_array (2 ∷ 3 ∷ []) (pos 1 ∷ pos 2 ∷ pos 3 ∷ pos 4 ∷ pos 5 ∷ pos 6 ∷ [])) opening
 unfolding dyadic_result monadic_result
 table = refl
 
 -- +/9223372036854775807 1 ¯1
-partial_results_in_the_range : meaning_of (monadic (Reduce 0 (Scalar Plus) 1 Slash) none (value (constant 2 (number_array (3 ∷ []) (pos 9223372036854775807 ∷ pos 1 ∷ negsuc 0 ∷ []))))) opening
+partial_results_in_the_range : meaning_of (monadic (one.Reduce 0 Plus 1 (Reduction Last)) none (value (constant 2 (number_array (3 ∷ []) (pos 9223372036854775807 ∷ pos 1 ∷ negsuc 0 ∷ []))))) opening
     ≡ done (scalar 9223372036854775807) opening
 unfolding monadic_result
 partial_results_in_the_range = refl
 
 -- 1 2+.×3 4
-inner_product : meaning_of (dyadic (constant 0 (vector (1 ∷ 2 ∷ []))) (Inner 3 (Scalar Plus) 4 5 (Scalar Times)) none (value (constant 6 (vector (3 ∷ 4 ∷ []))))) opening
+inner_product : meaning_of (dyadic (constant 0 (vector (1 ∷ 2 ∷ []))) (two.Inner 3 Plus 4 5 Times) none (value (constant 6 (vector (3 ∷ 4 ∷ []))))) opening
     ≡ done (scalar 11) opening
 unfolding dyadic_result
 inner_product = refl
@@ -87,13 +91,13 @@ unfolding dyadic_result
 lengths_differ = refl
 
 -- +/¯1 1 9223372036854775807: at the slash
-partial_result_out_of_range : meaning_of (monadic (Reduce 0 (Scalar Plus) 1 Slash) none (value (constant 2 (number_array (3 ∷ []) (negsuc 0 ∷ pos 1 ∷ pos 9223372036854775807 ∷ []))))) opening
+partial_result_out_of_range : meaning_of (monadic (one.Reduce 0 Plus 1 (Reduction Last)) none (value (constant 2 (number_array (3 ∷ []) (negsuc 0 ∷ pos 1 ∷ pos 9223372036854775807 ∷ []))))) opening
     ≡ failed Limit 1 opening
 unfolding monadic_result
 partial_result_out_of_range = refl
 
 -- ⌽[9]1 2: at the function
-no_such_axis : meaning_of (monadic (Plain 0 CircleStile) (along 1 (value (number 2 9)) 3) (value (constant 4 (vector (1 ∷ 2 ∷ []))))) opening
+no_such_axis : meaning_of (monadic (one.Reverse 0 Last) (along 1 (value (number 2 9)) 3) (value (constant 4 (vector (1 ∷ 2 ∷ []))))) opening
     ≡ failed Index 0 opening
 unfolding monadic_result
 no_such_axis = refl

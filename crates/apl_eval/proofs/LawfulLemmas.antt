@@ -11,14 +11,15 @@ use Rattle.apl_array.specs.Limits.{IsWithinLimits}
 use Rattle.apl_tokens.specs.declared.token.Token.{Token}
 use Rattle.apl_tokens.specs.declared.token.Lexeme.TheVariants as lexeme
 use Rattle.apl_tokens.specs.Constants.{IsLexemeWithinLimits, HasConstantsWithinLimits}
-use Rattle.apl_grammar.specs.declared.program.Form.{Form}
-use Rattle.apl_grammar.specs.Tree.{Expr, value, dyadic, monadic, assign, assign_at, Operand, constant, name, group, index, Slots, last, more, Slot, nothing, given, Axis, none, along, token_at, spells, spells_form, spells_operand, spells_list, spells_slot, spells_axis}
+use Rattle.apl_grammar.specs.declared.forms.MonadicForm.{MonadicForm}
+use Rattle.apl_grammar.specs.declared.forms.DyadicForm.{DyadicForm}
+use Rattle.apl_grammar.specs.Tree.{Expr, value, dyadic, monadic, assign, assign_at, Operand, constant, name, group, index, Slots, last, more, Slot, nothing, given, Axis, none, along, token_at, spells, spells_monadic, spells_dyadic, spells_operand, spells_list, spells_slot, spells_axis}
 use Rattle.apl_eval.specs.declared.error.EvalError.{EvalError}
 use Rattle.apl_eval.specs.declared.statement.Shown.{Shown}
 use Rattle.apl_eval.specs.declared.statement.EvalStop.{EvalStop}
 use Rattle.apl_eval.specs.declared.statement.EvalStop.TheVariants.{Error, Memory}
 use Rattle.apl_eval.specs.Workspace.{WorkspaceValue, value_of, with_origin, with_width, assigned, opening_workspace}
-use Rattle.apl_eval.specs.Functions.{caret_column, monadic_result, dyadic_result, index_result, assign_at_result}
+use Rattle.apl_eval.specs.Functions.{monadic_column, dyadic_column, monadic_result, dyadic_result, index_result, assign_at_result}
 use Rattle.apl_eval.specs.Meaning.{Outcome, done, failed, then, outcome_at, name_result, assign_at_outcome_of, meaning_of, meaning_of_operand, meaning_of_slots, meaning_of_slot, meaning_of_axis}
 use Rattle.apl_eval.specs.Evaluates.{Evaluates}
 use Rattle.apl_eval.specs.Lawful.{IsLawful, LeavesLawful, IsLawfulOutcome}
@@ -100,8 +101,8 @@ between l r ts h = front ts (r ∷ []) (next l (ts ++ r ∷ []) h)
 
 -- the results of functions of arrays within all limits are within all limits
 pub record ResultsWithinLimits : Type 0 where
-  pub monadic : (origin : Origin) (f : Form) (axis : Option ArrayValue) (right : ArrayValue) → IsWithinLimits right → IfOk (monadic_result origin f axis right) IsWithinLimits
-  pub dyadic : (origin : Origin) (f : Form) (axis : Option ArrayValue) (left right : ArrayValue) → IsWithinLimits left → IsWithinLimits right
+  pub monadic : (origin : Origin) (f : MonadicForm) (axis : Option ArrayValue) (right : ArrayValue) → IsWithinLimits right → IfOk (monadic_result origin f axis right) IsWithinLimits
+  pub dyadic : (origin : Origin) (f : DyadicForm) (axis : Option ArrayValue) (left right : ArrayValue) → IsWithinLimits left → IsWithinLimits right
       → IfOk (dyadic_result origin f axis left right) IsWithinLimits
   pub index : (origin : Origin) (array : ArrayValue) (slots : List (Option ArrayValue)) → IsWithinLimits array → IfOk (index_result origin array slots) IsWithinLimits
   pub assign_at : (origin : Origin) (array : Option ArrayValue) (slots : List (Option ArrayValue)) (value : ArrayValue) → IfSome array IsWithinLimits
@@ -114,18 +115,18 @@ module _ (results : ResultsWithinLimits) where
     expression_kept : (e : Expr) (w : WorkspaceValue) → HasConstantsWithinLimits (spells e) → IsLawful w → IsLawfulOutcome (meaning_of e w)
     expression_kept (value o) w h k = operand_kept o w h k
     expression_kept (dyadic o f a e) w h k =
-        let behind_operand = behind (spells_operand o) (spells_form f ++ (spells_axis a ++ spells e)) h in
-        let behind_form = behind (spells_form f) (spells_axis a ++ spells e) behind_operand in
+        let behind_operand = behind (spells_operand o) (spells_dyadic f ++ (spells_axis a ++ spells e)) h in
+        let behind_form = behind (spells_dyadic f) (spells_axis a ++ spells e) behind_operand in
         then_kept IsWithinLimits IsWithinLimits (meaning_of e w) _ (expression_kept e w (behind (spells_axis a) (spells e) behind_form) k)
         (λ right u b lawful. then_kept Any IsWithinLimits (meaning_of_axis a u) _ (axis_kept a u (front (spells_axis a) (spells e) behind_form) lawful)
         (λ axis v any lawful. then_kept IsWithinLimits IsWithinLimits (meaning_of_operand o v) _
-        (operand_kept o v (front (spells_operand o) (spells_form f ++ (spells_axis a ++ spells e)) h) lawful)
-        (λ left x a lawful. outcome_kept (caret_column f) (dyadic_result x.origin f axis left right) x (results.dyadic x.origin f axis left right a b) lawful)))
+        (operand_kept o v (front (spells_operand o) (spells_dyadic f ++ (spells_axis a ++ spells e)) h) lawful)
+        (λ left x a lawful. outcome_kept (dyadic_column f) (dyadic_result x.origin f axis left right) x (results.dyadic x.origin f axis left right a b) lawful)))
     expression_kept (monadic f a e) w h k =
-        let behind_form = behind (spells_form f) (spells_axis a ++ spells e) h in
+        let behind_form = behind (spells_monadic f) (spells_axis a ++ spells e) h in
         then_kept IsWithinLimits IsWithinLimits (meaning_of e w) _ (expression_kept e w (behind (spells_axis a) (spells e) behind_form) k)
         (λ right u b lawful. then_kept Any IsWithinLimits (meaning_of_axis a u) _ (axis_kept a u (front (spells_axis a) (spells e) behind_form) lawful)
-        (λ axis v any lawful. outcome_kept (caret_column f) (monadic_result v.origin f axis right) v (results.monadic v.origin f axis right b) lawful))
+        (λ axis v any lawful. outcome_kept (monadic_column f) (monadic_result v.origin f axis right) v (results.monadic v.origin f axis right b) lawful))
     expression_kept (assign c n r e) w h k =
         let arrow = token_at r lexeme.Arrow in
         let behind_arrow = next arrow (spells e) (next (token_at c (lexeme.Name n)) (arrow ∷ spells e) h) in

@@ -4,7 +4,4 @@ pub mod StepLemmas
 pub mod Endings
 pub mod LawfulLemmas
 pub mod LimitLemmas
-pub mod GlyphLemmas
-pub mod FunctionMeanings
-pub mod TreeMeanings
 mod Examples

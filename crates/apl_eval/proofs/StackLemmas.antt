@@ -3,7 +3,8 @@ use Rattle.std.proofs.Common.{◌≡◌, ◌≢◌, ◌<◌, ◌≤◌, ◌+◌,
 use Rattle.std.proofs.lemmas.List.{drop_all, take-append-drop, reverse-append, length-append, length-map, length-reverse, map-append}
 use Rattle.std.specs.Prelude.{is_some}
 use Rattle.apl_grammar.specs.declared.program.Brackets.{Brackets}
-use Rattle.apl_grammar.specs.declared.program.Form.{Form}
+use Rattle.apl_grammar.specs.declared.forms.MonadicForm.{MonadicForm}
+use Rattle.apl_grammar.specs.declared.forms.DyadicForm.{DyadicForm}
 use Rattle.apl_grammar.specs.declared.program.IndexedName.{IndexedName}
 use Rattle.apl_grammar.specs.declared.program.Operation.TheVariants as op
 use Rattle.apl_eval.specs.Meaning.{monadic_outcome, dyadic_outcome, index_outcome, assign_at_outcome}
@@ -52,12 +53,12 @@ has_this : (items : List Item) (next : ArrayValue → List Item → State) → w
 has_this items next possible = value_above (λ below. Unit {0}) items next possible (λ v below h. tt)
 
 module _ (w : WorkspaceValue) where
-  pub monadic_above : (f : Form) (axis : Option Brackets) (items : List Item) → step (op.Monadic f axis) items w ≢ stuck → HasAxisAbove HasValue axis items
+  pub monadic_above : (f : MonadicForm) (axis : Option Brackets) (items : List Item) → step (op.Monadic f axis) items w ≢ stuck → HasAxisAbove HasValue axis items
   monadic_above f axis items possible =
       axis_above HasValue axis items (λ axis items. with_value items (λ right below. onto below (monadic_outcome f axis right w))) possible
       (λ axis items. has_this items (λ right below. onto below (monadic_outcome f axis right w)))
 
-  pub dyadic_above : (f : Form) (axis : Option Brackets) (items : List Item) → step (op.Dyadic f axis) items w ≢ stuck → HasValueAbove (HasAxisAbove HasValue axis) items
+  pub dyadic_above : (f : DyadicForm) (axis : Option Brackets) (items : List Item) → step (op.Dyadic f axis) items w ≢ stuck → HasValueAbove (HasAxisAbove HasValue axis) items
   dyadic_above f axis items possible =
       value_above (HasAxisAbove HasValue axis) items (λ left items. with_axis axis items (λ axis items. with_value items (λ right below. onto below (dyadic_outcome f axis left right w)))) possible
       (λ left items here. axis_above HasValue axis items (λ axis items. with_value items (λ right below. onto below (dyadic_outcome f axis left right w))) here
@@ -129,13 +130,13 @@ some_item None = refl
 some_item (Some x) = refl
 
 module _ (w : WorkspaceValue) where
-  pub step-monadic : (f : Form) (brackets : Option Brackets) (axis : Option ArrayValue) (right : ArrayValue) (below items : List Item) → is_some axis ≡ is_some brackets
+  pub step-monadic : (f : MonadicForm) (brackets : Option Brackets) (axis : Option ArrayValue) (right : ArrayValue) (below items : List Item) → is_some axis ≡ is_some brackets
       → items ≡ under_axis axis (Some right ∷ below) → step (op.Monadic f brackets) items w ≡ onto below (monadic_outcome f axis right w)
   step-monadic f brackets axis right below items some is =
       ap (λ items. step (op.Monadic f brackets) items w) is
       ∙ with_axis-under brackets axis (Some right ∷ below) (λ axis items. with_value items (λ right below. onto below (monadic_outcome f axis right w))) some
 
-  pub step-dyadic : (f : Form) (brackets : Option Brackets) (left : ArrayValue) (axis : Option ArrayValue) (right : ArrayValue) (below items : List Item) → is_some axis ≡ is_some brackets
+  pub step-dyadic : (f : DyadicForm) (brackets : Option Brackets) (left : ArrayValue) (axis : Option ArrayValue) (right : ArrayValue) (below items : List Item) → is_some axis ≡ is_some brackets
       → items ≡ Some left ∷ under_axis axis (Some right ∷ below) → step (op.Dyadic f brackets) items w ≡ onto below (dyadic_outcome f axis left right w)
   step-dyadic f brackets left axis right below items some is =
       ap (λ items. step (op.Dyadic f brackets) items w) is

@@ -1,12 +1,13 @@
 -- What a statement's tree means.
 use Rattle.std.specs.Prelude.{ℕ, Bool, true, false, List, [], ◌∷◌, Option, Some, None, Result, Ok, Err}
 use Rattle.apl_array.specs.Array.{ArrayValue}
-use Rattle.apl_grammar.specs.declared.program.Form.{Form}
+use Rattle.apl_grammar.specs.declared.forms.MonadicForm.{MonadicForm}
+use Rattle.apl_grammar.specs.declared.forms.DyadicForm.{DyadicForm}
 use Rattle.apl_grammar.specs.Tree.{Expr, value, dyadic, monadic, assign, assign_at, Operand, constant, name, group, index, Slots, last, more, Slot, nothing, given, Axis, none, along}
 use Rattle.apl_eval.specs.declared.error.EvalError.{EvalError}
 use Rattle.apl_eval.specs.declared.error.EvalError.TheVariants.{Value}
 use Rattle.apl_eval.specs.Workspace.{WorkspaceValue, value_of, assigned}
-use Rattle.apl_eval.specs.Functions.{caret_column, monadic_result, dyadic_result, index_result, assign_at_result}
+use Rattle.apl_eval.specs.Functions.{monadic_column, dyadic_column, monadic_result, dyadic_result, index_result, assign_at_result}
 
 -- a value and the workspace after it, or an error at a column and the workspace that is kept
 pub data Outcome (V : Type 0) : Type 0 where
@@ -41,12 +42,12 @@ abbrev pub name_outcome : (column : ℕ) → (text : List ℕ) → Evaluation Ar
 name_outcome column text w = outcome_at column (name_result (value_of text w)) w
 
 -- a function's result of one argument, or the error at its column
-abbrev pub monadic_outcome : Form → (axis : Option ArrayValue) → (right : ArrayValue) → Evaluation ArrayValue
-monadic_outcome f axis right w = outcome_at (caret_column f) (monadic_result w.origin f axis right) w
+abbrev pub monadic_outcome : MonadicForm → (axis : Option ArrayValue) → (right : ArrayValue) → Evaluation ArrayValue
+monadic_outcome f axis right w = outcome_at (monadic_column f) (monadic_result w.origin f axis right) w
 
 -- a function's result of two arguments, or the error at its column
-abbrev pub dyadic_outcome : Form → (axis : Option ArrayValue) → (left right : ArrayValue) → Evaluation ArrayValue
-dyadic_outcome f axis left right w = outcome_at (caret_column f) (dyadic_result w.origin f axis left right) w
+abbrev pub dyadic_outcome : DyadicForm → (axis : Option ArrayValue) → (left right : ArrayValue) → Evaluation ArrayValue
+dyadic_outcome f axis left right w = outcome_at (dyadic_column f) (dyadic_result w.origin f axis left right) w
 
 -- the elements that the slots choose, or the error at the bracket
 abbrev pub index_outcome : (column : ℕ) → (array : ArrayValue) → (slots : List (Option ArrayValue)) → Evaluation ArrayValue

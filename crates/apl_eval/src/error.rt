@@ -3,8 +3,6 @@
 /// Why a statement has no value.
 #[derive(Clone, Copy, Debug, PartialEq, Eq)]
 pub enum EvalError {
-    /// What is written there isn't evaluated.
-    Syntax,
     /// A name has no value.
     Value,
     /// An index isn't one of the axis.

@@ -1,22 +1,23 @@
 //! Functions of arrays.
-ghost use Rattle.std.specs.Prelude.{◌≡◌, Result, IfSome, IsTrue, map, option_copied};
+ghost use Rattle.std.specs.Prelude.{◌≡◌, Result, map, option_copied};
 ghost use Rattle.apl_array.specs.declared.axis.Axis.TheVariants.{At};
 ghost use Rattle.apl_array.specs.Array.{ArrayValue};
-ghost use Rattle.apl_array.specs.Valences.{has_dyadic};
 ghost use Rattle.apl_answer.specs.declared.fault.OpFault.{OpFault};
 ghost use Rattle.apl_answer.specs.Pointwise.{IsAnswerOf};
-ghost use Rattle.apl_eval.specs.Functions.{caret_column, result_of, default_axis, monadic_scalar, dyadic_scalar, monadic_along, dyadic_along, monadic_plain, dyadic_plain, dyadic_function, reduction_by, scan_by, slashed_by, outer_by, inner_by, monadic_result, dyadic_result, index_result, assign_at_result};
+ghost use Rattle.apl_reduce.specs.Products.{outer_row, inner_row};
+ghost use Rattle.apl_eval.specs.Functions.{monadic_column, dyadic_column, result_of, result_by, default_axis, function_axis, operator_axis, monadic_plain, dyadic_plain, reversed_along, reduced_along, dyadic_along, monadic_result, dyadic_result, index_result, assign_at_result};
 ghost use Rattle.apl_eval.specs.Refusals.{Answers};
 
 use super::error::EvalError;
 use super::workspace::Workspace;
 use apl_answer::OpFault;
 use apl_array::{Array, Axis};
-use apl_grammar::Form;
+use apl_grammar::{
+    AxisFunction, DefaultAxis, DyadicForm, DyadicFunction, DyadicScalar, MonadicForm,
+    MonadicFunction, Operator,
+};
 use apl_pool::{Cut, Gate, Pool};
-use apl_scalar::Prim;
 use apl_struct::axis_number;
-use apl_tokens::Glyph;
 use std::alloc::Global;
 use std::thread::Threads;
 
@@ -45,14 +46,23 @@ impl From<OpFault> for Refusal {
     }
 }
 
-/// The column of a function's errors.
-pub(crate) fn caret_column(form: Form) -> usize
-    ensures { result ≡ caret_column form }
+/// The column of the errors of a function of one argument.
+pub(crate) fn monadic_column(form: &MonadicForm) -> usize
+    ensures { result ≡ monadic_column form.now }
 {
     match form {
-        Form::Plain { column, .. } => column,
-        Form::Reduce { slash_column, .. } => slash_column,
-        Form::Inner { dot, .. } | Form::Outer { dot, .. } => dot,
+        MonadicForm::Plain { column, .. } | MonadicForm::Reverse { column, .. } => *column,
+        MonadicForm::Reduce { slash_column, .. } => *slash_column,
+    }
+}
+
+/// The column of the errors of a function of two arguments.
+pub(crate) fn dyadic_column(form: &DyadicForm) -> usize
+    ensures { result ≡ dyadic_column form.now }
+{
+    match form {
+        DyadicForm::Plain { column, .. } | DyadicForm::Along { column, .. } => *column,
+        DyadicForm::Inner { dot, .. } | DyadicForm::Outer { dot, .. } => *dot,
     }
 }
 
@@ -66,24 +76,35 @@ fn result_of(answer: Result<Array, OpFault>) -> Result<Array, Refusal>
     }
 }
 
-/// The axis that a function works along where no axis argument stands.
-fn default_axis(glyph: Glyph) -> Axis
-    ensures { result ≡ default_axis glyph }
+/// The axis that a symbol works along where no axis is given.
+fn default_axis(axis: DefaultAxis) -> Axis
+    ensures { result ≡ default_axis axis }
 {
-    match glyph {
-        Glyph::CircleBar | Glyph::SlashBar | Glyph::BackslashBar => Axis::First,
-        _ => Axis::Last,
+    match axis {
+        DefaultAxis::First => Axis::First,
+        DefaultAxis::Last => Axis::Last,
     }
 }
 
-/// The scalar function of two arguments that a symbol is, if it is one.
-fn dyadic_function(glyph: Glyph) -> Option<Prim>
-    ensures value { result ≡ dyadic_function glyph }
-    ensures dyadic { IfSome result (λ f. IsTrue (has_dyadic f)) }
+/// The axis of a function of two arguments where none is given.
+fn function_axis(function: AxisFunction) -> Axis
+    ensures { result ≡ function_axis function }
 {
-    match glyph {
-        Glyph::Scalar(f) if f.is_dyadic() => Some(f),
-        _ => None,
+    match function {
+        AxisFunction::Catenate => Axis::Last,
+        AxisFunction::Rotate(axis) => default_axis(axis),
+        AxisFunction::Replicate(axis) => default_axis(axis),
+        AxisFunction::Expand(axis) => default_axis(axis),
+    }
+}
+
+/// The axis of a reduction or a scan where none is given.
+fn operator_axis(operator: Operator) -> Axis
+    ensures { result ≡ operator_axis operator }
+{
+    match operator {
+        Operator::Reduction(axis) => default_axis(axis),
+        Operator::Scan(axis) => default_axis(axis),
     }
 }
 
@@ -107,151 +128,126 @@ impl<'a, R: Threads + Sync, C: Cut + Sync, G: Gate + Sync> Machine<'a, R, C, G> 
         }
     }
 
-    /// A scalar function of one array.
-    fn monadic_scalar(&self, function: Prim, right: &Array) -> Result<Array, Refusal>
-        ensures { Answers (monadic_scalar function right.now) result }
-    {
-        if !function.is_monadic() {
-            return Err(Refusal::Error(EvalError::Syntax));
-        }
-        result_of(apl_scalar::monadic(self.rt, self.alloc, self.pool, function, right))
-    }
-
-    /// A scalar function of two arrays.
-    fn dyadic_scalar(&self, function: Prim, left: &Array, right: &Array) -> Result<Array, Refusal>
-        ensures { Answers (dyadic_scalar function left.now right.now) result }
-    {
-        if !function.is_dyadic() {
-            return Err(Refusal::Error(EvalError::Syntax));
-        }
-        result_of(apl_scalar::dyadic(self.rt, self.alloc, self.pool, function, left, right))
-    }
-
-    /// A function of one array along an axis.
-    fn monadic_along(&self, glyph: Glyph, axis: Axis, b: &Array) -> Result<Array, Refusal>
-        ensures { Answers (monadic_along glyph axis b.now) result }
-    {
-        let (rt, alloc, pool) = (self.rt, self.alloc, self.pool);
-        match glyph {
-            Glyph::CircleStile | Glyph::CircleBar => {
-                result_of(apl_struct::reverse(rt, alloc, pool, b, axis))
-            }
-            _ => Err(Refusal::Error(EvalError::Syntax)),
-        }
-    }
-
-    /// A function of one array where no axis argument stands.
-    fn monadic_plain(&self, glyph: Glyph, b: &Array) -> Result<Array, Refusal>
-        ensures { Answers (monadic_plain self.now.workspace.now.origin glyph b.now) result }
+    /// A function of one array that takes no axis.
+    fn monadic_plain(&self, function: &MonadicFunction, b: &Array) -> Result<Array, Refusal>
+        ensures { Answers (monadic_plain self.now.workspace.now.origin function.now b.now) result }
     {
         let (rt, alloc, pool) = (self.rt, self.alloc, self.pool);
         let origin = self.workspace.origin();
-        match glyph {
-            Glyph::Scalar(function) => self.monadic_scalar(function, b),
-            Glyph::Rho => result_of(apl_struct::shape_of(rt, alloc, pool, b)),
-            Glyph::Comma => result_of(apl_struct::ravel(rt, alloc, pool, b)),
-            Glyph::Iota => result_of(apl_struct::iota(rt, alloc, pool, b, origin)),
-            Glyph::Transpose => result_of(apl_struct::transpose(rt, alloc, pool, b)),
-            Glyph::GradeUp => result_of(apl_search::grade_up(rt, alloc, pool, b, origin)),
-            Glyph::GradeDown => result_of(apl_search::grade_down(rt, alloc, pool, b, origin)),
-            _ => self.monadic_along(glyph, default_axis(glyph), b),
+        match function {
+            MonadicFunction::Scalar(scalar) => {
+                let f = scalar.function();
+                result_of(apl_scalar::monadic(rt, alloc, pool, f, b))
+            }
+            MonadicFunction::Shape => result_of(apl_struct::shape_of(rt, alloc, pool, b)),
+            MonadicFunction::Ravel => result_of(apl_struct::ravel(rt, alloc, pool, b)),
+            MonadicFunction::Iota => result_of(apl_struct::iota(rt, alloc, pool, b, origin)),
+            MonadicFunction::Transpose => result_of(apl_struct::transpose(rt, alloc, pool, b)),
+            MonadicFunction::GradeUp => result_of(apl_search::grade_up(rt, alloc, pool, b, origin)),
+            MonadicFunction::GradeDown => {
+                result_of(apl_search::grade_down(rt, alloc, pool, b, origin))
+            }
+        }
+    }
+
+    /// The reversal of an array along an axis.
+    fn reversed_along(&self, axis: Axis, b: &Array) -> Result<Array, Refusal>
+        ensures { Answers (reversed_along axis b.now) result }
+    {
+        result_of(apl_struct::reverse(self.rt, self.alloc, self.pool, b, axis))
+    }
+
+    /// The reduction or the scan of an array along an axis.
+    fn reduced_along(
+        &self,
+        operator: Operator,
+        function: &DyadicScalar,
+        axis: Axis,
+        b: &Array,
+    ) -> Result<Array, Refusal>
+        ensures { Answers (reduced_along operator function.now axis b.now) result }
+    {
+        let (rt, alloc, pool) = (self.rt, self.alloc, self.pool);
+        let f = function.function();
+        match operator {
+            Operator::Reduction(_) => result_of(apl_reduce::reduce(rt, alloc, pool, f, b, axis)),
+            Operator::Scan(_) => result_of(apl_scan::scan(rt, alloc, pool, f, b, axis)),
+        }
+    }
+
+    /// A function of two arrays that takes no axis.
+    fn dyadic_plain(
+        &self,
+        function: &DyadicFunction,
+        a: &Array,
+        b: &Array,
+    ) -> Result<Array, Refusal>
+        ensures { Answers (dyadic_plain self.now.workspace.now.origin function.now a.now b.now) result }
+    {
+        let (rt, alloc, pool) = (self.rt, self.alloc, self.pool);
+        let origin = self.workspace.origin();
+        match function {
+            DyadicFunction::Scalar(scalar) => {
+                let f = scalar.function();
+                result_of(apl_scalar::dyadic(rt, alloc, pool, f, a, b))
+            }
+            DyadicFunction::Reshape => result_of(apl_struct::reshape(rt, alloc, pool, a, b)),
+            DyadicFunction::IndexOf => {
+                result_of(apl_search::index_of(rt, alloc, pool, a, b, origin))
+            }
+            DyadicFunction::Member => result_of(apl_search::member(rt, alloc, pool, a, b)),
+            DyadicFunction::Take => result_of(apl_struct::take(rt, alloc, pool, a, b)),
+            DyadicFunction::Drop => result_of(apl_struct::drop(rt, alloc, pool, a, b)),
+            DyadicFunction::TransposeBy => {
+                result_of(apl_struct::transpose_by(rt, alloc, pool, a, b, origin))
+            }
+            DyadicFunction::Decode => result_of(apl_reduce::decode(rt, alloc, pool, a, b)),
+            DyadicFunction::Encode => result_of(apl_reduce::encode(rt, alloc, pool, a, b)),
         }
     }
 
     /// A function of two arrays along an axis.
-    fn dyadic_along(&self, glyph: Glyph, axis: Axis, a: &Array, b: &Array) -> Result<Array, Refusal>
-        ensures { Answers (dyadic_along glyph axis a.now b.now) result }
-    {
-        let (rt, alloc, pool) = (self.rt, self.alloc, self.pool);
-        match glyph {
-            Glyph::Comma => result_of(apl_struct::catenate(rt, alloc, pool, a, b, axis)),
-            Glyph::CircleStile | Glyph::CircleBar => {
-                result_of(apl_struct::rotate(rt, alloc, pool, a, b, axis))
-            }
-            Glyph::Slash | Glyph::SlashBar => {
-                result_of(apl_struct::compress(rt, alloc, pool, a, b, axis))
-            }
-            Glyph::Backslash | Glyph::BackslashBar => {
-                result_of(apl_struct::expand(rt, alloc, pool, a, b, axis))
-            }
-            _ => Err(Refusal::Error(EvalError::Syntax)),
-        }
-    }
-
-    /// A function of two arrays where no axis argument stands.
-    fn dyadic_plain(&self, glyph: Glyph, a: &Array, b: &Array) -> Result<Array, Refusal>
-        ensures { Answers (dyadic_plain self.now.workspace.now.origin glyph a.now b.now) result }
-    {
-        let (rt, alloc, pool) = (self.rt, self.alloc, self.pool);
-        let origin = self.workspace.origin();
-        match glyph {
-            Glyph::Scalar(function) => self.dyadic_scalar(function, a, b),
-            Glyph::Rho => result_of(apl_struct::reshape(rt, alloc, pool, a, b)),
-            Glyph::Iota => result_of(apl_search::index_of(rt, alloc, pool, a, b, origin)),
-            Glyph::Epsilon => result_of(apl_search::member(rt, alloc, pool, a, b)),
-            Glyph::UpArrow => result_of(apl_struct::take(rt, alloc, pool, a, b)),
-            Glyph::DownArrow => result_of(apl_struct::drop(rt, alloc, pool, a, b)),
-            Glyph::Transpose => result_of(apl_struct::transpose_by(rt, alloc, pool, a, b, origin)),
-            Glyph::UpTack => result_of(apl_reduce::decode(rt, alloc, pool, a, b)),
-            Glyph::DownTack => result_of(apl_reduce::encode(rt, alloc, pool, a, b)),
-            _ => self.dyadic_along(glyph, default_axis(glyph), a, b),
-        }
-    }
-
-    /// The reduction of an array along an axis.
-    fn reduction_by(&self, function: Glyph, axis: Axis, b: &Array) -> Result<Array, Refusal>
-        ensures { Answers (reduction_by (dyadic_function function) axis b.now) result }
-    {
-        let Some(f) = dyadic_function(function) else {
-            return Err(Refusal::Error(EvalError::Syntax));
-        };
-        result_of(apl_reduce::reduce(self.rt, self.alloc, self.pool, f, b, axis))
-    }
-
-    /// The scan of an array along an axis.
-    fn scan_by(&self, function: Glyph, axis: Axis, b: &Array) -> Result<Array, Refusal>
-        ensures { Answers (scan_by (dyadic_function function) axis b.now) result }
-    {
-        let Some(f) = dyadic_function(function) else {
-            return Err(Refusal::Error(EvalError::Syntax));
-        };
-        result_of(apl_scan::scan(self.rt, self.alloc, self.pool, f, b, axis))
-    }
-
-    /// The reduction or the scan of an array along an axis, as the slash says.
-    fn slashed_by(
+    fn dyadic_along(
         &self,
-        slash: Glyph,
-        function: Glyph,
+        function: AxisFunction,
         axis: Axis,
+        a: &Array,
         b: &Array,
     ) -> Result<Array, Refusal>
-        ensures { Answers (slashed_by slash (dyadic_function function) axis b.now) result }
+        ensures { Answers (dyadic_along function axis a.now b.now) result }
     {
-        match slash {
-            Glyph::Slash | Glyph::SlashBar => self.reduction_by(function, axis, b),
-            Glyph::Backslash | Glyph::BackslashBar => self.scan_by(function, axis, b),
-            _ => Err(Refusal::Error(EvalError::Syntax)),
+        let (rt, alloc, pool) = (self.rt, self.alloc, self.pool);
+        match function {
+            AxisFunction::Catenate => {
+                result_of(apl_struct::catenate(rt, alloc, pool, a, b, axis))
+            }
+            AxisFunction::Rotate(_) => result_of(apl_struct::rotate(rt, alloc, pool, a, b, axis)),
+            AxisFunction::Replicate(_) => {
+                result_of(apl_struct::compress(rt, alloc, pool, a, b, axis))
+            }
+            AxisFunction::Expand(_) => result_of(apl_struct::expand(rt, alloc, pool, a, b, axis)),
         }
     }
 
     /// The outer product of two arrays.
-    fn outer_by(&self, function: Glyph, a: &Array, b: &Array) -> Result<Array, Refusal>
-        ensures { Answers (outer_by (dyadic_function function) a.now b.now) result }
+    fn outer_by(&self, function: &DyadicScalar, a: &Array, b: &Array) -> Result<Array, Refusal>
+        ensures { Answers (result_by (outer_row function.now a.now b.now)) result }
     {
-        let Some(f) = dyadic_function(function) else {
-            return Err(Refusal::Error(EvalError::Syntax));
-        };
+        let f = function.function();
         result_of(apl_reduce::outer(self.rt, self.alloc, self.pool, f, a, b))
     }
 
     /// The inner product of two arrays.
-    fn inner_by(&self, f: Glyph, g: Glyph, a: &Array, b: &Array) -> Result<Array, Refusal>
-        ensures { Answers (inner_by (dyadic_function f) (dyadic_function g) a.now b.now) result }
+    fn inner_by(
+        &self,
+        left: &DyadicScalar,
+        right: &DyadicScalar,
+        a: &Array,
+        b: &Array,
+    ) -> Result<Array, Refusal>
+        ensures { Answers (result_by (inner_row left.now right.now a.now b.now)) result }
     {
-        let (Some(f), Some(g)) = (dyadic_function(f), dyadic_function(g)) else {
-            return Err(Refusal::Error(EvalError::Syntax));
-        };
+        let (f, g) = (left.function(), right.function());
         result_of(apl_reduce::inner(self.rt, self.alloc, self.pool, f, g, a, b))
     }
 
@@ -259,38 +255,40 @@ impl<'a, R: Threads + Sync, C: Cut + Sync, G: Gate + Sync> Machine<'a, R, C, G> 
     #[tactic(auto, unfolding(crate::specs::Functions::monadic_result))]
     pub(crate) fn monadic(
         &self,
-        form: Form,
+        form: &MonadicForm,
         axis: Option<&Array>,
         right: &Array,
     ) -> Result<Array, Refusal>
-        ensures { Answers (monadic_result self.now.workspace.now.origin form (option_copied axis.entry) right.now) result }
+        ensures { Answers (monadic_result self.now.workspace.now.origin form.now (option_copied axis.entry) right.now) result }
     {
         match (form, axis) {
-            (Form::Plain { glyph, .. }, None) => self.monadic_plain(glyph, right),
-            (Form::Plain { glyph, .. }, Some(axis)) => {
+            (MonadicForm::Plain { function, .. }, _) => self.monadic_plain(function, right),
+            (MonadicForm::Reverse { axis, .. }, None) => {
+                self.reversed_along(default_axis(*axis), right)
+            }
+            (MonadicForm::Reverse { .. }, Some(axis)) => {
                 let axis = self.axis_at(axis_number(axis)?);
-                self.monadic_along(glyph, axis, right)
+                self.reversed_along(axis, right)
             }
             (
-                Form::Reduce {
+                MonadicForm::Reduce {
                     function,
-                    slash,
+                    operator,
                     ..
                 },
                 None,
-            ) => self.slashed_by(slash, function, default_axis(slash), right),
+            ) => self.reduced_along(*operator, function, operator_axis(*operator), right),
             (
-                Form::Reduce {
+                MonadicForm::Reduce {
                     function,
-                    slash,
+                    operator,
                     ..
                 },
                 Some(axis),
             ) => {
                 let axis = self.axis_at(axis_number(axis)?);
-                self.slashed_by(slash, function, axis, right)
+                self.reduced_along(*operator, function, axis, right)
             }
-            (Form::Inner { .. } | Form::Outer { .. }, _) => Err(Refusal::Error(EvalError::Syntax)),
         }
     }
 
@@ -298,31 +296,31 @@ impl<'a, R: Threads + Sync, C: Cut + Sync, G: Gate + Sync> Machine<'a, R, C, G> 
     #[tactic(auto, unfolding(crate::specs::Functions::dyadic_result))]
     pub(crate) fn dyadic(
         &self,
-        form: Form,
+        form: &DyadicForm,
         axis: Option<&Array>,
         left: &Array,
         right: &Array,
     ) -> Result<Array, Refusal>
-        ensures { Answers (dyadic_result self.now.workspace.now.origin form (option_copied axis.entry) left.now right.now) result }
+        ensures { Answers (dyadic_result self.now.workspace.now.origin form.now (option_copied axis.entry) left.now right.now) result }
     {
         match (form, axis) {
-            (Form::Plain { glyph, .. }, None) => self.dyadic_plain(glyph, left, right),
-            (Form::Plain { glyph, .. }, Some(axis)) => {
+            (DyadicForm::Plain { function, .. }, _) => self.dyadic_plain(function, left, right),
+            (DyadicForm::Along { function, .. }, None) => {
+                self.dyadic_along(*function, function_axis(*function), left, right)
+            }
+            (DyadicForm::Along { function, .. }, Some(axis)) => {
                 let axis = self.axis_at(axis_number(axis)?);
-                self.dyadic_along(glyph, axis, left, right)
+                self.dyadic_along(*function, axis, left, right)
             }
             (
-                Form::Inner {
+                DyadicForm::Inner {
                     left: f,
                     right: g,
                     ..
                 },
-                None,
+                _,
             ) => self.inner_by(f, g, left, right),
-            (Form::Outer { function, .. }, None) => self.outer_by(function, left, right),
-            (Form::Reduce { .. }, _) | (Form::Inner { .. } | Form::Outer { .. }, Some(_)) => {
-                Err(Refusal::Error(EvalError::Syntax))
-            }
+            (DyadicForm::Outer { function, .. }, _) => self.outer_by(function, left, right),
         }
     }
 

@@ -1,14 +1,13 @@
-//! What is true of all statements: in lawful workspaces, and of their errors.
-ghost use Rattle.std.specs.Prelude.{◌≡◌, ℕ, ◌≤◌, Result};
+//! What is true of all statements in lawful workspaces.
+ghost use Rattle.std.specs.Prelude.{ℕ, ◌≤◌, Result};
 ghost use Rattle.apl_array.specs.declared.axis.Origin.{Origin};
 ghost use Rattle.apl_tokens.specs.Constants.{HasConstantsWithinLimits};
-ghost use Rattle.apl_grammar.specs.Tree.{Expr, IsTree, spells};
+ghost use Rattle.apl_grammar.specs.Tree.{Expr, spells};
 ghost use Rattle.apl_print.specs.Width.{least_width, most_width};
-ghost use Rattle.apl_eval.specs.declared.error.EvalError.TheVariants.{Syntax};
 ghost use Rattle.apl_eval.specs.declared.statement.Shown.{Shown};
 ghost use Rattle.apl_eval.specs.declared.statement.EvalStop.{EvalStop};
 ghost use Rattle.apl_eval.specs.Workspace.{WorkspaceValue, with_origin, with_width, opening_workspace};
-ghost use Rattle.apl_eval.specs.Meaning.{failed, meaning_of};
+ghost use Rattle.apl_eval.specs.Meaning.{meaning_of};
 ghost use Rattle.apl_eval.specs.Evaluates.{Evaluates};
 ghost use Rattle.apl_eval.specs.Lawful.{IsLawful, IsLawfulOutcome};
 
@@ -33,8 +32,3 @@ pub fn lawful_stays()
     scanned_answers_are_within_limits();
     reduced_answers_are_within_limits();
 }
-
-/// No statement means Syntax, in any workspace: the definition has a case for each function that the grammar lets through.
-pub fn no_statement_means_syntax()
-    ensures { (tree : Expr) (old new : WorkspaceValue) (column : ℕ) → IsTree tree → meaning_of tree old ≡ failed Syntax column new → ⊥ }
-{}

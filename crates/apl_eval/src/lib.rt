@@ -10,6 +10,6 @@ mod statement;
 mod workspace;
 
 pub use error::EvalError;
-pub use laws::{lawful_stays, no_statement_means_syntax};
+pub use laws::lawful_stays;
 pub use statement::{EvalStop, Shown, eval};
 pub use workspace::Workspace;

@@ -7,19 +7,20 @@ ghost use Rattle.apl_grammar.specs.declared.program.Operation.TheVariants as op;
 ghost use Rattle.apl_print.specs.Width.{least_width, most_width};
 ghost use Rattle.apl_eval.specs.declared.error.EvalError.{EvalError};
 ghost use Rattle.apl_eval.specs.Workspace.{WorkspaceValue, value_of};
-ghost use Rattle.apl_eval.specs.Functions.{caret_column};
 ghost use Rattle.apl_eval.specs.Meaning.{Outcome, done, outcome_at, name_outcome, assign_at_column, meaning_of, is_assignment};
 ghost use Rattle.apl_eval.specs.Evaluates.{Evaluates, IsShownAs};
 ghost use Rattle.apl_eval.specs.Refusals.{Answers};
 ghost use Rattle.apl_eval.specs.Steps.{step, stuck, onto, staged_in, HasValue, HasValueAbove, HasAxisAbove, HasSlotsAbove, IsOutcome, IsState};
 
 use super::error::EvalError;
-use super::functions::{Machine, Refusal, caret_column};
+use super::functions::{Machine, Refusal, dyadic_column, monadic_column};
 use super::names::Names;
 use super::stack::{Stack, array_of};
 use super::workspace::Workspace;
 use apl_array::Array;
-use apl_grammar::{Axis, Brackets, Columns, Function, IndexedName, Operation, Program};
+use apl_grammar::{
+    AxisBrackets, Brackets, Columns, DyadicForm, IndexedName, MonadicForm, Operation, Program,
+};
 use apl_pool::{Cut, Gate, Pool};
 use apl_print::print;
 use apl_tokens::Constant;
@@ -144,37 +145,41 @@ fn put(stack: &mut Stack, value: Result<Rc<Array>, EvalStop>) -> Result<(), Eval
 fn apply_monadic<R: Threads + Sync, C: Cut + Sync, G: Gate + Sync>(
     machine: &Machine<'_, R, C, G>,
     stack: &mut Stack,
-    function: &Function,
-    axis: &Axis,
+    form: &MonadicForm,
+    axis: &AxisBrackets,
 ) -> Result<(), EvalStop>
     requires { HasAxisAbove HasValue axis.now stack.old }
-    ensures { (w : WorkspaceValue) → w.origin ≡ machine.now.workspace.now.origin → IsState (step (op.Monadic function.now axis.now) stack.old w) stack.new w result }
+    ensures { (w : WorkspaceValue) → w.origin ≡ machine.now.workspace.now.origin → IsState (step (op.Monadic form.now axis.now) stack.old w) stack.new w result }
 {
-    let form = function.form();
     let axis = stack.pop_axis(axis.brackets());
     let right = stack.pop_value();
     let axis = array_of(&axis);
     let answer = machine.monadic(form, axis, &right);
-    put(stack, outcome_at(machine.alloc, caret_column(form), answer))
+    put(
+        stack,
+        outcome_at(machine.alloc, monadic_column(form), answer),
+    )
 }
 
 /// Puts a function's result in the place of its arguments on the stack, of which the left one is on top, and the axis argument next.
 fn apply_dyadic<R: Threads + Sync, C: Cut + Sync, G: Gate + Sync>(
     machine: &Machine<'_, R, C, G>,
     stack: &mut Stack,
-    function: &Function,
-    axis: &Axis,
+    form: &DyadicForm,
+    axis: &AxisBrackets,
 ) -> Result<(), EvalStop>
     requires { HasValueAbove (HasAxisAbove HasValue axis.now) stack.old }
-    ensures { (w : WorkspaceValue) → w.origin ≡ machine.now.workspace.now.origin → IsState (step (op.Dyadic function.now axis.now) stack.old w) stack.new w result }
+    ensures { (w : WorkspaceValue) → w.origin ≡ machine.now.workspace.now.origin → IsState (step (op.Dyadic form.now axis.now) stack.old w) stack.new w result }
 {
-    let form = function.form();
     let left = stack.pop_value();
     let axis = stack.pop_axis(axis.brackets());
     let right = stack.pop_value();
     let axis = array_of(&axis);
     let answer = machine.dyadic(form, axis, &left, &right);
-    put(stack, outcome_at(machine.alloc, caret_column(form), answer))
+    put(
+        stack,
+        outcome_at(machine.alloc, dyadic_column(form), answer),
+    )
 }
 
 /// Puts the chosen elements of the array on top of the stack in the place of the array and of the slots below it.
@@ -255,8 +260,8 @@ fn carry_out<R: Threads + Sync, C: Cut + Sync, G: Gate + Sync>(
             staged.insert(machine.alloc, name.as_str(), value)?;
             Ok(())
         }
-        Operation::Dyadic(function, axis) => apply_dyadic(machine, stack, function, axis),
-        Operation::Monadic(function, axis) => apply_monadic(machine, stack, function, axis),
+        Operation::Dyadic(form, axis) => apply_dyadic(machine, stack, form, axis),
+        Operation::Monadic(form, axis) => apply_monadic(machine, stack, form, axis),
         Operation::Index(semicolons, brackets) => {
             apply_index(machine, stack, semicolons, brackets)
         }

@@ -1,75 +1,132 @@
 -- Each tree is answered from its own tokens.
 use Rattle.std.proofs.Common.{◌≡◌, ◌++◌, ◌∷◌, [], List, Some, refl, ◌∙◌, ap}
-use Rattle.std.specs.Prelude.{ℕ, Bool, true, false, IsTrue, ◌&&◌, option_and_then}
+use Rattle.std.specs.Prelude.{ℕ, Bool, true, false, IsTrue, ◌&&◌, Option, option_map, option_and_then}
 use Rattle.apl_tokens.specs.declared.token.Lexeme.TheVariants as lexeme
-use Rattle.apl_tokens.specs.declared.token.Glyph.{Glyph}
-use Rattle.apl_tokens.specs.declared.token.Class.{Class}
-use Rattle.apl_tokens.specs.declared.token.Class.TheVariants.{Scalar, Rotation, Slash, Backslash}
-use Rattle.apl_tokens.specs.Symbols.{class_of}
-use Rattle.apl_grammar.specs.declared.program.Form.{Form}
-use Rattle.apl_grammar.specs.declared.program.Form.TheVariants.{Plain, Reduce, Inner, Outer}
-use Rattle.apl_grammar.specs.Functions.{is_dyadic_scalar, is_monadic, takes_axis, is_rotation, reduces, may_be_monadic, may_be_dyadic}
-use Rattle.apl_grammar.specs.Tree.{Expr, value, dyadic, monadic, assign, assign_at, Operand, constant, name, group, index, Slots, last, more, Slot, nothing, given, Axis, none, along, has_axis, IsTree, IsOperand, IsList, IsSlot, IsAxis, token_at, spells, spells_operand, spells_list, spells_slot, spells_axis, spells_form}
-use Rattle.apl_grammar.proofs.Partial.{Wanted, alone, applied, indexed, fill, Level, operand_wanted, expression, leading_dot, leading_arrow, leading_brackets, leading_slots, no_slots, slots, Frame, open_group, open_index, open_axis_or_index, open_indexed_assignment, as_dyadic, with_index, as_wanted, level_by, level_for, at_operand, at_name, at_close, at_slice, at_close_bracket, only, at_function, at_dot, slot_of, sliced_by, at_semicolon, wanted_by, at_open_bracket, step, run_from, run_from-parts}
+use Rattle.apl_array.specs.declared.function.ScalarFunction.{ScalarFunction}
+use Rattle.apl_array.specs.Valences.{has_monadic, has_dyadic}
+use Rattle.apl_tokens.specs.declared.token.Glyph.TheVariants.{Scalar}
+use Rattle.apl_grammar.specs.declared.forms.DefaultAxis.TheVariants.{First, Last}
+use Rattle.apl_grammar.specs.declared.forms.MonadicFunction.TheVariants as of_one
+use Rattle.apl_grammar.specs.declared.forms.DyadicFunction.{DyadicFunction}
+use Rattle.apl_grammar.specs.declared.forms.DyadicFunction.TheVariants as of_two
+use Rattle.apl_grammar.specs.declared.forms.AxisFunction.{AxisFunction}
+use Rattle.apl_grammar.specs.declared.forms.AxisFunction.TheVariants.{Catenate, Rotate, Replicate, Expand}
+use Rattle.apl_grammar.specs.declared.forms.Operator.{Operator}
+use Rattle.apl_grammar.specs.declared.forms.Operator.TheVariants.{Reduction, Scan}
+use Rattle.apl_grammar.specs.declared.forms.MonadicForm.{MonadicForm}
+use Rattle.apl_grammar.specs.declared.forms.MonadicForm.TheVariants as one
+use Rattle.apl_grammar.specs.declared.forms.DyadicForm.{DyadicForm}
+use Rattle.apl_grammar.specs.declared.forms.DyadicForm.TheVariants as two
+use Rattle.apl_grammar.specs.Functions.{operator_glyph, may_be_monadic, may_be_dyadic}
+use Rattle.apl_grammar.specs.Tree.{Expr, value, dyadic, monadic, assign, assign_at, Operand, constant, name, group, index, Slots, last, more, Slot, nothing, given, Axis, none, along, has_axis, IsTree, IsOperand, IsList, IsSlot, IsAxis, token_at, spells, spells_operand, spells_list, spells_slot, spells_axis, spells_monadic, spells_dyadic}
+use Rattle.apl_grammar.proofs.Partial.{Wanted, alone, applied, indexed, fill, Level, operand_wanted, expression, leading_dot, leading_arrow, leading_brackets, leading_slots, no_slots, slots, Frame, open_group, open_index, open_axis_or_index, open_indexed_assignment, as_dyadic, with_index, as_wanted, level_by, level_for, within, inner_level, monadic_level, at_operand, at_name, at_close, at_slice, at_close_bracket, at_function, at_dot, slot_of, sliced_by, at_semicolon, wanted_by, at_open_bracket, step, run_from, run_from-parts}
 
 both_true : (a b : Bool) → IsTrue (a && b) → IsTrue a × IsTrue b
 both_true true b h = (refl, h)
 both_true false b h = absurd cc
 
--- what the symbol of a reduction may not do
-reduces_plain : (k : Class) → IsTrue (reduces k) → (is_monadic k ≡ false) × IsTrue (takes_axis k) × (is_rotation k ≡ false)
-reduces_plain Slash h = (refl, refl, refl)
-reduces_plain Backslash h = (refl, refl, refl)
-reduces_plain (Scalar f) h = absurd cc
-reduces_plain _ h = absurd cc
-
 abbrev pub level_axis : Axis → Expr → Level
 level_axis none e = expression e
 level_axis (along l x r) e = leading_brackets l x r e
 
-dot_read : (b : Bool) (fr : List Frame) (d c : ℕ) (g : Glyph) (e : Expr) → IsTrue (is_dyadic_scalar (class_of g)) → at_dot fr d (level_by b (Plain c g) none e) ≡ Some (fr, leading_dot d c g e)
-dot_read true fr d c g e h = rw h refl
-dot_read false fr d c g e h = rw h refl
+-- where an operand is wanted for the function
+record Wants (f : DyadicForm) (a : Axis) (e : Expr) (fr : List Frame) : Type 0 where
+  level : Level
+  read : run_from (fr, level_axis a e) (spells_dyadic f) ≡ Some (fr, level)
+  wanted : as_wanted level ≡ Some (applied f a e)
 
--- a function and its axis, read behind an expression
-form2_read : (f : Form) (a : Axis) (e : Expr) (fr : List Frame) → IsTrue (may_be_dyadic f (has_axis a)) → run_from (fr, level_axis a e) (spells_form f) ≡ Some (fr, level_for f a e)
-form2_read (Plain c g) none e fr h = refl
-form2_read (Plain c g) (along l x r) e fr h = rw h refl
-form2_read (Inner c f d k g) none e fr h =
-    let both : IsTrue (is_dyadic_scalar (class_of f)) × IsTrue (is_dyadic_scalar (class_of g)) = both_true (is_dyadic_scalar (class_of f)) (is_dyadic_scalar (class_of g)) h in
-    ap (option_and_then (step (token_at c (lexeme.Function f)))) (dot_read (is_monadic (class_of g)) fr d k g e both.1)
-    ∙ ap (λ b. only b fr (operand_wanted (applied (Inner c f d k g) none e))) both.0
-form2_read (Outer j d c g) none e fr h = ap (option_and_then (step (token_at j lexeme.Jot))) (dot_read (is_monadic (class_of g)) fr d c g e h)
-form2_read (Inner c f d k g) (along l x r) e fr h = absurd cc
-form2_read (Outer j d c g) (along l x r) e fr h = absurd cc
-form2_read (Reduce c f s g) none e fr h = absurd cc
-form2_read (Reduce c f s g) (along l x r) e fr h = absurd cc
+-- the function that waits on the left of the symbol of a reduction or a scan
+abbrev waiting_slash : Operator → AxisFunction
+waiting_slash (Reduction axis) = Replicate axis
+waiting_slash (Scan axis) = Expand axis
 
-reduce_read : (fr : List Frame) (c : ℕ) (f : Glyph) (s : ℕ) (g : Glyph) (a : Axis) (e : Expr) (b : Bool) → b ≡ false → IsTrue (is_dyadic_scalar (class_of f)) → IsTrue (reduces (class_of g)) → at_function fr c f (level_by b (Plain s g) a e) ≡ Some (fr, expression (monadic (Reduce c f s g) a e))
-reduce_read fr c f s g a e true h hf hg = absurd cc
-reduce_read fr c f s g a e false h hf hg = rw (hf, hg) refl
+slash_read : (fr : List Frame) (s : ℕ) (o : Operator) (a : Axis) (e : Expr) → run_from (fr, level_axis a e) (token_at s (lexeme.Function (operator_glyph o)) ∷ []) ≡ Some (fr, operand_wanted (applied (two.Along s (waiting_slash o)) a e))
+slash_read fr s (Reduction First) none e = refl
+slash_read fr s (Reduction Last) none e = refl
+slash_read fr s (Scan First) none e = refl
+slash_read fr s (Scan Last) none e = refl
+slash_read fr s (Reduction First) (along l x r) e = refl
+slash_read fr s (Reduction Last) (along l x r) e = refl
+slash_read fr s (Scan First) (along l x r) e = refl
+slash_read fr s (Scan Last) (along l x r) e = refl
 
-form1_read : (f : Form) (a : Axis) (e : Expr) (fr : List Frame) → IsTrue (may_be_monadic f (has_axis a)) → run_from (fr, level_axis a e) (spells_form f) ≡ Some (fr, expression (monadic f a e))
-form1_read (Plain c g) none e fr h = rw h refl
-form1_read (Plain c g) (along l x r) e fr h = rw (rotation_takes (class_of g) h, h) refl
+reduced_read : (fr : List Frame) (c : ℕ) (f : ScalarFunction) (s : ℕ) (o : Operator) (a : Axis) (e : Expr) → IsTrue (has_dyadic f) → at_function fr c (Scalar f) (operand_wanted (applied (two.Along s (waiting_slash o)) a e)) ≡ Some (fr, expression (monadic (one.Reduce c f s o) a e))
+reduced_read fr c f s (Reduction axis) a e h = rw h refl
+reduced_read fr c f s (Scan axis) a e h = rw h refl
+
+slash_wants : (fr : List Frame) (c : ℕ) (o : Operator) (a : Axis) (e : Expr) → Wants (two.Along c (waiting_slash o)) a e fr
+slash_wants fr c (Reduction axis) a e = record { level = operand_wanted (applied (two.Along c (Replicate axis)) a e); read = slash_read fr c (Reduction axis) a e; wanted = refl }
+slash_wants fr c (Scan axis) a e = record { level = operand_wanted (applied (two.Along c (Expand axis)) a e); read = slash_read fr c (Scan axis) a e; wanted = refl }
+
+-- a scalar function before an expression
+scalar_wants : (c : ℕ) (f : ScalarFunction) (e : Expr) (fr : List Frame) → IsTrue (has_dyadic f) → (b : Bool) → has_monadic f ≡ b → Wants (two.Plain c (of_two.Scalar f)) none e fr
+scalar_wants c f e fr h true is = record { level = expression (monadic (one.Plain c (of_one.Scalar f)) none e); read = rw is refl; wanted = rw h refl }
+scalar_wants c f e fr h false is = record { level = operand_wanted (applied (two.Plain c (of_two.Scalar f)) none e); read = rw (is, h) refl; wanted = refl }
+
+dot_read : (fr : List Frame) (d c : ℕ) (f : ScalarFunction) (e : Expr) → IsTrue (has_dyadic f) → (b : Bool) → has_monadic f ≡ b
+    → run_from (fr, expression e) (token_at d lexeme.Dot ∷ token_at c (lexeme.Function (Scalar f)) ∷ []) ≡ Some (fr, leading_dot d c f e)
+dot_read fr d c f e h true is = rw (is, h) refl
+dot_read fr d c f e h false is = rw (is, h) refl
+
+-- a function of two arguments and its axis, read behind an expression
+wants : (f : DyadicForm) (a : Axis) (e : Expr) (fr : List Frame) → IsTrue (may_be_dyadic f (has_axis a)) → Wants f a e fr
+wants (two.Plain c (of_two.Scalar f)) none e fr h = scalar_wants c f e fr h (has_monadic f) refl
+wants (two.Plain c of_two.Reshape) none e fr h = record { level = expression (monadic (one.Plain c of_one.Shape) none e); read = refl; wanted = refl }
+wants (two.Plain c of_two.IndexOf) none e fr h = record { level = expression (monadic (one.Plain c of_one.Iota) none e); read = refl; wanted = refl }
+wants (two.Plain c of_two.TransposeBy) none e fr h = record { level = expression (monadic (one.Plain c of_one.Transpose) none e); read = refl; wanted = refl }
+wants (two.Plain c of_two.Member) none e fr h = record { level = operand_wanted (applied (two.Plain c of_two.Member) none e); read = refl; wanted = refl }
+wants (two.Plain c of_two.Take) none e fr h = record { level = operand_wanted (applied (two.Plain c of_two.Take) none e); read = refl; wanted = refl }
+wants (two.Plain c of_two.Drop) none e fr h = record { level = operand_wanted (applied (two.Plain c of_two.Drop) none e); read = refl; wanted = refl }
+wants (two.Plain c of_two.Decode) none e fr h = record { level = operand_wanted (applied (two.Plain c of_two.Decode) none e); read = refl; wanted = refl }
+wants (two.Plain c of_two.Encode) none e fr h = record { level = operand_wanted (applied (two.Plain c of_two.Encode) none e); read = refl; wanted = refl }
+wants (two.Plain c f) (along l x r) e fr h = absurd cc
+wants (two.Along c Catenate) none e fr h = record { level = expression (monadic (one.Plain c of_one.Ravel) none e); read = refl; wanted = refl }
+wants (two.Along c Catenate) (along l x r) e fr h = record { level = operand_wanted (applied (two.Along c Catenate) (along l x r) e); read = refl; wanted = refl }
+wants (two.Along c (Rotate First)) a e fr h = axis_wants a
   where
-    rotation_takes : (k : Class) → IsTrue (is_rotation k) → takes_axis k ≡ true
-    rotation_takes Rotation h = refl
-    rotation_takes (Scalar f) h = absurd cc
-    rotation_takes _ h = absurd cc
-form1_read (Reduce c f s g) none e fr h =
-    let both : IsTrue (is_dyadic_scalar (class_of f)) × IsTrue (reduces (class_of g)) = both_true (is_dyadic_scalar (class_of f)) (reduces (class_of g)) h in
-    reduce_read fr c f s g none e (is_monadic (class_of g)) (reduces_plain (class_of g) both.1).0 both.0 both.1
-form1_read (Reduce c f s g) (along l x r) e fr h =
-    let both : IsTrue (is_dyadic_scalar (class_of f)) × IsTrue (reduces (class_of g)) = both_true (is_dyadic_scalar (class_of f)) (reduces (class_of g)) h in
-    ap (λ b. option_and_then (step (token_at c (lexeme.Function f))) (only b fr (level_for (Plain s g) (along l x r) e))) (reduces_plain (class_of g) both.1).1
-    ∙ reduce_read fr c f s g (along l x r) e (is_rotation (class_of g)) (reduces_plain (class_of g) both.1).2 both.0 both.1
-form1_read (Inner c f d k g) a e fr h = absurd cc
-form1_read (Outer j d c g) a e fr h = absurd cc
+    axis_wants : (a : Axis) → Wants (two.Along c (Rotate First)) a e fr
+    axis_wants none = record { level = expression (monadic (one.Reverse c First) none e); read = refl; wanted = refl }
+    axis_wants (along l x r) = record { level = expression (monadic (one.Reverse c First) (along l x r) e); read = refl; wanted = refl }
+wants (two.Along c (Rotate Last)) a e fr h = axis_wants a
+  where
+    axis_wants : (a : Axis) → Wants (two.Along c (Rotate Last)) a e fr
+    axis_wants none = record { level = expression (monadic (one.Reverse c Last) none e); read = refl; wanted = refl }
+    axis_wants (along l x r) = record { level = expression (monadic (one.Reverse c Last) (along l x r) e); read = refl; wanted = refl }
+wants (two.Along c (Replicate First)) a e fr h = slash_wants fr c (Reduction First) a e
+wants (two.Along c (Replicate Last)) a e fr h = slash_wants fr c (Reduction Last) a e
+wants (two.Along c (Expand First)) a e fr h = slash_wants fr c (Scan First) a e
+wants (two.Along c (Expand Last)) a e fr h = slash_wants fr c (Scan Last) a e
+wants (two.Inner c f d k g) none e fr h =
+    let both : IsTrue (has_dyadic f) × IsTrue (has_dyadic g) = both_true (has_dyadic f) (has_dyadic g) h in
+    record {
+      level = operand_wanted (applied (two.Inner c f d k g) none e);
+      read = ap (option_and_then (step (token_at c (lexeme.Function (Scalar f))))) (dot_read fr d k g e both.1 (has_monadic g) refl) ∙ rw both.0 refl;
+      wanted = refl;
+    }
+wants (two.Outer j d c g) none e fr h = record {
+  level = operand_wanted (applied (two.Outer j d c g) none e);
+  read = ap (option_and_then (step (token_at j lexeme.Jot))) (dot_read fr d c g e h (has_monadic g) refl);
+  wanted = refl;
+}
+wants (two.Inner c f d k g) (along l x r) e fr h = absurd cc
+wants (two.Outer j d c g) (along l x r) e fr h = absurd cc
 
-wants_operand : (b : Bool) (f : Form) (a : Axis) (e : Expr) → IsTrue (may_be_dyadic f (has_axis a)) → as_wanted (level_by b f a e) ≡ Some (applied f a e)
-wants_operand true f a e h = rw h refl
-wants_operand false f a e h = refl
+-- a function of one argument and its axis, read behind an expression
+monadic_read : (f : MonadicForm) (a : Axis) (e : Expr) (fr : List Frame) → IsTrue (may_be_monadic f (has_axis a)) → run_from (fr, level_axis a e) (spells_monadic f) ≡ Some (fr, expression (monadic f a e))
+monadic_read (one.Plain c (of_one.Scalar f)) none e fr h = rw h refl
+monadic_read (one.Plain c of_one.Shape) none e fr h = refl
+monadic_read (one.Plain c of_one.Ravel) none e fr h = refl
+monadic_read (one.Plain c of_one.Iota) none e fr h = refl
+monadic_read (one.Plain c of_one.Transpose) none e fr h = refl
+monadic_read (one.Plain c of_one.GradeUp) none e fr h = refl
+monadic_read (one.Plain c of_one.GradeDown) none e fr h = refl
+monadic_read (one.Plain c f) (along l x r) e fr h = absurd cc
+monadic_read (one.Reverse c First) none e fr h = refl
+monadic_read (one.Reverse c Last) none e fr h = refl
+monadic_read (one.Reverse c First) (along l x r) e fr h = refl
+monadic_read (one.Reverse c Last) (along l x r) e fr h = refl
+monadic_read (one.Reduce c f s o) a e fr h =
+    ap (option_and_then (step (token_at c (lexeme.Function (Scalar f))))) (slash_read fr s o a e) ∙ reduced_read fr c f s o a e h
 
 name_read : (fr : List Frame) (c : ℕ) (n : List ℕ) (l : Level) (w : Wanted) → as_wanted l ≡ Some w → at_name fr c n l ≡ Some (fr, expression (fill w (name c n)))
 name_read fr c n (operand_wanted v) w h = ap (at_operand fr (name c n)) h
@@ -141,15 +198,16 @@ mutual
   pub run_from-spells : (e : Expr) → IsTree e → (fr : List Frame) → run_from (fr, operand_wanted alone) (spells e) ≡ Some (fr, expression e)
   run_from-spells (value o) h fr = run_from-operand o h fr (operand_wanted alone) alone refl
   run_from-spells (dyadic o f a e) h fr =
-      run_from-parts (fr, operand_wanted alone) (fr, level_for f a e) (fr, expression (dyadic o f a e)) (spells_operand o) (spells_form f ++ (spells_axis a ++ spells e))
-      (run_from-parts (fr, operand_wanted alone) (fr, level_axis a e) (fr, level_for f a e) (spells_form f) (spells_axis a ++ spells e)
+      let w : Wants f a e fr = wants f a e fr h.1 in
+      run_from-parts (fr, operand_wanted alone) (fr, w.level) (fr, expression (dyadic o f a e)) (spells_operand o) (spells_dyadic f ++ (spells_axis a ++ spells e))
+      (run_from-parts (fr, operand_wanted alone) (fr, level_axis a e) (fr, w.level) (spells_dyadic f) (spells_axis a ++ spells e)
       (run_from-parts (fr, operand_wanted alone) (fr, expression e) (fr, level_axis a e) (spells_axis a) (spells e) (run_from-spells e h.3 fr) (run_from-axis a h.2 fr e))
-      (form2_read f a e fr h.1))
-      (run_from-operand o h.0 fr (level_for f a e) (applied f a e) (wants_operand (may_be_monadic f (has_axis a)) f a e h.1))
+      w.read)
+      (run_from-operand o h.0 fr w.level (applied f a e) w.wanted)
   run_from-spells (monadic f a e) h fr =
-      run_from-parts (fr, operand_wanted alone) (fr, level_axis a e) (fr, expression (monadic f a e)) (spells_form f) (spells_axis a ++ spells e)
+      run_from-parts (fr, operand_wanted alone) (fr, level_axis a e) (fr, expression (monadic f a e)) (spells_monadic f) (spells_axis a ++ spells e)
       (run_from-parts (fr, operand_wanted alone) (fr, expression e) (fr, level_axis a e) (spells_axis a) (spells e) (run_from-spells e h.2 fr) (run_from-axis a h.1 fr e))
-      (form1_read f a e fr h.0)
+      (monadic_read f a e fr h.0)
   run_from-spells (assign c n r e) h fr = rw (run_from-spells e h fr) refl
   run_from-spells (assign_at c n l s d r e) h fr =
       ap (λ k. option_and_then (step (token_at c (lexeme.Name n))) (option_and_then (step (token_at l lexeme.OpenBracket)) k))

@@ -5,7 +5,11 @@ use Rattle.apl_tokens.specs.declared.token.Token.{Token}
 use Rattle.apl_tokens.specs.declared.token.Lexeme.TheVariants as lexeme
 use Rattle.apl_array.specs.declared.function.ScalarFunction.TheVariants.{Plus, Less}
 use Rattle.apl_tokens.specs.declared.token.Glyph.TheVariants.{Scalar, Slash, Comma}
-use Rattle.apl_grammar.specs.declared.program.Form.TheVariants.{Plain}
+use Rattle.apl_grammar.specs.declared.forms.AxisFunction.TheVariants.{Catenate}
+use Rattle.apl_grammar.specs.declared.forms.MonadicFunction.TheVariants as of_one
+use Rattle.apl_grammar.specs.declared.forms.DyadicFunction.TheVariants as of_two
+use Rattle.apl_grammar.specs.declared.forms.MonadicForm.TheVariants as one
+use Rattle.apl_grammar.specs.declared.forms.DyadicForm.TheVariants as two
 use Rattle.apl_array.specs.Array.{number_array}
 use Rattle.apl_grammar.specs.Tree.{Expr, value, dyadic, monadic, constant, name, index, last, given, none, along, token_at}
 use Rattle.apl_grammar.specs.Caret.{IsCaret}
@@ -58,12 +62,12 @@ row_semicolon = (stuck-IsCaret (num 0 1 ∷ []) (token_at 1 lexeme.Semicolon) (n
 
 -- `A,[1]+B` is a catenation along an axis, of `+B`
 row_axis : run (nam 0 65 ∷ token_at 1 (lexeme.Function Comma) ∷ token_at 2 lexeme.OpenBracket ∷ num 3 1 ∷ token_at 4 lexeme.CloseBracket ∷ token_at 5 (lexeme.Function (Scalar Plus)) ∷ nam 6 66 ∷ [])
-    ≡ Some ([], expression (dyadic (name 0 (65 ∷ [])) (Plain 1 Comma) (along 2 (value (constant 3 (number_array [] (pos 1 ∷ [])))) 4) (monadic (Plain 5 (Scalar Plus)) none (value (name 6 (66 ∷ []))))))
+    ≡ Some ([], expression (dyadic (name 0 (65 ∷ [])) (two.Along 1 Catenate) (along 2 (value (constant 3 (number_array [] (pos 1 ∷ [])))) 4) (monadic (one.Plain 5 (of_one.Scalar Plus)) none (value (name 6 (66 ∷ []))))))
 unfolding num nam
 row_axis = refl
 
 -- `A[1]+B` is a sum of an index
 row_index : run (nam 0 65 ∷ token_at 1 lexeme.OpenBracket ∷ num 2 1 ∷ token_at 3 lexeme.CloseBracket ∷ token_at 4 (lexeme.Function (Scalar Plus)) ∷ nam 5 66 ∷ [])
-    ≡ Some ([], expression (dyadic (index (name 0 (65 ∷ [])) 1 (last (given (value (constant 2 (number_array [] (pos 1 ∷ [])))))) 3) (Plain 4 (Scalar Plus)) none (value (name 5 (66 ∷ [])))))
+    ≡ Some ([], expression (dyadic (index (name 0 (65 ∷ [])) 1 (last (given (value (constant 2 (number_array [] (pos 1 ∷ [])))))) 3) (two.Plain 4 (of_two.Scalar Plus)) none (value (name 5 (66 ∷ [])))))
 unfolding num nam
 row_index = refl

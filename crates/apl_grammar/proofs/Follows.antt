@@ -1,26 +1,30 @@
 -- The reader takes what the automaton over partial trees takes, and its machine then represents the partial trees that it leads to.
 use Rattle.std.proofs.Common.{◌≡◌, ◌++◌, ◌∷◌, [], List, Option, Some, None, refl, sym, ◌∙◌, ap, subst, append_assoc, length}
-use Rattle.std.specs.Prelude.{ℕ, Bool, true, false, ◌&&◌, option_map, option_and_then, if◌then◌else◌}
+use Rattle.std.specs.Prelude.{ℕ, Bool, true, false, option_map, option_and_then}
 use Rattle.std.proofs.lemmas.List.{append-nil}
 use Rattle.apl_tokens.specs.declared.token.Token.{Token}
 use Rattle.apl_tokens.specs.declared.token.Lexeme.{Lexeme}
 use Rattle.apl_tokens.specs.declared.token.Lexeme.TheVariants as lexeme
 use Rattle.apl_tokens.specs.declared.token.Glyph.{Glyph}
-use Rattle.apl_tokens.specs.Symbols.{class_of}
-use Rattle.apl_grammar.specs.declared.program.Form.TheVariants.{Plain, Reduce, Inner, Outer}
+use Rattle.apl_array.specs.declared.function.ScalarFunction.{ScalarFunction}
+use Rattle.apl_grammar.specs.declared.program.Brackets.{Brackets}
+use Rattle.apl_grammar.specs.declared.forms.DyadicFunction.TheVariants as of_two
+use Rattle.apl_grammar.specs.declared.forms.MonadicForm.{MonadicForm}
+use Rattle.apl_grammar.specs.declared.forms.DyadicForm.{DyadicForm}
+use Rattle.apl_grammar.specs.declared.forms.DyadicForm.TheVariants.{Plain, Along, Inner, Outer}
 use Rattle.apl_grammar.specs.declared.program.Operation.{Operation}
 use Rattle.apl_grammar.specs.declared.program.Operation.TheVariants as op
 use Rattle.apl_grammar.specs.declared.reader.State.{State}
 use Rattle.apl_grammar.specs.declared.reader.State.TheVariants as state
 use Rattle.apl_grammar.specs.declared.reader.Pending.{Pending}
 use Rattle.apl_grammar.specs.declared.reader.Pending.TheVariants as pending
-use Rattle.apl_grammar.specs.Functions.{is_dyadic_scalar, takes_axis, reduces, may_be_dyadic}
-use Rattle.apl_grammar.specs.Tree.{Expr, value, dyadic, monadic, assign, assign_at, Operand, constant, name, group, last, Slot, nothing, given, none, along, has_axis, brackets, indexed_name, axis_brackets, semicolons, operations, operand_operations, list_operations, slot_operations, axis_operations}
-use Rattle.apl_grammar.specs.Automaton.{Machine, machine, after_operand, with_dyadic, with_index, stack_for_operand, with_operand, with_name, expression_operations, with_leading_function, with_monadic, with_function, with_dot, with_jot, with_arrow, closed_group, with_open_paren, with_close_paren, with_close_bracket, with_slot, is_empty_slot, with_next_slot, with_semicolon, closed_list, with_open_bracket, step, step_lexeme, run, when_nothing_pending, statement_operations}
+use Rattle.apl_grammar.specs.Functions.{dyadic_scalar, monadic_form, dyadic_form, dyadic_counterpart, reduced}
+use Rattle.apl_grammar.specs.Tree.{Expr, value, dyadic, monadic, assign, assign_at, Operand, constant, name, group, last, Slot, nothing, given, Axis, none, along, has_axis, brackets, indexed_name, axis_brackets, semicolons, operations, operand_operations, list_operations, slot_operations, axis_operations}
+use Rattle.apl_grammar.specs.Automaton.{Machine, machine, after_operand, with_dyadic, with_index, stack_for_operand, with_operand, with_name, expression_operations, with_function_pending, with_either, with_leading_function, with_monadic, with_function, with_leading_dot, with_dot, with_jot, with_arrow, closed_group, with_open_paren, with_close_paren, with_close_bracket, with_slot, is_empty_slot, with_next_slot, with_semicolon, closed_list, with_open_bracket, step, step_lexeme, run, when_nothing_pending, statement_operations}
 use Rattle.apl_grammar.proofs.Partial as partial
-use Rattle.apl_grammar.proofs.Partial.{Wanted, alone, applied as applied_to, indexed, fill, Level, operand_wanted, expression, leading_dot, leading_arrow, leading_brackets, leading_slots, Tail, no_slots, slots, Frame, open_group, open_index, open_axis_or_index, open_indexed_assignment, Config, join, when, as_dyadic, with_index as indexed_by, as_wanted, level_by, level_for, at_operand, at_name, at_close, at_slice, at_close_bracket, only, at_function, at_dot, at_jot, at_arrow, at_open, slot_of, sliced_by, at_semicolon, wanted_by, at_open_bracket}
+use Rattle.apl_grammar.proofs.Partial.{Wanted, alone, applied as applied_to, indexed, fill, Level, operand_wanted, expression, leading_dot, leading_arrow, leading_brackets, leading_slots, Tail, no_slots, slots, Frame, open_group, open_index, open_axis_or_index, open_indexed_assignment, Config, join, applied_to as applied_by, as_dyadic, with_index as indexed_by, as_wanted, level_by, level_for, within, inner_level, monadic_level, at_operand, at_name, at_close, at_slice, at_close_bracket, at_function, dotted, at_dot, at_jot, at_arrow, at_open, slot_of, sliced_by, at_semicolon, wanted_by, at_open_bracket}
 use Rattle.apl_grammar.proofs.Sound.{no_slot_semicolon, no_slot_open}
-use Rattle.apl_grammar.proofs.Represents.{wanted_operations, wanted_stack, undecided_operations, expression_state, undecided_of, tail_operations, tail_columns, first_place, other_places, frame_stack, Emits, level_state, level_stack, EmitsLevel, Represents, Emits-same, Emits-nil, Emits-append, index_Emits, axis_Emits, completed_Represents, HasExpressionOperations, has_expression_operations, applied_Represents}
+use Rattle.apl_grammar.proofs.Represents.{wanted_operations, wanted_stack, undecided_operations, expression_state, undecided_of, tail_operations, tail_columns, first_place, other_places, frame_stack, Emits, level_state, level_stack, EmitsLevel, Represents, Emits-same, Emits-nil, Emits-append, index_Emits, axis_Emits, completed_Represents, HasExpressionOperations, has_expression_operations}
 
 -- both refuse, or both go on
 abbrev pub Follows : Option Config → Option Machine → Type 0
@@ -43,22 +47,22 @@ Waits fr os (Some w) None = ⊥
 
 waits : (fr : List Frame) (l : Level) (ps : List ℕ) (os : List (Option Operation)) → EmitsLevel fr l ps os → Waits fr os (as_wanted l) (stack_for_operand (level_state l ps) (level_stack fr l ps))
 waits fr (operand_wanted w) ps os h = record { places = ps; emits = h; same = refl }
-waits fr (expression (monadic f a e)) ps os h = by_valence (may_be_dyadic f (has_axis a)) refl
+waits fr (expression (monadic f a e)) ps os h = by_counterpart (dyadic_counterpart f (has_axis a))
   where
-    by_valence : (b : Bool) → may_be_dyadic f (has_axis a) ≡ b → Waits fr os (when (may_be_dyadic f (has_axis a)) (applied_to f a e)) (with_dyadic f (axis_brackets a) (frame_stack fr ps))
-    by_valence true is = rw is (record { places = ps; emits = h; same = refl })
-    by_valence false is = rw is tt
+    by_counterpart : (g : Option DyadicForm) → Waits fr os (option_map (applied_by a e) g) (option_map (with_function_pending (axis_brackets a) (frame_stack fr ps)) g)
+    by_counterpart (Some g) = record { places = ps; emits = h; same = refl }
+    by_counterpart None = tt
 waits fr (expression (value o)) ps os h = tt
 waits fr (expression (dyadic o f a e)) ps os h = tt
 waits fr (expression (assign c n r e)) ps os h = tt
 waits fr (expression (assign_at c n l s d r e)) ps os h = tt
 waits fr (leading_dot d c g e) ps os h = tt
 waits fr (leading_arrow r e) ps os h = tt
-waits fr (leading_brackets l x r (monadic f a e)) ps os h = by_valence (may_be_dyadic f (has_axis a)) refl
+waits fr (leading_brackets l x r (monadic f a e)) ps os h = by_counterpart (dyadic_counterpart f (has_axis a))
   where
-    by_valence : (b : Bool) → may_be_dyadic f (has_axis a) ≡ b → Waits fr os (indexed_by l (last (given x)) r (when (may_be_dyadic f (has_axis a)) (applied_to f a e))) (option_map (with_index (brackets l r)) (with_dyadic f (axis_brackets a) (frame_stack fr (other_places ps))))
-    by_valence true is = rw is (record { places = other_places ps; emits = index_Emits fr ps r (monadic f a e) (operations x) os h; same = refl })
-    by_valence false is = rw is tt
+    by_counterpart : (g : Option DyadicForm) → Waits fr os (indexed_by l (last (given x)) r (option_map (applied_by a e) g)) (option_map (with_index (brackets l r)) (option_map (with_function_pending (axis_brackets a) (frame_stack fr (other_places ps))) g))
+    by_counterpart (Some g) = record { places = other_places ps; emits = index_Emits fr ps r (monadic f a e) (operations x) os h; same = refl }
+    by_counterpart None = tt
 waits fr (leading_brackets l x r (value o)) ps os h = tt
 waits fr (leading_brackets l x r (dyadic o f a e)) ps os h = tt
 waits fr (leading_brackets l x r (assign c n q e)) ps os h = tt
@@ -121,12 +125,21 @@ close_bracket_follows c fr (leading_dot d k g e) ps os h = tt
 close_bracket_follows c fr (leading_brackets l x r e) ps os h = slice_follows c fr (leading_brackets l x r e) ps os h
 close_bracket_follows c fr (leading_slots l s d r e) ps os h = tt
 
+-- a function before an expression
+applied_follows : (c : ℕ) (g : Glyph) (a : Axis) (e : Expr) (fr : List Frame) (ps : List ℕ) (os : List (Option Operation)) → Emits fr ps (operations e ++ axis_operations a) os → Follows (option_map (within fr) (level_for c g a e)) (with_leading_function c g (axis_brackets a) os (frame_stack fr ps))
+applied_follows c g a e fr ps os h = by_valence (monadic_form c g (has_axis a)) (dyadic_form c g (has_axis a))
+  where
+    by_valence : (m : Option MonadicForm) (d : Option DyadicForm) → Follows (option_map (within fr) (level_by m d a e)) (with_either m d (axis_brackets a) os (frame_stack fr ps))
+    by_valence (Some f) d = record { places = ps; emits = h; stack = refl; state = refl }
+    by_valence None (Some f) = record { places = ps; emits = h; stack = refl; state = refl }
+    by_valence None None = tt
+
 -- a function before an expression that has ended
-ended_follows : (c : ℕ) (g : Glyph) (fr : List Frame) (e : Expr) (ps : List ℕ) (os : List (Option Operation)) → Emits fr ps (undecided_operations e) os → Follows (Some (fr, level_for (Plain c g) none e)) (option_map (λ os. with_leading_function (Plain c g) None os (frame_stack fr ps)) (expression_operations os (expression_state e)))
+ended_follows : (c : ℕ) (g : Glyph) (fr : List Frame) (e : Expr) (ps : List ℕ) (os : List (Option Operation)) → Emits fr ps (undecided_operations e) os → Follows (option_map (within fr) (level_for c g none e)) (option_and_then (λ os. with_leading_function c g None os (frame_stack fr ps)) (expression_operations os (expression_state e)))
 ended_follows c g fr e ps os h =
     let s : HasExpressionOperations fr ps e os = has_expression_operations fr ps e os h in
-    subst (λ (x : Option (List (Option Operation))). Follows (Some (fr, level_for (Plain c g) none e)) (option_map (λ os. with_leading_function (Plain c g) None os (frame_stack fr ps)) x)) (sym s.is)
-    (applied_Represents (Plain c g) none e fr ps s.all (Emits-nil fr ps (operations e) s.all s.emits))
+    subst (λ (x : Option (List (Option Operation))). Follows (option_map (within fr) (level_for c g none e)) (option_and_then (λ os. with_leading_function c g None os (frame_stack fr ps)) x)) (sym s.is)
+    (applied_follows c g none e fr ps s.all (Emits-nil fr ps (operations e) s.all s.emits))
 
 function_follows : (c : ℕ) (g : Glyph) (fr : List Frame) (l : Level) (ps : List ℕ) (os : List (Option Operation)) → EmitsLevel fr l ps os → Follows (at_function fr c g l) (with_function os (level_stack fr l ps) (level_state l ps) c g)
 function_follows c g fr (expression (monadic f a e)) ps os h = ended_follows c g fr (monadic f a e) ps os h
@@ -134,56 +147,51 @@ function_follows c g fr (expression (value o)) ps os h = ended_follows c g fr (v
 function_follows c g fr (expression (dyadic o f a e)) ps os h = ended_follows c g fr (dyadic o f a e) ps os h
 function_follows c g fr (expression (assign k n r e)) ps os h = ended_follows c g fr (assign k n r e) ps os h
 function_follows c g fr (expression (assign_at k n l s d r e)) ps os h = ended_follows c g fr (assign_at k n l s d r e) ps os h
-function_follows c g fr (leading_brackets l x r e) ps os h = by_axis (takes_axis (class_of g)) refl
+function_follows c g fr (leading_brackets l x r e) ps os h =
+    applied_follows c g (along l x r) e fr (other_places ps) (with_monadic os (undecided_of e (first_place ps))) (axis_Emits fr ps r e (operations x) os h)
+function_follows c g fr (leading_dot d k f e) ps os h = by_scalar (dyadic_scalar g)
   where
-    by_axis : (b : Bool) → takes_axis (class_of g) ≡ b → Follows (only (takes_axis (class_of g)) fr (level_for (Plain c g) (along l x r) e)) (if takes_axis (class_of g) then Some (with_leading_function (Plain c g) (Some (brackets l r)) (with_monadic os (undecided_of e (first_place ps))) (frame_stack fr (other_places ps))) else None)
-    by_axis true is = rw is (applied_Represents (Plain c g) (along l x r) e fr (other_places ps) (with_monadic os (undecided_of e (first_place ps))) (axis_Emits fr ps r e (operations x) os h))
-    by_axis false is = rw is tt
-function_follows c g fr (leading_dot d k f e) ps os h = by_class (is_dyadic_scalar (class_of g)) refl
+    by_scalar : (s : Option ScalarFunction) → Follows (option_map (λ s. within fr (inner_level c d k f e s)) s) (option_map (λ s. machine os (pending.Operation (op.Dyadic (Inner c s d k f) None) ∷ frame_stack fr ps) state.OperandWanted) s)
+    by_scalar (Some s) = record { places = ps; emits = Emits-nil fr ps (operations e) os h; stack = refl; state = refl }
+    by_scalar None = tt
+function_follows c g fr (operand_wanted (applied_to f a e)) ps os h = by_reduced (reduced c g f)
   where
-    by_class : (b : Bool) → is_dyadic_scalar (class_of g) ≡ b → Follows (only (is_dyadic_scalar (class_of g)) fr (operand_wanted (applied_to (Inner c g d k f) none e))) (if is_dyadic_scalar (class_of g) then Some (machine os (pending.Operation (op.Dyadic (Inner c g d k f) None) ∷ frame_stack fr ps) state.OperandWanted) else None)
-    by_class true is = rw is (record { places = ps; emits = Emits-nil fr ps (operations e) os h; stack = refl; state = refl })
-    by_class false is = rw is tt
-function_follows c g fr (operand_wanted (applied_to (Plain s f) a e)) ps os h = by_class (is_dyadic_scalar (class_of g) && reduces (class_of f)) refl
-  where
-    by_class : (b : Bool) → (is_dyadic_scalar (class_of g) && reduces (class_of f)) ≡ b → Follows (only (is_dyadic_scalar (class_of g) && reduces (class_of f)) fr (expression (monadic (Reduce c g s f) a e))) (if is_dyadic_scalar (class_of g) && reduces (class_of f) then Some (machine os (frame_stack fr ps) (state.LeadingFunction (Reduce c g s f) (axis_brackets a))) else None)
-    by_class true is = rw is (record { places = ps; emits = h; stack = refl; state = refl })
-    by_class false is = rw is tt
+    by_reduced : (m : Option MonadicForm) → Follows (option_map (λ m. within fr (monadic_level a e m)) m) (option_map (λ m. machine os (frame_stack fr ps) (state.LeadingFunction m (axis_brackets a))) m)
+    by_reduced (Some m) = record { places = ps; emits = h; stack = refl; state = refl }
+    by_reduced None = tt
 function_follows c g [] (operand_wanted alone) ps os h = tt
 function_follows c g (open_group r w ∷ fr) (operand_wanted alone) ps os h = tt
 function_follows c g (open_index r t w ∷ fr) (operand_wanted alone) ps os h = tt
 function_follows c g (open_axis_or_index r e ∷ fr) (operand_wanted alone) ps os h = tt
 function_follows c g (open_indexed_assignment r t a e ∷ fr) (operand_wanted alone) ps os h = tt
 function_follows c g fr (operand_wanted (indexed w l s r)) ps os h = tt
-function_follows c g fr (operand_wanted (applied_to (Reduce d f s k) a e)) ps os h = tt
-function_follows c g fr (operand_wanted (applied_to (Inner d f s k m) a e)) ps os h = tt
-function_follows c g fr (operand_wanted (applied_to (Outer d f s k) a e)) ps os h = tt
 function_follows c g fr (leading_arrow r e) ps os h = tt
 function_follows c g fr (leading_slots l s d r e) ps os h = tt
 
+-- a dot before a function
+dotted_follows : (d : ℕ) (fr : List Frame) (f : DyadicForm) (a : Axis) (e : Expr) (ps : List ℕ) (os : List (Option Operation)) → Emits fr ps (operations e ++ axis_operations a) os → Follows (dotted fr d a e f) (with_leading_dot os (frame_stack fr ps) d (axis_brackets a) f)
+dotted_follows d fr (Plain c (of_two.Scalar f)) none e ps os h = record { places = ps; emits = Emits-same fr ps (operations e ++ []) (operations e) os (append-nil (operations e)) h; stack = refl; state = refl }
+dotted_follows d fr (Plain c _) none e ps os h = tt
+dotted_follows d fr (Plain c (of_two.Scalar f)) (along l x r) e ps os h = tt
+dotted_follows d fr (Plain c _) (along l x r) e ps os h = tt
+dotted_follows d fr (Along c f) none e ps os h = tt
+dotted_follows d fr (Inner c f s k g) none e ps os h = tt
+dotted_follows d fr (Outer c f s g) none e ps os h = tt
+dotted_follows d fr (Along c f) (along l x r) e ps os h = tt
+dotted_follows d fr (Inner c f s k g) (along l x r) e ps os h = tt
+dotted_follows d fr (Outer c f s g) (along l x r) e ps os h = tt
+
 dot_follows : (d : ℕ) (fr : List Frame) (l : Level) (ps : List ℕ) (os : List (Option Operation)) → EmitsLevel fr l ps os → Follows (at_dot fr d l) (with_dot os (level_stack fr l ps) (level_state l ps) d)
-dot_follows d fr (expression (monadic (Plain c g) none e)) ps os h = by_class (is_dyadic_scalar (class_of g)) refl
+dot_follows d fr (expression (monadic f a e)) ps os h = by_counterpart (dyadic_counterpart f (has_axis a))
   where
-    by_class : (b : Bool) → is_dyadic_scalar (class_of g) ≡ b → Follows (only (is_dyadic_scalar (class_of g)) fr (leading_dot d c g e)) (if is_dyadic_scalar (class_of g) then Some (machine os (frame_stack fr ps) (state.LeadingDot d c g)) else None)
-    by_class true is = rw is (record { places = ps; emits = Emits-same fr ps (operations e ++ []) (operations e) os (append-nil (operations e)) h; stack = refl; state = refl })
-    by_class false is = rw is tt
-dot_follows d fr (expression (monadic (Plain c g) (along l x r) e)) ps os h = tt
-dot_follows d fr (expression (monadic (Reduce c f s g) a e)) ps os h = tt
-dot_follows d fr (expression (monadic (Inner c f s k g) a e)) ps os h = tt
-dot_follows d fr (expression (monadic (Outer c f s g) a e)) ps os h = tt
+    by_counterpart : (g : Option DyadicForm) → Follows (option_and_then (dotted fr d a e) g) (option_and_then (with_leading_dot os (frame_stack fr ps) d (axis_brackets a)) g)
+    by_counterpart (Some g) = dotted_follows d fr g a e ps os h
+    by_counterpart None = tt
 dot_follows d fr (expression (value o)) ps os h = tt
 dot_follows d fr (expression (dyadic o f a e)) ps os h = tt
 dot_follows d fr (expression (assign c n r e)) ps os h = tt
 dot_follows d fr (expression (assign_at c n l s k r e)) ps os h = tt
-dot_follows d fr (operand_wanted (applied_to (Plain c g) none e)) ps os h = by_class (is_dyadic_scalar (class_of g)) refl
-  where
-    by_class : (b : Bool) → is_dyadic_scalar (class_of g) ≡ b → Follows (only (is_dyadic_scalar (class_of g)) fr (leading_dot d c g e)) (if is_dyadic_scalar (class_of g) then Some (machine os (frame_stack fr ps) (state.LeadingDot d c g)) else None)
-    by_class true is = rw is (record { places = ps; emits = Emits-same fr ps (operations e ++ []) (operations e) os (append-nil (operations e)) h; stack = refl; state = refl })
-    by_class false is = rw is tt
-dot_follows d fr (operand_wanted (applied_to (Plain c g) (along l x r) e)) ps os h = tt
-dot_follows d fr (operand_wanted (applied_to (Reduce c f s g) a e)) ps os h = tt
-dot_follows d fr (operand_wanted (applied_to (Inner c f s k g) a e)) ps os h = tt
-dot_follows d fr (operand_wanted (applied_to (Outer c f s g) a e)) ps os h = tt
+dot_follows d fr (operand_wanted (applied_to f a e)) ps os h = dotted_follows d fr f a e ps os h
 dot_follows d fr (operand_wanted (indexed w l s r)) ps os h = tt
 dot_follows d [] (operand_wanted alone) ps os h = tt
 dot_follows d (open_group r w ∷ fr) (operand_wanted alone) ps os h = tt
@@ -261,16 +269,16 @@ parted_follows k (open_index c t w ∷ fr) s ps os h = record {
   stack = ap (λ cs. pending.Index c (cs ++ k ∷ []) ∷ wanted_stack w (frame_stack fr ps)) (join-semicolons t s);
   state = refl;
 }
-parted_follows k (open_axis_or_index c (monadic f a e) ∷ fr) s ps os h = by_valence (may_be_dyadic f (has_axis a)) refl
+parted_follows k (open_axis_or_index c (monadic f a e) ∷ fr) s ps os h = by_counterpart (dyadic_counterpart f (has_axis a))
   where
-    by_valence : (b : Bool) → may_be_dyadic f (has_axis a) ≡ b → Follows (sliced_by fr k c s (when (may_be_dyadic f (has_axis a)) (applied_to f a e))) (option_map (λ es. machine os (pending.Index c (k ∷ []) ∷ es) state.OperandWanted) (with_dyadic f (axis_brackets a) (frame_stack fr (other_places ps))))
-    by_valence true is = rw is (record {
+    by_counterpart : (g : Option DyadicForm) → Follows (sliced_by fr k c s (option_map (applied_by a e) g)) (option_map (λ es. machine os (pending.Index c (k ∷ []) ∷ es) state.OperandWanted) (option_map (with_function_pending (axis_brackets a) (frame_stack fr (other_places ps))) g))
+    by_counterpart (Some g) = record {
       places = other_places ps;
       emits = Emits-same fr (other_places ps) ((operations e ++ axis_operations a) ++ slot_operations s) ((operations e ++ axis_operations a) ++ (slot_operations s ++ [])) os (ap (λ x. (operations e ++ axis_operations a) ++ x) (sym (append-nil (slot_operations s)))) (index_Emits fr ps c (monadic f a e) (slot_operations s) os h);
       stack = refl;
       state = refl;
-    })
-    by_valence false is = rw is tt
+    }
+    by_counterpart None = tt
 parted_follows k (open_axis_or_index c (value o) ∷ fr) s ps os h = tt
 parted_follows k (open_axis_or_index c (dyadic o f a e) ∷ fr) s ps os h = tt
 parted_follows k (open_axis_or_index c (assign d n r e) ∷ fr) s ps os h = tt
@@ -298,11 +306,11 @@ list_follows b (open_index c t w ∷ fr) s ps os h = sliced_follows s (is_nothin
       state = refl;
     }
 list_follows b (open_axis_or_index c e ∷ fr) (given x) ps os h = record { places = ps; emits = h; stack = refl; state = refl }
-list_follows b (open_axis_or_index c (monadic f a e) ∷ fr) nothing ps os h = by_valence (may_be_dyadic f (has_axis a)) refl
+list_follows b (open_axis_or_index c (monadic f a e) ∷ fr) nothing ps os h = by_counterpart (dyadic_counterpart f (has_axis a))
   where
-    by_valence : (v : Bool) → may_be_dyadic f (has_axis a) ≡ v → Follows (wanted_by fr (indexed_by b (last nothing) c (when (may_be_dyadic f (has_axis a)) (applied_to f a e)))) (option_map (λ es. machine os (with_index (brackets b c) es) state.OperandWanted) (with_dyadic f (axis_brackets a) (frame_stack fr (other_places ps))))
-    by_valence true is = rw is (record { places = other_places ps; emits = index_Emits fr ps c (monadic f a e) (op.EmptySlot ∷ []) os h; stack = refl; state = refl })
-    by_valence false is = rw is tt
+    by_counterpart : (g : Option DyadicForm) → Follows (wanted_by fr (indexed_by b (last nothing) c (option_map (applied_by a e) g))) (option_map (λ es. machine os (with_index (brackets b c) es) state.OperandWanted) (option_map (with_function_pending (axis_brackets a) (frame_stack fr (other_places ps))) g))
+    by_counterpart (Some g) = record { places = other_places ps; emits = index_Emits fr ps c (monadic f a e) (op.EmptySlot ∷ []) os h; stack = refl; state = refl }
+    by_counterpart None = tt
 list_follows b (open_axis_or_index c (value o) ∷ fr) nothing ps os h = tt
 list_follows b (open_axis_or_index c (dyadic o f a e) ∷ fr) nothing ps os h = tt
 list_follows b (open_axis_or_index c (assign d n r e) ∷ fr) nothing ps os h = tt

@@ -3,7 +3,8 @@ use Rattle.std.proofs.Common.{◌≡◌, ◌++◌, ◌∷◌, [], List, Option, 
 use Rattle.std.specs.Prelude.{ℕ}
 use Rattle.std.proofs.lemmas.List.{append-nil, reverse-append}
 use Rattle.apl_grammar.specs.declared.program.Brackets.{Brackets}
-use Rattle.apl_grammar.specs.declared.program.Form.{Form}
+use Rattle.apl_grammar.specs.declared.forms.MonadicForm.{MonadicForm}
+use Rattle.apl_grammar.specs.declared.forms.DyadicForm.{DyadicForm}
 use Rattle.apl_grammar.specs.declared.program.Operation.{Operation}
 use Rattle.apl_grammar.specs.declared.program.Operation.TheVariants as op
 use Rattle.apl_grammar.specs.Tree.{Expr, value, dyadic, monadic, assign, assign_at, Operand, constant, name, group, index, Slots, last, more, Slot, nothing, given, Axis, none, along, brackets, indexed_name, axis_brackets, semicolons, operations, operand_operations, list_operations, slot_operations, axis_operations}
@@ -116,11 +117,11 @@ assign_at_one c n l s r a e xs =
     ∙ ap (λ y. found (assign_at c n l y r a (expr_of (top (below_slots (columns_of s) (items_of s (found e ∷ xs)))))) ∷ below (below_slots (columns_of s) (items_of s (found e ∷ xs)))) (slots_in-items s (found e ∷ xs))
     ∙ ap (λ y. found (assign_at c n l s r a (expr_of (top y))) ∷ below y) (below_slots-items s (found e ∷ xs))
 
-monadic_one : (f : Form) (a : Axis) (e : Expr) (xs : List Item) → rebuild_one (op.Monadic f (axis_brackets a)) (axis_items a (found e ∷ xs)) ≡ found (monadic f a e) ∷ xs
+monadic_one : (f : MonadicForm) (a : Axis) (e : Expr) (xs : List Item) → rebuild_one (op.Monadic f (axis_brackets a)) (axis_items a (found e ∷ xs)) ≡ found (monadic f a e) ∷ xs
 monadic_one f none e xs = refl
 monadic_one f (along l x r) e xs = refl
 
-dyadic_one : (o : Operand) (f : Form) (a : Axis) (e : Expr) (xs : List Item) → rebuild_one (op.Dyadic f (axis_brackets a)) (found (value o) ∷ axis_items a (found e ∷ xs)) ≡ found (dyadic o f a e) ∷ xs
+dyadic_one : (o : Operand) (f : DyadicForm) (a : Axis) (e : Expr) (xs : List Item) → rebuild_one (op.Dyadic f (axis_brackets a)) (found (value o) ∷ axis_items a (found e ∷ xs)) ≡ found (dyadic o f a e) ∷ xs
 dyadic_one o f none e xs = refl
 dyadic_one o f (along l x r) e xs = refl
 

@@ -1,20 +1,22 @@
 -- The automaton of the grammar, over partial trees. It reads tokens from the right.
 use Rattle.std.proofs.Common.{◌≡◌, ◌++◌, ◌∷◌, [], List, Option, Some, None, refl, sym, ◌∙◌, ap}
-use Rattle.std.specs.Prelude.{ℕ, Bool, true, false, ◌&&◌, option_and_then}
+use Rattle.std.specs.Prelude.{ℕ, Bool, true, false, option_map, option_and_then}
 use Rattle.apl_tokens.specs.declared.token.Token.{Token}
 use Rattle.apl_tokens.specs.declared.token.Lexeme.{Lexeme}
 use Rattle.apl_tokens.specs.declared.token.Lexeme.TheVariants as lexeme
 use Rattle.apl_tokens.specs.declared.token.Glyph.{Glyph}
-use Rattle.apl_tokens.specs.Symbols.{class_of}
-use Rattle.apl_grammar.specs.declared.program.Form.{Form}
-use Rattle.apl_grammar.specs.declared.program.Form.TheVariants.{Plain, Reduce, Inner, Outer}
-use Rattle.apl_grammar.specs.Functions.{is_dyadic_scalar, takes_axis, reduces, may_be_monadic, may_be_dyadic}
+use Rattle.apl_array.specs.declared.function.ScalarFunction.{ScalarFunction}
+use Rattle.apl_grammar.specs.declared.forms.DyadicFunction.TheVariants.{Scalar}
+use Rattle.apl_grammar.specs.declared.forms.MonadicForm.{MonadicForm}
+use Rattle.apl_grammar.specs.declared.forms.DyadicForm.{DyadicForm}
+use Rattle.apl_grammar.specs.declared.forms.DyadicForm.TheVariants.{Plain, Inner, Outer}
+use Rattle.apl_grammar.specs.Functions.{dyadic_scalar, monadic_form, dyadic_form, dyadic_counterpart, reduced}
 use Rattle.apl_grammar.specs.Tree.{Expr, value, dyadic, monadic, assign, assign_at, Operand, constant, name, group, index, Slots, last, more, Slot, nothing, given, Axis, none, along, has_axis}
 
 -- what an operand is wanted for
 pub data Wanted : Type 0 where
   alone : Wanted
-  applied : Form → Axis → Expr → Wanted
+  applied : DyadicForm → Axis → Expr → Wanted
   indexed : Wanted → (left : ℕ) → Slots → (right : ℕ) → Wanted
 
 abbrev pub fill : Wanted → Operand → Expr
@@ -26,7 +28,7 @@ fill (indexed w l s r) o = fill w (index o l s r)
 pub data Level : Type 0 where
   operand_wanted : Wanted → Level  -- an operand is wanted
   expression : Expr → Level  -- an expression; if monadic, it may still become dyadic
-  leading_dot : (dot column : ℕ) → Glyph → Expr → Level  -- . g expr
+  leading_dot : (dot column : ℕ) → ScalarFunction → Expr → Level  -- . g expr
   leading_arrow : (arrow : ℕ) → Expr → Level  -- ← expr
   leading_brackets : (left : ℕ) → Expr → (right : ℕ) → Expr → Level  -- [ expr ] expr, an axis or an index
   leading_slots : (left : ℕ) → Slots → (right arrow : ℕ) → Expr → Level  -- [ list ] ← expr
@@ -50,13 +52,13 @@ abbrev pub join : Tail → Slot → Slots
 join no_slots s = last s
 join (slots c ss) s = more s c ss
 
--- the operand that a monadic expression wants, were its function dyadic
-abbrev pub when : Bool → Wanted → Option Wanted
-when true w = Some w
-when false w = None
+-- the operand that a function wants
+abbrev pub applied_to : Axis → Expr → DyadicForm → Wanted
+applied_to a e f = applied f a e
 
+-- the operand that a monadic expression wants, were its function dyadic
 abbrev pub as_dyadic : Expr → Option Wanted
-as_dyadic (monadic f a e) = when (may_be_dyadic f (has_axis a)) (applied f a e)
+as_dyadic (monadic f a e) = option_map (applied_to a e) (dyadic_counterpart f (has_axis a))
 as_dyadic _ = None
 
 abbrev pub with_index : ℕ → Slots → ℕ → Option Wanted → Option Wanted
@@ -70,12 +72,17 @@ as_wanted (leading_brackets l x r e) = with_index l (last (given x)) r (as_dyadi
 as_wanted _ = None
 
 -- a function and its axis are read
-abbrev pub level_by : Bool → Form → Axis → Expr → Level
-level_by true f a e = expression (monadic f a e)
-level_by false f a e = operand_wanted (applied f a e)
+abbrev pub level_by : Option MonadicForm → Option DyadicForm → Axis → Expr → Option Level
+level_by (Some f) _ a e = Some (expression (monadic f a e))
+level_by None (Some f) a e = Some (operand_wanted (applied f a e))
+level_by None None a e = None
 
-abbrev pub level_for : Form → Axis → Expr → Level
-level_for f a e = level_by (may_be_monadic f (has_axis a)) f a e
+abbrev pub level_for : ℕ → Glyph → Axis → Expr → Option Level
+level_for c g a e = level_by (monadic_form c g (has_axis a)) (dyadic_form c g (has_axis a)) a e
+
+-- within these brackets
+abbrev pub within : List Frame → Level → Config
+within fr l = (fr, l)
 
 abbrev pub at_operand : List Frame → Operand → Option Wanted → Option Config
 at_operand fr o None = None
@@ -99,20 +106,27 @@ at_close_bracket fr c (expression e) = Some (open_axis_or_index c e ∷ fr, oper
 at_close_bracket fr c (leading_arrow r e) = Some (open_indexed_assignment c no_slots r e ∷ fr, operand_wanted alone)
 at_close_bracket fr c l = at_slice fr c (as_wanted l)
 
-abbrev pub only : Bool → List Frame → Level → Option Config
-only true fr l = Some (fr, l)
-only false fr l = None
+-- the left function of an inner product
+abbrev pub inner_level : ℕ → ℕ → ℕ → ScalarFunction → Expr → ScalarFunction → Level
+inner_level c d k h e f = operand_wanted (applied (Inner c f d k h) none e)
+
+abbrev pub monadic_level : Axis → Expr → MonadicForm → Level
+monadic_level a e f = expression (monadic f a e)
 
 abbrev pub at_function : List Frame → ℕ → Glyph → Level → Option Config
-at_function fr c g (expression e) = Some (fr, level_for (Plain c g) none e)
-at_function fr c g (leading_brackets l x r e) = only (takes_axis (class_of g)) fr (level_for (Plain c g) (along l x r) e)
-at_function fr c g (leading_dot d k h e) = only (is_dyadic_scalar (class_of g)) fr (operand_wanted (applied (Inner c g d k h) none e))
-at_function fr c g (operand_wanted (applied (Plain s h) a e)) = only (is_dyadic_scalar (class_of g) && reduces (class_of h)) fr (expression (monadic (Reduce c g s h) a e))
+at_function fr c g (expression e) = option_map (within fr) (level_for c g none e)
+at_function fr c g (leading_brackets l x r e) = option_map (within fr) (level_for c g (along l x r) e)
+at_function fr c g (leading_dot d k h e) = option_map (λ f. within fr (inner_level c d k h e f)) (dyadic_scalar g)
+at_function fr c g (operand_wanted (applied f a e)) = option_map (λ m. within fr (monadic_level a e m)) (reduced c g f)
 at_function fr c g _ = None
 
+abbrev pub dotted : List Frame → ℕ → Axis → Expr → DyadicForm → Option Config
+dotted fr d none e (Plain c (Scalar f)) = Some (fr, leading_dot d c f e)
+dotted fr d a e f = None
+
 abbrev pub at_dot : List Frame → ℕ → Level → Option Config
-at_dot fr d (expression (monadic (Plain c g) none e)) = only (is_dyadic_scalar (class_of g)) fr (leading_dot d c g e)
-at_dot fr d (operand_wanted (applied (Plain c g) none e)) = only (is_dyadic_scalar (class_of g)) fr (leading_dot d c g e)
+at_dot fr d (expression (monadic f a e)) = option_and_then (dotted fr d a e) (dyadic_counterpart f (has_axis a))
+at_dot fr d (operand_wanted (applied f a e)) = dotted fr d a e f
 at_dot fr d _ = None
 
 abbrev pub at_jot : List Frame → ℕ → Level → Option Config

@@ -3,7 +3,8 @@ use Rattle.std.proofs.Common.{◌≡◌, ◌++◌, ◌∷◌, [], List, Option, 
 use Rattle.std.specs.Prelude.{ℕ, Bool, true, false, slice_set}
 use Rattle.std.proofs.lemmas.List.{append-nil}
 use Rattle.std.proofs.Math.Seq.{set-append_seam}
-use Rattle.apl_grammar.specs.declared.program.Form.{Form}
+use Rattle.apl_grammar.specs.declared.forms.MonadicForm.{MonadicForm}
+use Rattle.apl_grammar.specs.declared.forms.DyadicForm.{DyadicForm}
 use Rattle.apl_grammar.specs.declared.program.Operation.{Operation}
 use Rattle.apl_grammar.specs.declared.program.Operation.TheVariants as op
 use Rattle.apl_grammar.specs.declared.reader.UndecidedFunction.{UndecidedFunction}
@@ -11,10 +12,9 @@ use Rattle.apl_grammar.specs.declared.reader.State.{State}
 use Rattle.apl_grammar.specs.declared.reader.State.TheVariants as state
 use Rattle.apl_grammar.specs.declared.reader.Pending.{Pending}
 use Rattle.apl_grammar.specs.declared.reader.Pending.TheVariants as pending
-use Rattle.apl_grammar.specs.Functions.{may_be_monadic}
 use Rattle.apl_grammar.specs.Tree.{Expr, value, dyadic, monadic, assign, assign_at, Operand, index, Axis, has_axis, brackets, axis_brackets, semicolons, operations, operand_operations, list_operations, axis_operations}
-use Rattle.apl_grammar.specs.Automaton.{Machine, machine, without_empty_places, after_operand, with_monadic, with_leading_function, expression_operations}
-use Rattle.apl_grammar.proofs.Partial.{Wanted, alone, applied as applied_to, indexed, fill, Level, operand_wanted, expression, leading_dot, leading_arrow, leading_brackets, leading_slots, Tail, no_slots, slots, Frame, open_group, open_index, open_axis_or_index, open_indexed_assignment, Config, level_for}
+use Rattle.apl_grammar.specs.Automaton.{Machine, machine, without_empty_places, after_operand, with_monadic, expression_operations}
+use Rattle.apl_grammar.proofs.Partial.{Wanted, alone, applied as applied_to, indexed, fill, Level, operand_wanted, expression, leading_dot, leading_arrow, leading_brackets, leading_slots, Tail, no_slots, slots, Frame, open_group, open_index, open_axis_or_index, open_indexed_assignment, Config}
 use Rattle.apl_grammar.proofs.Emitted.{emitted-append}
 
 -- the operations that are emitted while an operand is wanted, and those that wait for it
@@ -226,11 +226,3 @@ has_expression_operations fr ps (value o) os h = record { all = os; is = refl; e
 has_expression_operations fr ps (dyadic o f a e) os h = record { all = os; is = refl; emits = h }
 has_expression_operations fr ps (assign c n r e) os h = record { all = os; is = refl; emits = h }
 has_expression_operations fr ps (assign_at c n l s d r e) os h = record { all = os; is = refl; emits = h }
-
--- a function before an expression
-pub applied_Represents : (f : Form) (a : Axis) (e : Expr) (fr : List Frame) (ps : List ℕ) (os : List (Option Operation)) → Emits fr ps (operations e ++ axis_operations a) os → Represents (fr, level_for f a e) (with_leading_function f (axis_brackets a) os (frame_stack fr ps))
-applied_Represents f a e fr ps os h = by_valence (may_be_monadic f (has_axis a)) refl
-  where
-    by_valence : (b : Bool) → may_be_monadic f (has_axis a) ≡ b → Represents (fr, level_for f a e) (with_leading_function f (axis_brackets a) os (frame_stack fr ps))
-    by_valence true is = rw is (record { places = ps; emits = h; stack = refl; state = refl })
-    by_valence false is = rw is (record { places = ps; emits = h; stack = refl; state = refl })

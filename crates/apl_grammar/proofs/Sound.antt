@@ -1,32 +1,37 @@
 -- What was read is spelled by partial trees, and some tree ends with it.
 use Rattle.std.proofs.Common.{◌≡◌, ◌++◌, ◌∷◌, [], List, Option, Some, None, refl, sym, ◌∙◌, ap, subst, append_assoc}
-use Rattle.std.specs.Prelude.{ℕ, Bool, true, false, IsTrue, ◌&&◌, option_and_then}
+use Rattle.std.specs.Prelude.{ℕ, Bool, true, false, IsTrue, ◌&&◌, option_map, option_and_then, if◌then◌else◌}
 use Rattle.apl_array.specs.declared.function.ScalarFunction.{ScalarFunction}
-use Rattle.apl_array.specs.declared.function.ScalarFunction.TheVariants.{Tilde}
 use Rattle.apl_array.specs.Valences.{has_monadic, has_dyadic}
 use Rattle.apl_tokens.specs.declared.token.Token.{Token}
 use Rattle.apl_tokens.specs.declared.token.Lexeme.{Lexeme}
 use Rattle.apl_tokens.specs.declared.token.Lexeme.TheVariants as lexeme
 use Rattle.apl_tokens.specs.declared.token.Glyph.{Glyph}
-use Rattle.apl_tokens.specs.declared.token.Class.{Class}
-use Rattle.apl_tokens.specs.declared.token.Class.TheVariants.{Scalar, MonadicOnly}
-use Rattle.apl_tokens.specs.Symbols.{class_of}
-use Rattle.apl_grammar.specs.declared.program.Form.TheVariants.{Plain, Reduce, Inner, Outer}
-use Rattle.apl_grammar.specs.Functions.{is_dyadic_scalar, is_monadic, is_dyadic, takes_axis, is_rotation, reduces, may_be_monadic, may_be_dyadic}
-use Rattle.apl_grammar.specs.Tree.{Expr, value, dyadic, monadic, assign, assign_at, Operand, constant, name, group, index, Slots, last, Slot, nothing, given, Axis, none, along, has_axis, IsTree, IsOperand, IsList, IsSlot, IsAxis, token_at, spells, spells_operand, spells_list, spells_slot, spells_axis, spells_form}
-use Rattle.apl_grammar.proofs.Partial.{Wanted, alone, applied, indexed, fill, Level, operand_wanted, expression, leading_dot, leading_arrow, leading_brackets, leading_slots, Tail, no_slots, slots, Frame, open_group, open_index, open_axis_or_index, open_indexed_assignment, Config, join, when, as_dyadic, with_index, as_wanted, level_by, level_for, at_operand, at_name, at_close, at_slice, at_close_bracket, only, at_function, at_dot, at_jot, at_arrow, at_open, slot_of, sliced_by, at_semicolon, wanted_by, at_open_bracket, step_lexeme, step, run}
+use Rattle.apl_tokens.specs.declared.token.Glyph.TheVariants as glyph
+use Rattle.apl_grammar.specs.declared.forms.AxisFunction.{AxisFunction}
+use Rattle.apl_grammar.specs.declared.forms.AxisFunction.TheVariants.{Catenate, Rotate, Replicate, Expand}
+use Rattle.apl_grammar.specs.declared.forms.DyadicFunction.TheVariants.{Scalar}
+use Rattle.apl_grammar.specs.declared.forms.MonadicFunction.TheVariants as of_one
+use Rattle.apl_grammar.specs.declared.forms.DyadicFunction.TheVariants as of_two
+use Rattle.apl_grammar.specs.declared.forms.MonadicForm.{MonadicForm}
+use Rattle.apl_grammar.specs.declared.forms.MonadicForm.TheVariants as one
+use Rattle.apl_grammar.specs.declared.forms.DyadicForm.{DyadicForm}
+use Rattle.apl_grammar.specs.declared.forms.DyadicForm.TheVariants.{Plain, Along, Inner, Outer}
+use Rattle.apl_grammar.specs.Functions.{monadic_glyph, reversal_glyph, dyadic_scalar, monadic_function, dyadic_function, unless_axis, monadic_form, dyadic_form, dyadic_counterpart, operator_of, reduced_by, reduced, may_be_monadic, may_be_dyadic}
+use Rattle.apl_grammar.specs.Tree.{Expr, value, dyadic, monadic, assign, assign_at, Operand, constant, name, group, index, Slots, last, Slot, nothing, given, Axis, none, along, has_axis, IsTree, IsOperand, IsList, IsSlot, IsAxis, token_at, spells, spells_operand, spells_list, spells_slot, spells_axis, spells_monadic, spells_dyadic}
+use Rattle.apl_grammar.proofs.Partial.{Wanted, alone, applied, indexed, fill, Level, operand_wanted, expression, leading_dot, leading_arrow, leading_brackets, leading_slots, Tail, no_slots, slots, Frame, open_group, open_index, open_axis_or_index, open_indexed_assignment, Config, join, applied_to, as_dyadic, with_index, as_wanted, level_by, level_for, within, inner_level, monadic_level, at_operand, at_name, at_close, at_slice, at_close_bracket, at_function, dotted, at_dot, at_jot, at_arrow, at_open, slot_of, sliced_by, at_semicolon, wanted_by, at_open_bracket, step_lexeme, step, run}
 use Rattle.std.specs.Prelude.{IfSome}
 use Rattle.std.proofs.lemmas.List.{append-nil}
 
 abbrev pub spelled_wanted : Wanted → List Token
 spelled_wanted alone = []
-spelled_wanted (applied f a e) = spells_form f ++ (spells_axis a ++ spells e)
+spelled_wanted (applied f a e) = spells_dyadic f ++ (spells_axis a ++ spells e)
 spelled_wanted (indexed w l s r) = token_at l lexeme.OpenBracket ∷ (spells_list s ++ token_at r lexeme.CloseBracket ∷ spelled_wanted w)
 
 abbrev pub spelled_level : Level → List Token
 spelled_level (operand_wanted w) = spelled_wanted w
 spelled_level (expression e) = spells e
-spelled_level (leading_dot d c g e) = token_at d lexeme.Dot ∷ token_at c (lexeme.Function g) ∷ spells e
+spelled_level (leading_dot d c f e) = token_at d lexeme.Dot ∷ token_at c (lexeme.Function (glyph.Scalar f)) ∷ spells e
 spelled_level (leading_arrow r e) = token_at r lexeme.Arrow ∷ spells e
 spelled_level (leading_brackets l x r e) = token_at l lexeme.OpenBracket ∷ (spells x ++ token_at r lexeme.CloseBracket ∷ spells e)
 spelled_level (leading_slots l s d r e) = token_at l lexeme.OpenBracket ∷ (spells_list s ++ token_at d lexeme.CloseBracket ∷ token_at r lexeme.Arrow ∷ spells e)
@@ -53,7 +58,7 @@ IsWanted (indexed w l s r) = IsWanted w × IsList s
 abbrev pub IsLevel : Level → Type 0
 IsLevel (operand_wanted w) = IsWanted w
 IsLevel (expression e) = IsTree e
-IsLevel (leading_dot d c g e) = IsTrue (is_dyadic_scalar (class_of g)) × IsTree e
+IsLevel (leading_dot d c f e) = IsTrue (has_dyadic f) × IsTree e
 IsLevel (leading_arrow r e) = IsTree e
 IsLevel (leading_brackets l x r e) = IsTree x × IsTree e
 IsLevel (leading_slots l s d r e) = IsList s × IsTree e
@@ -90,16 +95,74 @@ record WantedOf (l : Level) (w : Wanted) : Type 0 where
   fits : IsWanted w
   same : spelled_wanted w ≡ spelled_level l
 
-when_some : (b : Bool) (v w : Wanted) → when b v ≡ Some w → IsTrue b × (v ≡ w)
-when_some true v w h = (refl, cc)
-when_some false v w h = absurd cc
+-- a function of one argument of one symbol
+abbrev IsMonadicAt : ℕ → Glyph → Bool → MonadicForm → Type 0
+IsMonadicAt c g b f = IsTrue (may_be_monadic f b) × (spells_monadic f ≡ token_at c (lexeme.Function g) ∷ [])
+
+-- a function of two arguments of one symbol
+abbrev IsDyadicAt : ℕ → Glyph → Bool → DyadicForm → Type 0
+IsDyadicAt c g b f = IsTrue (may_be_dyadic f b) × (spells_dyadic f ≡ token_at c (lexeme.Function g) ∷ [])
+
+monadic_scalar_at : (c : ℕ) (f : ScalarFunction) (b : Bool) → has_monadic f ≡ b → IfSome (option_map (one.Plain c) (if b then Some (of_one.Scalar f) else None)) (IsMonadicAt c (glyph.Scalar f) false)
+monadic_scalar_at c f true is = (is, refl)
+monadic_scalar_at c f false is = tt
+
+monadic_at : (c : ℕ) (g : Glyph) (b : Bool) → IfSome (monadic_form c g b) (IsMonadicAt c g b)
+monadic_at c (glyph.Scalar f) false = monadic_scalar_at c f (has_monadic f) refl
+monadic_at c glyph.Rho false = (refl, refl)
+monadic_at c glyph.Comma false = (refl, refl)
+monadic_at c glyph.Iota false = (refl, refl)
+monadic_at c glyph.Transpose false = (refl, refl)
+monadic_at c glyph.GradeUp false = (refl, refl)
+monadic_at c glyph.GradeDown false = (refl, refl)
+monadic_at c glyph.CircleStile b = (refl, refl)
+monadic_at c glyph.CircleBar b = (refl, refl)
+monadic_at c _ false = tt
+monadic_at c _ true = tt
+
+dyadic_scalar_at : (c : ℕ) (f : ScalarFunction) (b : Bool) → has_dyadic f ≡ b → IfSome (option_map (Plain c) (if b then Some (of_two.Scalar f) else None)) (IsDyadicAt c (glyph.Scalar f) false)
+dyadic_scalar_at c f true is = (is, refl)
+dyadic_scalar_at c f false is = tt
+
+dyadic_at : (c : ℕ) (g : Glyph) (b : Bool) → IfSome (dyadic_form c g b) (IsDyadicAt c g b)
+dyadic_at c (glyph.Scalar f) false = dyadic_scalar_at c f (has_dyadic f) refl
+dyadic_at c glyph.Rho false = (refl, refl)
+dyadic_at c glyph.Iota false = (refl, refl)
+dyadic_at c glyph.Epsilon false = (refl, refl)
+dyadic_at c glyph.UpArrow false = (refl, refl)
+dyadic_at c glyph.DownArrow false = (refl, refl)
+dyadic_at c glyph.Transpose false = (refl, refl)
+dyadic_at c glyph.UpTack false = (refl, refl)
+dyadic_at c glyph.DownTack false = (refl, refl)
+dyadic_at c glyph.Comma b = (refl, refl)
+dyadic_at c glyph.CircleStile b = (refl, refl)
+dyadic_at c glyph.CircleBar b = (refl, refl)
+dyadic_at c glyph.Slash b = (refl, refl)
+dyadic_at c glyph.SlashBar b = (refl, refl)
+dyadic_at c glyph.Backslash b = (refl, refl)
+dyadic_at c glyph.BackslashBar b = (refl, refl)
+dyadic_at c _ false = tt
+dyadic_at c _ true = tt
+
+-- the same tokens are a function of two arguments
+abbrev IsCounterpart : MonadicForm → Bool → DyadicForm → Type 0
+IsCounterpart f b g = IsTrue (may_be_dyadic g b) × (spells_dyadic g ≡ spells_monadic f)
+
+counterpart_fits : (f : MonadicForm) (b : Bool) → IfSome (dyadic_counterpart f b) (IsCounterpart f b)
+counterpart_fits (one.Plain c f) b = dyadic_at c (monadic_glyph f) b
+counterpart_fits (one.Reverse c axis) b = dyadic_at c (reversal_glyph axis) b
+counterpart_fits (one.Reduce c f s operator) b = tt
 
 dyadic_of : (e : Expr) (w : Wanted) → IsTree e → as_dyadic e ≡ Some w → IsWanted w × (spelled_wanted w ≡ spells e)
 dyadic_of (value o) w t h = absurd cc
 dyadic_of (dyadic o f a e) w t h = absurd cc
-dyadic_of (monadic f a e) w t h =
-    let found : IsTrue (may_be_dyadic f (has_axis a)) × (applied f a e ≡ w) = when_some (may_be_dyadic f (has_axis a)) (applied f a e) w h in
-    (subst IsWanted found.1 (found.0, t.1, t.2), ap spelled_wanted (sym found.1))
+dyadic_of (monadic f a e) w t h = by_counterpart (dyadic_counterpart f (has_axis a)) (counterpart_fits f (has_axis a)) h
+  where
+    by_counterpart : (g : Option DyadicForm) → IfSome g (IsCounterpart f (has_axis a)) → option_map (applied_to a e) g ≡ Some w → IsWanted w × (spelled_wanted w ≡ spells (monadic f a e))
+    by_counterpart None k h = absurd cc
+    by_counterpart (Some g) k h =
+        let same : applied g a e ≡ w = cc in
+        (subst IsWanted same (k.0, t.1, t.2), ap spelled_wanted (sym same) ∙ ap (λ x. x ++ (spells_axis a ++ spells e)) k.1)
 dyadic_of (assign c n r e) w t h = absurd cc
 dyadic_of (assign_at c n o s d r e) w t h = absurd cc
 
@@ -172,53 +235,85 @@ close_bracket_sound c fr (leading_dot d k g e) hf hl = tt
 close_bracket_sound c fr (leading_brackets l x r e) hf hl = slice_sound c fr (leading_brackets l x r e) hf hl
 close_bracket_sound c fr (leading_slots l s d r e) hf hl = tt
 
-scalar_dyadic : (f : ScalarFunction) → has_monadic f ≡ false → IsTrue (has_dyadic f)
-scalar_dyadic Tilde h = absurd cc
-scalar_dyadic _ h = refl
+-- a function and its axis, before an expression
+level_sound : (c : ℕ) (g : Glyph) (a : Axis) (e : Expr) (fr : List Frame) (ts : List Token) → AreFrames fr → IsAxis a → IsTree e → (spells_axis a ++ spells e) ++ spelled_frames fr ≡ ts → IfSome (option_map (within fr) (level_for c g a e)) (Reads (token_at c (lexeme.Function g)) ts)
+level_sound c g a e fr ts hf ha he same = by_valence (monadic_form c g (has_axis a)) (dyadic_form c g (has_axis a)) (monadic_at c g (has_axis a)) (dyadic_at c g (has_axis a))
+  where
+    put : (front : List Token) → front ≡ token_at c (lexeme.Function g) ∷ [] → (front ++ (spells_axis a ++ spells e)) ++ spelled_frames fr ≡ token_at c (lexeme.Function g) ∷ ts
+    put front is = ap (λ x. (x ++ (spells_axis a ++ spells e)) ++ spelled_frames fr) is ∙ ap (λ x. token_at c (lexeme.Function g) ∷ x) same
 
--- a symbol that may not be monadic may be dyadic
-plain_dyadic : (k : Class) → is_monadic k ≡ false → IsTrue (is_dyadic k)
-plain_dyadic MonadicOnly h = absurd cc
-plain_dyadic (Scalar f) h = scalar_dyadic f h
-plain_dyadic _ h = refl
+    by_valence : (m : Option MonadicForm) (d : Option DyadicForm) → IfSome m (IsMonadicAt c g (has_axis a)) → IfSome d (IsDyadicAt c g (has_axis a)) → IfSome (option_map (within fr) (level_by m d a e)) (Reads (token_at c (lexeme.Function g)) ts)
+    by_valence (Some f) d h k = record { frames = hf; level = (h.0, ha, he); spelled_so = put (spells_monadic f) h.1 }
+    by_valence None (Some f) h k = record { frames = hf; level = (k.0, ha, he); spelled_so = put (spells_dyadic f) k.1 }
+    by_valence None None h k = tt
 
-level_sound : (c : ℕ) (g : Glyph) (a : Axis) (e : Expr) (fr : List Frame) (ts : List Token) (b : Bool) → (b ≡ may_be_monadic (Plain c g) (has_axis a)) → (b ≡ false → IsTrue (may_be_dyadic (Plain c g) (has_axis a))) → AreFrames fr → IsAxis a → IsTree e → (spells_axis a ++ spells e) ++ spelled_frames fr ≡ ts → Reads (token_at c (lexeme.Function g)) ts (fr, level_by b (Plain c g) a e)
-level_sound c g a e fr ts true is not hf ha he same =
-    record { frames = hf; level = (sym is, ha, he); spelled_so = ap (λ x. token_at c (lexeme.Function g) ∷ x) same }
-level_sound c g a e fr ts false is not hf ha he same =
-    record { frames = hf; level = (not refl, ha, he); spelled_so = ap (λ x. token_at c (lexeme.Function g) ∷ x) same }
+-- a scalar function of two arguments and its symbol
+abbrev IsScalarAt : Glyph → ScalarFunction → Type 0
+IsScalarAt g f = IsTrue (has_dyadic f) × (g ≡ glyph.Scalar f)
 
-only_sound : (b : Bool) (fr : List Frame) (l : Level) (t : Token) (ts : List Token) → (IsTrue b → Reads t ts (fr, l)) → IfSome (only b fr l) (Reads t ts)
-only_sound true fr l t ts h = h refl
-only_sound false fr l t ts h = tt
+scalar_at_if : (f : ScalarFunction) (b : Bool) → has_dyadic f ≡ b → IfSome (if b then Some f else None) (IsScalarAt (glyph.Scalar f))
+scalar_at_if f true is = (is, refl)
+scalar_at_if f false is = tt
+
+scalar_at : (g : Glyph) → IfSome (dyadic_scalar g) (IsScalarAt g)
+scalar_at (glyph.Scalar f) = scalar_at_if f (has_dyadic f) refl
+scalar_at _ = tt
+
+inner_sound : (c : ℕ) (g : Glyph) (fr : List Frame) (d k : ℕ) (h : ScalarFunction) (e : Expr) → AreFrames fr → IsTrue (has_dyadic h) → IsTree e → IfSome (option_map (λ f. within fr (inner_level c d k h e f)) (dyadic_scalar g)) (Reads (token_at c (lexeme.Function g)) (spelled fr (leading_dot d k h e)))
+inner_sound c g fr d k h e hf hh he = by_scalar (dyadic_scalar g) (scalar_at g)
+  where
+    by_scalar : (f : Option ScalarFunction) → IfSome f (IsScalarAt g) → IfSome (option_map (λ f. within fr (inner_level c d k h e f)) f) (Reads (token_at c (lexeme.Function g)) (spelled fr (leading_dot d k h e)))
+    by_scalar None i = tt
+    by_scalar (Some f) i = record { frames = hf; level = (rw (i.0, hh) refl, tt, he); spelled_so = ap (λ x. token_at c (lexeme.Function x) ∷ spelled fr (leading_dot d k h e)) (sym i.1) }
+
+-- a function and the slash on its right
+reduced_sound : (c : ℕ) (g : Glyph) (fr : List Frame) (f : DyadicForm) (a : Axis) (e : Expr) → AreFrames fr → IsAxis a → IsTree e → IfSome (option_map (λ m. within fr (monadic_level a e m)) (reduced c g f)) (Reads (token_at c (lexeme.Function g)) (spelled fr (operand_wanted (applied f a e))))
+reduced_sound c g fr (Along s h) a e hf ha he = by_slash (dyadic_scalar g) (scalar_at g) h
+  where
+    by_slash : (f : Option ScalarFunction) → IfSome f (IsScalarAt g) → (h : AxisFunction) → IfSome (option_map (λ m. within fr (monadic_level a e m)) (reduced_by c f s (operator_of h))) (Reads (token_at c (lexeme.Function g)) (spelled fr (operand_wanted (applied (Along s h) a e))))
+    by_slash None i h = tt
+    by_slash (Some f) i Catenate = tt
+    by_slash (Some f) i (Rotate axis) = tt
+    by_slash (Some f) i (Replicate axis) = record { frames = hf; level = (i.0, ha, he); spelled_so = ap (λ x. token_at c (lexeme.Function x) ∷ spelled fr (operand_wanted (applied (Along s (Replicate axis)) a e))) (sym i.1) }
+    by_slash (Some f) i (Expand axis) = record { frames = hf; level = (i.0, ha, he); spelled_so = ap (λ x. token_at c (lexeme.Function x) ∷ spelled fr (operand_wanted (applied (Along s (Expand axis)) a e))) (sym i.1) }
+reduced_sound c g fr (Plain s f) a e hf ha he = tt
+reduced_sound c g fr (Inner k f s d h) a e hf ha he = tt
+reduced_sound c g fr (Outer k f s h) a e hf ha he = tt
 
 function_sound : (c : ℕ) (g : Glyph) (fr : List Frame) (l : Level) → AreFrames fr → IsLevel l → IfSome (at_function fr c g l) (Reads (token_at c (lexeme.Function g)) (spelled fr l))
-function_sound c g fr (expression e) hf hl = level_sound c g none e fr (spelled fr (expression e)) (is_monadic (class_of g)) refl (plain_dyadic (class_of g)) hf tt hl refl
-function_sound c g fr (leading_brackets l x r e) hf hl =
-    only_sound (takes_axis (class_of g)) fr (level_for (Plain c g) (along l x r) e) (token_at c (lexeme.Function g)) (spelled fr (leading_brackets l x r e))
-    (λ h. level_sound c g (along l x r) e fr (spelled fr (leading_brackets l x r e)) (is_rotation (class_of g)) refl (λ _. h) hf hl.0 hl.1 (simp append_assoc))
-function_sound c g fr (leading_dot d k h e) hf hl =
-    only_sound (is_dyadic_scalar (class_of g)) fr (operand_wanted (applied (Inner c g d k h) none e)) (token_at c (lexeme.Function g)) (spelled fr (leading_dot d k h e))
-    (λ i. record { frames = hf; level = (rw (i, hl.0) refl, tt, hl.1); spelled_so = refl })
-function_sound c g fr (operand_wanted (applied (Plain s h) a e)) hf hl =
-    only_sound (is_dyadic_scalar (class_of g) && reduces (class_of h)) fr (expression (monadic (Reduce c g s h) a e)) (token_at c (lexeme.Function g)) (spelled fr (operand_wanted (applied (Plain s h) a e)))
-    (λ i. record { frames = hf; level = (i, hl.1, hl.2); spelled_so = refl })
+function_sound c g fr (expression e) hf hl = level_sound c g none e fr (spelled fr (expression e)) hf tt hl refl
+function_sound c g fr (leading_brackets l x r e) hf hl = level_sound c g (along l x r) e fr (spelled fr (leading_brackets l x r e)) hf hl.0 hl.1 (simp append_assoc)
+function_sound c g fr (leading_dot d k h e) hf hl = inner_sound c g fr d k h e hf hl.0 hl.1
+function_sound c g fr (operand_wanted (applied f a e)) hf hl = reduced_sound c g fr f a e hf hl.1 hl.2
 function_sound c g fr (operand_wanted alone) hf hl = tt
 function_sound c g fr (operand_wanted (indexed w l s r)) hf hl = tt
-function_sound c g fr (operand_wanted (applied (Reduce d f s h) a e)) hf hl = tt
-function_sound c g fr (operand_wanted (applied (Inner d f s k h) a e)) hf hl = tt
-function_sound c g fr (operand_wanted (applied (Outer d f s h) a e)) hf hl = tt
 function_sound c g fr (leading_arrow r e) hf hl = tt
 function_sound c g fr (leading_slots l s d r e) hf hl = tt
 
+dotted_sound : (d : ℕ) (fr : List Frame) (f : DyadicForm) (a : Axis) (e : Expr) → AreFrames fr → IsWanted (applied f a e) → IfSome (dotted fr d a e f) (Reads (token_at d lexeme.Dot) (spelled fr (operand_wanted (applied f a e))))
+dotted_sound d fr (Plain c (of_two.Scalar f)) none e hf hw = record { frames = hf; level = (hw.0, hw.2); spelled_so = refl }
+dotted_sound d fr _ none e hf hw = tt
+dotted_sound d fr f (along l x r) e hf hw = tt
+
 dot_sound : (d : ℕ) (fr : List Frame) (l : Level) → AreFrames fr → IsLevel l → IfSome (at_dot fr d l) (Reads (token_at d lexeme.Dot) (spelled fr l))
-dot_sound d fr (expression (monadic (Plain c g) none e)) hf hl =
-    only_sound (is_dyadic_scalar (class_of g)) fr (leading_dot d c g e) (token_at d lexeme.Dot) (spelled fr (expression (monadic (Plain c g) none e)))
-    (λ i. record { frames = hf; level = (i, hl.2); spelled_so = refl })
-dot_sound d fr (operand_wanted (applied (Plain c g) none e)) hf hl =
-    only_sound (is_dyadic_scalar (class_of g)) fr (leading_dot d c g e) (token_at d lexeme.Dot) (spelled fr (operand_wanted (applied (Plain c g) none e)))
-    (λ i. record { frames = hf; level = (i, hl.2); spelled_so = refl })
-dot_sound d fr _ hf hl = tt
+dot_sound d fr (expression (monadic f a e)) hf hl = by_counterpart (dyadic_counterpart f (has_axis a)) (counterpart_fits f (has_axis a))
+  where
+    by_counterpart : (g : Option DyadicForm) → IfSome g (IsCounterpart f (has_axis a)) → IfSome (option_and_then (dotted fr d a e) g) (Reads (token_at d lexeme.Dot) (spelled fr (expression (monadic f a e))))
+    by_counterpart None k = tt
+    by_counterpart (Some g) k =
+        subst (λ (x : List Token). IfSome (dotted fr d a e g) (Reads (token_at d lexeme.Dot) x)) (ap (λ x. (x ++ (spells_axis a ++ spells e)) ++ spelled_frames fr) k.1)
+        (dotted_sound d fr g a e hf (k.0, hl.1, hl.2))
+dot_sound d fr (operand_wanted (applied f a e)) hf hl = dotted_sound d fr f a e hf hl
+dot_sound d fr (operand_wanted alone) hf hl = tt
+dot_sound d fr (operand_wanted (indexed w l s r)) hf hl = tt
+dot_sound d fr (expression (value o)) hf hl = tt
+dot_sound d fr (expression (dyadic o f a e)) hf hl = tt
+dot_sound d fr (expression (assign c n r e)) hf hl = tt
+dot_sound d fr (expression (assign_at c n l s k r e)) hf hl = tt
+dot_sound d fr (leading_dot k c g e) hf hl = tt
+dot_sound d fr (leading_arrow r e) hf hl = tt
+dot_sound d fr (leading_brackets l x r e) hf hl = tt
+dot_sound d fr (leading_slots l s k r e) hf hl = tt
 
 jot_sound : (j : ℕ) (fr : List Frame) (l : Level) → AreFrames fr → IsLevel l → IfSome (at_jot fr j l) (Reads (token_at j lexeme.Jot) (spelled fr l))
 jot_sound j fr (leading_dot d c g e) hf hl = record { frames = hf; level = (hl.0, tt, hl.1); spelled_so = refl }

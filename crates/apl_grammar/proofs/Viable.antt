@@ -3,7 +3,8 @@ use Rattle.std.proofs.Common.{◌≡◌, ◌++◌, ◌∷◌, [], List, Option, 
 use Rattle.std.specs.Prelude.{ℕ, option_and_then}
 use Rattle.apl_tokens.specs.declared.token.Token.{Token}
 use Rattle.apl_tokens.specs.declared.token.Lexeme.TheVariants as lexeme
-use Rattle.apl_grammar.specs.declared.program.Form.TheVariants.{Plain, Inner}
+use Rattle.apl_grammar.specs.declared.forms.AxisFunction.TheVariants.{Catenate}
+use Rattle.apl_grammar.specs.declared.forms.DyadicForm.TheVariants.{Along, Inner}
 use Rattle.apl_grammar.specs.Tree.{Expr, dyadic, assign, assign_at, Operand, name, group, index, given, none, along, IsTree, token_at, spells}
 use Rattle.apl_grammar.proofs.Partial.{fill, Level, operand_wanted, expression, leading_dot, leading_arrow, leading_brackets, leading_slots, Frame, open_group, open_index, open_axis_or_index, open_indexed_assignment, Config, join, step, run}
 use Rattle.std.proofs.lemmas.List.{append-nil}
@@ -30,9 +31,9 @@ level_ends : (l : Level) → IsLevel l → Ends (spelled_level l)
 unfolding some_operand
 level_ends (operand_wanted w) h = record { tree = fill w some_operand; front = token_at 0 (lexeme.Name some_name) ∷ []; fits = fill_tree w some_operand tt h; same = fill-spells w some_operand }
 level_ends (expression e) h = record { tree = e; front = []; fits = h; same = refl }
-level_ends (leading_dot d c g e) h = record { tree = dyadic some_operand (Inner 0 (Scalar Plus) d c g) none e; front = token_at 0 (lexeme.Name some_name) ∷ token_at 0 (lexeme.Function (Scalar Plus)) ∷ []; fits = (tt, h.0, tt, h.1); same = refl }
+level_ends (leading_dot d c g e) h = record { tree = dyadic some_operand (Inner 0 Plus d c g) none e; front = token_at 0 (lexeme.Name some_name) ∷ token_at 0 (lexeme.Function (Scalar Plus)) ∷ []; fits = (tt, h.0, tt, h.1); same = refl }
 level_ends (leading_arrow r e) h = record { tree = assign 0 some_name r e; front = token_at 0 (lexeme.Name some_name) ∷ []; fits = h; same = refl }
-level_ends (leading_brackets l x r e) h = record { tree = dyadic some_operand (Plain 0 Comma) (along l x r) e; front = token_at 0 (lexeme.Name some_name) ∷ token_at 0 (lexeme.Function Comma) ∷ []; fits = (tt, refl, h.0, h.1); same = simp append_assoc }
+level_ends (leading_brackets l x r e) h = record { tree = dyadic some_operand (Along 0 Catenate) (along l x r) e; front = token_at 0 (lexeme.Name some_name) ∷ token_at 0 (lexeme.Function Comma) ∷ []; fits = (tt, refl, h.0, h.1); same = simp append_assoc }
 level_ends (leading_slots l s d r e) h = record { tree = assign_at 0 some_name l s d r e; front = token_at 0 (lexeme.Name some_name) ∷ []; fits = h; same = refl }
 
 -- an operand for what is wanted, in front of which other tokens stand
@@ -60,7 +61,7 @@ frame_closed (open_index r t w) fr e hf he =
       ap (λ y. y ++ spelled_frames fr) (fill-spells w x) ∙ ap (λ y. (token_at 0 (lexeme.Name some_name) ∷ token_at 0 lexeme.OpenBracket ∷ (y ++ token_at r lexeme.CloseBracket ∷ []) ++ spelled_wanted w) ++ spelled_frames fr) (join-spells t (given e)) ∙ simp append_assoc,
     )
 frame_closed (open_axis_or_index r e') fr e hf he =
-    (token_at 0 (lexeme.Name some_name) ∷ token_at 0 (lexeme.Function Comma) ∷ token_at 0 lexeme.OpenBracket ∷ [], dyadic some_operand (Plain 0 Comma) (along 0 e r) e', (tt, refl, he, hf.0), hf.1, simp append_assoc)
+    (token_at 0 (lexeme.Name some_name) ∷ token_at 0 (lexeme.Function Comma) ∷ token_at 0 lexeme.OpenBracket ∷ [], dyadic some_operand (Along 0 Catenate) (along 0 e r) e', (tt, refl, he, hf.0), hf.1, simp append_assoc)
 frame_closed (open_indexed_assignment r t a e') fr e hf he = (
   token_at 0 (lexeme.Name some_name) ∷ token_at 0 lexeme.OpenBracket ∷ [],
   assign_at 0 some_name 0 (join t (given e)) r a e',

@@ -4,10 +4,11 @@ use Rattle.apl_tokens.specs.declared.token.Token.{Token}
 use Rattle.apl_tokens.specs.declared.token.Lexeme.{Lexeme}
 use Rattle.apl_tokens.specs.declared.token.Lexeme.TheVariants as lexeme
 use Rattle.apl_tokens.specs.declared.token.Glyph.{Glyph}
-use Rattle.apl_tokens.specs.Symbols.{class_of}
 use Rattle.apl_grammar.specs.declared.program.Brackets.{Brackets}
-use Rattle.apl_grammar.specs.declared.program.Form.{Form}
-use Rattle.apl_grammar.specs.declared.program.Form.TheVariants.{Plain, Reduce, Inner, Outer}
+use Rattle.apl_grammar.specs.declared.forms.DyadicFunction.TheVariants.{Scalar}
+use Rattle.apl_grammar.specs.declared.forms.MonadicForm.{MonadicForm}
+use Rattle.apl_grammar.specs.declared.forms.DyadicForm.{DyadicForm}
+use Rattle.apl_grammar.specs.declared.forms.DyadicForm.TheVariants.{Plain, Along, Inner, Outer}
 use Rattle.apl_grammar.specs.declared.program.Operation.{Operation}
 use Rattle.apl_grammar.specs.declared.program.Operation.TheVariants as op
 use Rattle.apl_grammar.specs.declared.reader.UndecidedFunction.{UndecidedFunction}
@@ -18,7 +19,7 @@ use Rattle.apl_grammar.specs.declared.reader.Pending.{Pending}
 use Rattle.apl_grammar.specs.declared.reader.Pending.TheVariants as pending
 use Rattle.apl_grammar.specs.declared.statement.GrammarStop.{GrammarStop}
 use Rattle.apl_grammar.specs.declared.statement.GrammarStop.TheVariants as stop
-use Rattle.apl_grammar.specs.Functions.{is_dyadic_scalar, takes_axis, reduces, may_be_monadic, may_be_dyadic}
+use Rattle.apl_grammar.specs.Functions.{dyadic_scalar, monadic_form, dyadic_form, dyadic_counterpart, reduced}
 use Rattle.apl_grammar.specs.Tree.{brackets, indexed_name}
 
 -- The operations emitted so far, with empty places among them; what waits, the innermost first; and the state.
@@ -48,9 +49,13 @@ abbrev pub after_operand : List (Option Operation) → List Pending → Machine
 after_operand os (pending.Operation o ∷ es) = after_operand (os ++ Some o ∷ []) es
 after_operand os es = machine os es state.Expression
 
--- the function waits for an operand, if it may be dyadic
-abbrev pub with_dyadic : Form → Option Brackets → List Pending → Option (List Pending)
-with_dyadic f a es = if may_be_dyadic f (is_some a) then Some (pending.Operation (op.Dyadic f a) ∷ es) else None
+-- the function waits for an operand
+abbrev pub with_function_pending : Option Brackets → List Pending → DyadicForm → List Pending
+with_function_pending a es f = pending.Operation (op.Dyadic f a) ∷ es
+
+-- the function of two arguments of the same symbol waits for an operand, if there is one
+abbrev pub with_dyadic : MonadicForm → Option Brackets → List Pending → Option (List Pending)
+with_dyadic f a es = option_map (with_function_pending a es) (dyadic_counterpart f (is_some a))
 
 abbrev pub with_index : Brackets → List Pending → List Pending
 with_index b es = pending.Operation (op.Index [] b) ∷ es
@@ -76,9 +81,15 @@ expression_operations os state.Expression = Some os
 expression_operations os (state.LeadingFunction f a) = Some (os ++ Some (op.Monadic f a) ∷ [])
 expression_operations os _ = None
 
--- a function before an expression
-abbrev pub with_leading_function : Form → Option Brackets → List (Option Operation) → List Pending → Machine
-with_leading_function f a os es = if may_be_monadic f (is_some a) then machine os es (state.LeadingFunction f a) else machine os (pending.Operation (op.Dyadic f a) ∷ es) state.OperandWanted
+-- a function before an expression: of one argument, or else of two
+abbrev pub with_either : Option MonadicForm → Option DyadicForm → Option Brackets → List (Option Operation) → List Pending → Option Machine
+with_either (Some f) _ a os es = Some (machine os es (state.LeadingFunction f a))
+with_either None (Some f) a os es = Some (machine os (with_function_pending a es f) state.OperandWanted)
+with_either None None a os es = None
+
+-- the symbol of a function before an expression
+abbrev pub with_leading_function : ℕ → Glyph → Option Brackets → List (Option Operation) → List Pending → Option Machine
+with_leading_function c g a os es = with_either (monadic_form c g (is_some a)) (dyadic_form c g (is_some a)) a os es
 
 -- the monadic function whose place was kept is monadic
 abbrev pub with_monadic : List (Option Operation) → Option UndecidedFunction → List (Option Operation)
@@ -86,24 +97,24 @@ with_monadic os None = os
 with_monadic os (Some p) = slice_set os p.place (Some (op.Monadic p.function p.axis))
 
 abbrev pub with_function : List (Option Operation) → List Pending → State → ℕ → Glyph → Option Machine
-with_function os es (state.LeadingBrackets b p) c g =
-    if takes_axis (class_of g) then Some (with_leading_function (Plain c g) (Some b) (with_monadic os p) es) else None
+with_function os es (state.LeadingBrackets b p) c g = with_leading_function c g (Some b) (with_monadic os p) es
 with_function os es (state.LeadingDot d k h) c g =
-    if is_dyadic_scalar (class_of g) then Some (machine os (pending.Operation (op.Dyadic (Inner c g d k h) None) ∷ es) state.OperandWanted) else None
-with_function os (pending.Operation (op.Dyadic (Plain s h) a) ∷ es) state.OperandWanted c g =
-    if is_dyadic_scalar (class_of g) && reduces (class_of h) then Some (machine os es (state.LeadingFunction (Reduce c g s h) a)) else None
-with_function os es s c g = option_map (λ os. with_leading_function (Plain c g) None os es) (expression_operations os s)
+    option_map (λ f. machine os (pending.Operation (op.Dyadic (Inner c f d k h) None) ∷ es) state.OperandWanted) (dyadic_scalar g)
+with_function os (pending.Operation (op.Dyadic f a) ∷ es) state.OperandWanted c g =
+    option_map (λ m. machine os es (state.LeadingFunction m a)) (reduced c g f)
+with_function os es s c g = option_and_then (λ os. with_leading_function c g None os es) (expression_operations os s)
 
--- a dot before a function
-abbrev pub leading_dot : ℕ → Form → Option Brackets → Option State
-leading_dot d (Plain c g) None = if is_dyadic_scalar (class_of g) then Some (state.LeadingDot d c g) else None
+-- a dot before a function: it may be a scalar function alone
+abbrev pub leading_dot : ℕ → DyadicForm → Option Brackets → Option State
+leading_dot d (Plain c (Scalar f)) None = Some (state.LeadingDot d c f)
 leading_dot d f a = None
 
+abbrev pub with_leading_dot : List (Option Operation) → List Pending → ℕ → Option Brackets → DyadicForm → Option Machine
+with_leading_dot os es d a f = option_map (machine os es) (leading_dot d f a)
+
 abbrev pub with_dot : List (Option Operation) → List Pending → State → ℕ → Option Machine
-with_dot os es (state.LeadingFunction (Plain c g) None) d =
-    if is_dyadic_scalar (class_of g) then Some (machine os es (state.LeadingDot d c g)) else None
-with_dot os (pending.Operation (op.Dyadic (Plain c g) None) ∷ es) state.OperandWanted d =
-    if is_dyadic_scalar (class_of g) then Some (machine os es (state.LeadingDot d c g)) else None
+with_dot os es (state.LeadingFunction f a) d = option_and_then (with_leading_dot os es d a) (dyadic_counterpart f (is_some a))
+with_dot os (pending.Operation (op.Dyadic f a) ∷ es) state.OperandWanted d = with_leading_dot os es d a f
 with_dot os es s d = None
 
 abbrev pub with_jot : List (Option Operation) → List Pending → State → ℕ → Option Machine

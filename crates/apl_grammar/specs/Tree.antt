@@ -4,21 +4,24 @@ use Rattle.apl_array.specs.Array.{ArrayValue}
 use Rattle.apl_tokens.specs.declared.token.Token.{Token}
 use Rattle.apl_tokens.specs.declared.token.Lexeme.{Lexeme}
 use Rattle.apl_tokens.specs.declared.token.Lexeme.TheVariants as lexeme
-use Rattle.apl_grammar.specs.declared.program.Form.{Form}
-use Rattle.apl_grammar.specs.declared.program.Form.TheVariants.{Plain, Reduce, Inner, Outer}
+use Rattle.apl_tokens.specs.declared.token.Glyph.TheVariants.{Scalar}
+use Rattle.apl_grammar.specs.declared.forms.MonadicForm.{MonadicForm}
+use Rattle.apl_grammar.specs.declared.forms.MonadicForm.TheVariants as one
+use Rattle.apl_grammar.specs.declared.forms.DyadicForm.{DyadicForm}
+use Rattle.apl_grammar.specs.declared.forms.DyadicForm.TheVariants as two
 use Rattle.apl_grammar.specs.declared.program.Brackets.{Brackets}
 use Rattle.apl_grammar.specs.declared.program.IndexedName.{IndexedName}
 use Rattle.apl_grammar.specs.declared.program.Operation.{Operation}
 use Rattle.apl_grammar.specs.declared.program.Operation.TheVariants as op
-use Rattle.apl_grammar.specs.Functions.{may_be_monadic, may_be_dyadic}
+use Rattle.apl_grammar.specs.Functions.{monadic_glyph, dyadic_glyph, reversal_glyph, axis_glyph, operator_glyph, may_be_monadic, may_be_dyadic}
 
 -- Leaves hold the columns of their tokens.
 mutual
   -- expr = operand | operand function expr | function expr | name ← expr | name [ list ] ← expr
   pub data Expr : Type 0 where
     value : Operand → Expr
-    dyadic : Operand → Form → Axis → Expr → Expr
-    monadic : Form → Axis → Expr → Expr
+    dyadic : Operand → DyadicForm → Axis → Expr → Expr
+    monadic : MonadicForm → Axis → Expr → Expr
     assign : (column : ℕ) → (text : List ℕ) → (arrow : ℕ) → Expr → Expr
     assign_at : (column : ℕ) → (text : List ℕ) → (left : ℕ) → Slots → (right : ℕ) → (arrow : ℕ) → Expr → Expr
 
@@ -61,7 +64,7 @@ axis_brackets (along l e r) = Some (brackets l r)
 abbrev pub has_axis : Axis → Bool
 has_axis a = is_some (axis_brackets a)
 
--- each function of the tree is in the grammar
+-- each function of the tree has its valence, and an axis only if it takes one
 abbrev mutual
   pub IsTree : Expr → Type 0
   IsTree (value o) = IsOperand o
@@ -92,19 +95,25 @@ abbrev mutual
 abbrev pub token_at : ℕ → Lexeme → Token
 token_at c l = record { lexeme = l; column = c }
 
--- the tokens of a function
-abbrev pub spells_form : Form → List Token
-spells_form (Plain c g) = token_at c (lexeme.Function g) ∷ []
-spells_form (Reduce c f s g) = token_at c (lexeme.Function f) ∷ token_at s (lexeme.Function g) ∷ []
-spells_form (Inner c f d e g) = token_at c (lexeme.Function f) ∷ token_at d lexeme.Dot ∷ token_at e (lexeme.Function g) ∷ []
-spells_form (Outer j d c g) = token_at j lexeme.Jot ∷ token_at d lexeme.Dot ∷ token_at c (lexeme.Function g) ∷ []
+-- the tokens of a function of one argument
+abbrev pub spells_monadic : MonadicForm → List Token
+spells_monadic (one.Plain c f) = token_at c (lexeme.Function (monadic_glyph f)) ∷ []
+spells_monadic (one.Reverse c axis) = token_at c (lexeme.Function (reversal_glyph axis)) ∷ []
+spells_monadic (one.Reduce c f s operator) = token_at c (lexeme.Function (Scalar f)) ∷ token_at s (lexeme.Function (operator_glyph operator)) ∷ []
+
+-- the tokens of a function of two arguments
+abbrev pub spells_dyadic : DyadicForm → List Token
+spells_dyadic (two.Plain c f) = token_at c (lexeme.Function (dyadic_glyph f)) ∷ []
+spells_dyadic (two.Along c f) = token_at c (lexeme.Function (axis_glyph f)) ∷ []
+spells_dyadic (two.Inner c f d e g) = token_at c (lexeme.Function (Scalar f)) ∷ token_at d lexeme.Dot ∷ token_at e (lexeme.Function (Scalar g)) ∷ []
+spells_dyadic (two.Outer j d c g) = token_at j lexeme.Jot ∷ token_at d lexeme.Dot ∷ token_at c (lexeme.Function (Scalar g)) ∷ []
 
 -- the tokens of a tree, in order
 abbrev mutual
   pub spells : Expr → List Token
   spells (value o) = spells_operand o
-  spells (dyadic o f a e) = spells_operand o ++ (spells_form f ++ (spells_axis a ++ spells e))
-  spells (monadic f a e) = spells_form f ++ (spells_axis a ++ spells e)
+  spells (dyadic o f a e) = spells_operand o ++ (spells_dyadic f ++ (spells_axis a ++ spells e))
+  spells (monadic f a e) = spells_monadic f ++ (spells_axis a ++ spells e)
   spells (assign c n r e) = token_at c (lexeme.Name n) ∷ token_at r lexeme.Arrow ∷ spells e
   spells (assign_at c n o s d r e) = token_at c (lexeme.Name n) ∷ token_at o lexeme.OpenBracket ∷ spells_list s ++ token_at d lexeme.CloseBracket ∷ token_at r lexeme.Arrow ∷ spells e
 

@@ -1,93 +1,191 @@
-//! Which function may be monadic, dyadic, or take an axis.
+//! Which function a symbol is.
 ghost use Rattle.std.specs.Prelude.{◌≡◌};
-ghost use Rattle.apl_tokens.specs.Symbols.{class_of};
-ghost use Rattle.apl_grammar.specs.Functions.{may_be_monadic, may_be_dyadic, is_dyadic_scalar, is_monadic, is_dyadic, is_rotation, takes_axis, reduces};
+ghost use Rattle.apl_grammar.specs.Functions.{dyadic_scalar, monadic_glyph, reversal_glyph, monadic_function, dyadic_function, reversal, axis_function, monadic_form, dyadic_form, dyadic_counterpart, operator_of, reduced};
 
-use super::program::Form;
-use apl_tokens::{Class, Glyph};
+use super::forms::{
+    AxisFunction, DefaultAxis, DyadicForm, DyadicFunction, DyadicScalar, MonadicForm,
+    MonadicFunction, MonadicScalar, Operator,
+};
+use apl_tokens::Glyph;
 
-/// Whether the function applies element by element to two arguments.
-pub(crate) fn is_dyadic_scalar(glyph: Glyph) -> bool
-    ensures { result ≡ is_dyadic_scalar (class_of glyph) }
+/// The scalar function of two arguments that the symbol is, if it is one.
+pub(crate) fn dyadic_scalar(glyph: Glyph) -> Option<DyadicScalar>
+    ensures { result ≡ dyadic_scalar glyph }
 {
-    match glyph.class() {
-        Class::Scalar(function) => function.is_dyadic(),
-        _ => false,
+    match glyph {
+        Glyph::Scalar(function) => DyadicScalar::new(function),
+        _ => None,
     }
 }
 
-/// Whether the function's symbol may be a function of one argument.
-fn is_monadic(glyph: Glyph) -> bool
-    ensures { result ≡ is_monadic (class_of glyph) }
+/// The symbol of a function of one argument that takes no axis.
+fn monadic_glyph(function: &MonadicFunction) -> Glyph
+    ensures { result ≡ monadic_glyph function.now }
 {
-    match glyph.class() {
-        Class::Scalar(function) => function.is_monadic(),
-        Class::MonadicOnly | Class::BothValences | Class::Rotation | Class::Catenation => true,
-        Class::DyadicOnly | Class::Slash | Class::Backslash => false,
+    match function {
+        MonadicFunction::Scalar(scalar) => Glyph::Scalar(scalar.function()),
+        MonadicFunction::Shape => Glyph::Rho,
+        MonadicFunction::Ravel => Glyph::Comma,
+        MonadicFunction::Iota => Glyph::Iota,
+        MonadicFunction::Transpose => Glyph::Transpose,
+        MonadicFunction::GradeUp => Glyph::GradeUp,
+        MonadicFunction::GradeDown => Glyph::GradeDown,
     }
 }
 
-/// Whether the function's symbol may be a function of two arguments.
-fn is_dyadic(glyph: Glyph) -> bool
-    ensures { result ≡ is_dyadic (class_of glyph) }
+/// The symbol of a reversal.
+fn reversal_glyph(axis: DefaultAxis) -> Glyph
+    ensures { result ≡ reversal_glyph axis }
 {
-    match glyph.class() {
-        Class::Scalar(function) => function.is_dyadic(),
-        Class::MonadicOnly => false,
-        _ => true,
+    match axis {
+        DefaultAxis::Last => Glyph::CircleStile,
+        DefaultAxis::First => Glyph::CircleBar,
     }
 }
 
-/// Whether the function of one argument takes an axis.
-fn is_rotation(glyph: Glyph) -> bool
-    ensures { result ≡ is_rotation (class_of glyph) }
+/// The function of one argument that takes no axis, if the symbol is one.
+fn monadic_function(glyph: Glyph) -> Option<MonadicFunction>
+    ensures { result ≡ monadic_function glyph }
 {
-    matches!(glyph.class(), Class::Rotation)
+    match glyph {
+        Glyph::Scalar(function) => match MonadicScalar::new(function) {
+            Some(scalar) => Some(MonadicFunction::Scalar(scalar)),
+            None => None,
+        },
+        Glyph::Rho => Some(MonadicFunction::Shape),
+        Glyph::Comma => Some(MonadicFunction::Ravel),
+        Glyph::Iota => Some(MonadicFunction::Iota),
+        Glyph::Transpose => Some(MonadicFunction::Transpose),
+        Glyph::GradeUp => Some(MonadicFunction::GradeUp),
+        Glyph::GradeDown => Some(MonadicFunction::GradeDown),
+        _ => None,
+    }
 }
 
-/// Whether the function of two arguments takes an axis.
-pub(crate) fn takes_axis(glyph: Glyph) -> bool
-    ensures { result ≡ takes_axis (class_of glyph) }
+/// The function of two arguments that takes no axis, if the symbol is one.
+fn dyadic_function(glyph: Glyph) -> Option<DyadicFunction>
+    ensures { result ≡ dyadic_function glyph }
 {
-    matches!(
-        glyph.class(),
-        Class::Rotation | Class::Catenation | Class::Slash | Class::Backslash
-    )
+    match glyph {
+        Glyph::Scalar(function) => match DyadicScalar::new(function) {
+            Some(scalar) => Some(DyadicFunction::Scalar(scalar)),
+            None => None,
+        },
+        Glyph::Rho => Some(DyadicFunction::Reshape),
+        Glyph::Iota => Some(DyadicFunction::IndexOf),
+        Glyph::Epsilon => Some(DyadicFunction::Member),
+        Glyph::UpArrow => Some(DyadicFunction::Take),
+        Glyph::DownArrow => Some(DyadicFunction::Drop),
+        Glyph::Transpose => Some(DyadicFunction::TransposeBy),
+        Glyph::UpTack => Some(DyadicFunction::Decode),
+        Glyph::DownTack => Some(DyadicFunction::Encode),
+        _ => None,
+    }
 }
 
-/// Whether the symbol, after a scalar function, makes a reduction or a scan of it.
-pub(crate) fn reduces(glyph: Glyph) -> bool
-    ensures { result ≡ reduces (class_of glyph) }
+/// The axis along which the symbol reverses, if it does.
+fn reversal(glyph: Glyph) -> Option<DefaultAxis>
+    ensures { result ≡ reversal glyph }
 {
-    matches!(glyph.class(), Class::Slash | Class::Backslash)
+    match glyph {
+        Glyph::CircleStile => Some(DefaultAxis::Last),
+        Glyph::CircleBar => Some(DefaultAxis::First),
+        _ => None,
+    }
 }
 
-/// Whether the form may be a function of one argument.
-pub(crate) fn may_be_monadic(form: Form, has_axis: bool) -> bool
-    ensures { result ≡ may_be_monadic form has_axis }
+/// The function of two arguments that takes an axis, if the symbol is one.
+fn axis_function(glyph: Glyph) -> Option<AxisFunction>
+    ensures { result ≡ axis_function glyph }
+{
+    match glyph {
+        Glyph::Comma => Some(AxisFunction::Catenate),
+        Glyph::CircleStile => Some(AxisFunction::Rotate(DefaultAxis::Last)),
+        Glyph::CircleBar => Some(AxisFunction::Rotate(DefaultAxis::First)),
+        Glyph::Slash => Some(AxisFunction::Replicate(DefaultAxis::Last)),
+        Glyph::SlashBar => Some(AxisFunction::Replicate(DefaultAxis::First)),
+        Glyph::Backslash => Some(AxisFunction::Expand(DefaultAxis::Last)),
+        Glyph::BackslashBar => Some(AxisFunction::Expand(DefaultAxis::First)),
+        _ => None,
+    }
+}
+
+/// The symbol as a function of one argument, without or with an axis, if it is one.
+pub(crate) fn monadic_form(column: usize, glyph: Glyph, has_axis: bool) -> Option<MonadicForm>
+    ensures { result ≡ monadic_form column glyph has_axis }
+{
+    if let Some(axis) = reversal(glyph) {
+        return Some(MonadicForm::Reverse { column, axis });
+    }
+    if has_axis {
+        return None;
+    }
+    match monadic_function(glyph) {
+        Some(function) => Some(MonadicForm::Plain { column, function }),
+        None => None,
+    }
+}
+
+/// The symbol as a function of two arguments, without or with an axis, if it is one.
+pub(crate) fn dyadic_form(column: usize, glyph: Glyph, has_axis: bool) -> Option<DyadicForm>
+    ensures { result ≡ dyadic_form column glyph has_axis }
+{
+    if let Some(function) = axis_function(glyph) {
+        return Some(DyadicForm::Along { column, function });
+    }
+    if has_axis {
+        return None;
+    }
+    match dyadic_function(glyph) {
+        Some(function) => Some(DyadicForm::Plain { column, function }),
+        None => None,
+    }
+}
+
+/// The function of two arguments of the same symbol, without or with an axis, if there is one.
+pub(crate) fn dyadic_counterpart(form: &MonadicForm, has_axis: bool) -> Option<DyadicForm>
+    ensures { result ≡ dyadic_counterpart form.now has_axis }
 {
     match form {
-        Form::Plain { glyph, .. } if has_axis => is_rotation(glyph),
-        Form::Plain { glyph, .. } => is_monadic(glyph),
-        Form::Reduce {
+        MonadicForm::Plain { column, function } => {
+            dyadic_form(*column, monadic_glyph(function), has_axis)
+        }
+        MonadicForm::Reverse { column, axis } => {
+            dyadic_form(*column, reversal_glyph(*axis), has_axis)
+        }
+        MonadicForm::Reduce { .. } => None,
+    }
+}
+
+/// What the slash of a replication or an expansion makes of a scalar function on its left.
+fn operator_of(function: AxisFunction) -> Option<Operator>
+    ensures { result ≡ operator_of function }
+{
+    match function {
+        AxisFunction::Replicate(axis) => Some(Operator::Reduction(axis)),
+        AxisFunction::Expand(axis) => Some(Operator::Scan(axis)),
+        _ => None,
+    }
+}
+
+/// The reduction or the scan by a symbol on the left of a slash.
+pub(crate) fn reduced(column: usize, glyph: Glyph, form: &DyadicForm) -> Option<MonadicForm>
+    ensures { result ≡ reduced column glyph form.now }
+{
+    let DyadicForm::Along {
+        column: slash_column,
+        function: slash,
+    } = form
+    else {
+        return None;
+    };
+    match (dyadic_scalar(glyph), operator_of(*slash)) {
+        (Some(function), Some(operator)) => Some(MonadicForm::Reduce {
+            column,
             function,
-            slash,
-            ..
-        } => is_dyadic_scalar(function) && reduces(slash),
-        Form::Inner { .. } | Form::Outer { .. } => false,
-    }
-}
-
-/// Whether the form may be a function of two arguments.
-pub(crate) fn may_be_dyadic(form: Form, has_axis: bool) -> bool
-    ensures { result ≡ may_be_dyadic form has_axis }
-{
-    match form {
-        Form::Plain { glyph, .. } if has_axis => takes_axis(glyph),
-        Form::Plain { glyph, .. } => is_dyadic(glyph),
-        Form::Inner { left, right, .. } if !has_axis => is_dyadic_scalar(left)
-            && is_dyadic_scalar(right),
-        Form::Outer { function, .. } if !has_axis => is_dyadic_scalar(function),
-        _ => false,
+            slash_column: *slash_column,
+            operator,
+        }),
+        _ => None,
     }
 }

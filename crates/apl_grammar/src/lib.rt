@@ -4,13 +4,18 @@
 //! Begin with `specs/Tree.antt`, which is the grammar, and then `reader.rt`.
 #![tactic(auto)]
 
+mod forms;
 mod functions;
 mod places;
 mod program;
 mod reader;
 mod statement;
 
+pub use forms::{
+    AxisFunction, DefaultAxis, DyadicForm, DyadicFunction, DyadicScalar, MonadicForm,
+    MonadicFunction, MonadicScalar, Operator,
+};
 pub use program::{
-    Axis, BoxedIndexedName, Brackets, Columns, Form, Function, IndexedName, Operation, Program,
+    AxisBrackets, BoxedIndexedName, Brackets, Columns, IndexedName, Operation, Program,
 };
 pub use statement::{GrammarStop, one_caret, one_reading, one_tree, program_of, tree_or_caret};

@@ -1,7 +1,8 @@
 //! Operations in the order of evaluation.
 ghost use Rattle.std.specs.Prelude.{◌≡◌, IfOk};
 
-use apl_tokens::{Constant, Glyph, Name};
+use super::forms::{DyadicForm, MonadicForm};
+use apl_tokens::{Constant, Name};
 use std::alloc::{AllocError, AllocFailed, Global};
 use std::marker::Model;
 
@@ -26,105 +27,13 @@ impl Model for Columns {
     ghost view = { λ c. c.columns.items };
 }
 
-/// A function with the columns of its tokens.
-#[derive(Clone, Copy, Debug, PartialEq, Eq, Drop)]
-pub enum Form {
-    /// One symbol.
-    Plain {
-        column: usize,
-        glyph: Glyph,
-    },
-    /// The reduction or the scan by a function: the slash says which, and along which axis if none is given.
-    Reduce {
-        column: usize,
-        function: Glyph,
-        slash_column: usize,
-        slash: Glyph,
-    },
-    /// The inner product of two functions.
-    Inner {
-        left_column: usize,
-        left: Glyph,
-        dot: usize,
-        right_column: usize,
-        right: Glyph,
-    },
-    /// The outer product of a function.
-    Outer {
-        jot: usize,
-        dot: usize,
-        column: usize,
-        function: Glyph,
-    },
-}
-
-/// One symbol takes no memory.
-#[derive(Drop)]
-enum CompactForm {
-    Plain(Glyph, usize),
-    Compound(Box<Form>),
-}
-
-/// A form, in little room.
-#[derive(Drop)]
-pub struct Function {
-    compact: CompactForm,
-}
-
-impl Model for Function {
-    ghost use Rattle.apl_grammar.specs.declared.program.Form.{Form};
-
-    ghost Value = { Form };
-
-    ghost use Rattle.apl_grammar.specs.Storage.{form_of};
-
-    ghost view = { λ f. form_of f.compact };
-}
-
-impl Function {
-    ghost use Rattle.apl_grammar.specs.declared.program.Form.TheVariants.{Plain};
-
-    /// The function of one symbol.
-    pub(crate) fn plain(column: usize, glyph: Glyph) -> Function
-        ensures { result ≡ Plain column glyph }
-    {
-        Function {
-            compact: CompactForm::Plain(glyph, column),
-        }
-    }
-
-    /// The function of this form.
-    pub(crate) fn new(alloc: Global, form: Form) -> Result<Function, AllocError>
-        ensures { IfOk result (λ function. function ≡ form) }
-    {
-        let compact = match form {
-            Form::Plain { column, glyph } => CompactForm::Plain(glyph, column),
-            _ => CompactForm::Compound(Box::new(alloc, form)?),
-        };
-        Ok(Function { compact })
-    }
-
-    /// Its form.
-    pub fn form(&self) -> Form
-        ensures { result ≡ self.now }
-    {
-        match &self.compact {
-            CompactForm::Plain(glyph, column) => Form::Plain {
-                column: *column,
-                glyph: *glyph,
-            },
-            CompactForm::Compound(form) => **form,
-        }
-    }
-}
-
 /// The brackets of an axis, if there is one, in little room.
 #[derive(Drop)]
-pub struct Axis {
+pub struct AxisBrackets {
     brackets: Option<Box<Brackets>>,
 }
 
-impl Model for Axis {
+impl Model for AxisBrackets {
     ghost use Rattle.std.specs.Prelude.{Option, option_map};
     ghost use Rattle.apl_grammar.specs.declared.program.Brackets.{Brackets};
 
@@ -133,22 +42,22 @@ impl Model for Axis {
     ghost view = { λ a. option_map (λ b. b.value) a.brackets };
 }
 
-impl Axis {
+impl AxisBrackets {
     ghost use Rattle.std.specs.Prelude.{Some, None, is_some};
 
     /// No axis.
-    pub(crate) fn none() -> Axis
+    pub(crate) fn none() -> AxisBrackets
         ensures { result ≡ None }
     {
-        Axis { brackets: None }
+        AxisBrackets { brackets: None }
     }
 
     /// The axis of these brackets.
-    pub(crate) fn new(alloc: Global, brackets: Brackets) -> Result<Axis, AllocError>
+    pub(crate) fn new(alloc: Global, brackets: Brackets) -> Result<AxisBrackets, AllocError>
         ensures { IfOk result (λ axis. axis ≡ Some brackets) }
     {
         let boxed = Box::new(alloc, brackets)?;
-        Ok(Axis {
+        Ok(AxisBrackets {
             brackets: Some(boxed),
         })
     }
@@ -229,9 +138,9 @@ pub enum Operation {
     /// The chosen elements of a name's array get the value.
     AssignAt(BoxedIndexedName),
     /// The function of one argument, perhaps along an axis.
-    Monadic(Function, Axis),
+    Monadic(MonadicForm, AxisBrackets),
     /// The function of two arguments, perhaps along an axis.
-    Dyadic(Function, Axis),
+    Dyadic(DyadicForm, AxisBrackets),
 }
 
 impl Columns {

@@ -1,15 +1,14 @@
 //! From tokens to operations, in one pass from the right.
 ghost use Rattle.std.specs.Prelude.{◌≡◌, ◌<◌, ◌++◌, ◌∷◌, [], List, Option, Some, None, reverse, IfOk, IfErr, IfSome, OnOk, option_and_then, vec_len};
-ghost use Rattle.apl_grammar.specs.Automaton.{Machine, machine, after_operand, with_dyadic, with_index, stack_for_operand, with_operand, with_name, expression_operations, with_leading_function, with_monadic, with_function, leading_dot, with_dot, with_jot, with_arrow, closed_group, with_open_paren, with_close_paren, with_close_bracket, with_slot, with_next_slot, with_semicolon, closed_list, with_open_bracket, step, without_empty_places, statement_operations, run, IsRefusedBy, stack_of, machine_of};
-ghost use Rattle.apl_grammar.specs.declared.program.Form.TheVariants.{Plain};
+ghost use Rattle.apl_grammar.specs.Automaton.{Machine, machine, after_operand, with_dyadic, with_index, stack_for_operand, with_operand, with_name, expression_operations, with_leading_function, with_monadic, with_function, leading_dot, with_leading_dot, with_dot, with_jot, with_arrow, closed_group, with_open_paren, with_close_paren, with_close_bracket, with_slot, with_next_slot, with_semicolon, closed_list, with_open_bracket, step, without_empty_places, statement_operations, run, IsRefusedBy, stack_of, machine_of};
+ghost use Rattle.apl_grammar.specs.Functions.{dyadic_counterpart};
 ghost use Rattle.apl_grammar.specs.declared.program.Operation.{Operation};
 ghost use Rattle.apl_grammar.specs.declared.reader.State.TheVariants.{Expression, OperandWanted};
 
-use super::functions::{is_dyadic_scalar, may_be_dyadic, may_be_monadic, reduces, takes_axis};
+use super::forms::{DyadicForm, DyadicFunction, DyadicScalar, MonadicForm};
+use super::functions::{dyadic_counterpart, dyadic_form, dyadic_scalar, monadic_form, reduced};
 use super::places::Places;
-use super::program::{
-    Axis, BoxedIndexedName, Brackets, Columns, Form, Function, IndexedName, Operation,
-};
+use super::program::{AxisBrackets, BoxedIndexedName, Brackets, Columns, IndexedName, Operation};
 use super::statement::GrammarStop;
 use apl_tokens::{Glyph, Lexeme, Name, Token};
 use std::alloc::{AllocError, AllocFailed, Global};
@@ -20,8 +19,8 @@ use std::mem;
 /// operation has a place. If it has an index, the function is dyadic.
 #[derive(Drop)]
 pub(crate) struct UndecidedFunction {
-    function: Function,
-    axis: Axis,
+    function: MonadicForm,
+    axis: AxisBrackets,
     place: usize,
 }
 
@@ -77,9 +76,9 @@ pub(crate) enum State {
     /// An expression.
     Expression,
     /// An expression that begins with a function. Its operation is not emitted yet: it may still be dyadic.
-    LeadingFunction(Function, Axis),
+    LeadingFunction(MonadicForm, AxisBrackets),
     /// A dot and a function, with their columns, before an expression.
-    LeadingDot(usize, usize, Glyph),
+    LeadingDot(usize, usize, DyadicScalar),
     /// An arrow before an expression.
     LeadingArrow(usize),
     /// An axis or an index before an expression.
@@ -199,15 +198,15 @@ impl Reader {
         Ok(())
     }
 
-    /// Makes the function wait for its left argument.
-    fn push_dyadic(&mut self, function: Function, axis: Axis) -> Result<(), Refusal>
+    /// Makes the function of two arguments of the same symbol wait for its left argument.
+    fn push_dyadic(&mut self, function: MonadicForm, axis: AxisBrackets) -> Result<(), Refusal>
         ensures ok { OnOk result (with_dyadic function axis (stack_of self.old) ≡ Some (stack_of self.new)) }
         ensures err { result ≡ Err Refusal.Syntax → with_dyadic function axis (stack_of self.old) ≡ None }
         ensures operations { self.new.operations ≡ self.old.operations }
     {
-        if !may_be_dyadic(function.form(), axis.is_some()) {
+        let Some(function) = dyadic_counterpart(&function, axis.is_some()) else {
             return Err(Refusal::Syntax);
-        }
+        };
         self.stack
             .push(Pending::Operation(Operation::Dyadic(function, axis)))?;
         Ok(())
@@ -304,16 +303,18 @@ impl Reader {
         &mut self,
         column: usize,
         glyph: Glyph,
-        axis: Axis,
+        axis: AxisBrackets,
     ) -> Result<(), Refusal>
-        ensures ok { OnOk result (with_leading_function (Plain column glyph) axis self.old.operations (stack_of self.old) ≡ machine_of self.new) }
-        ensures err { result ≡ Err Refusal.Syntax → ⊥ }
+        ensures ok { OnOk result (with_leading_function column glyph axis self.old.operations (stack_of self.old) ≡ Some (machine_of self.new)) }
+        ensures err { result ≡ Err Refusal.Syntax → with_leading_function column glyph axis self.old.operations (stack_of self.old) ≡ None }
     {
-        let function = Function::plain(column, glyph);
-        if may_be_monadic(Form::Plain { column, glyph }, axis.is_some()) {
+        if let Some(function) = monadic_form(column, glyph, axis.is_some()) {
             self.state = State::LeadingFunction(function, axis);
             return Ok(());
         }
+        let Some(function) = dyadic_form(column, glyph, axis.is_some()) else {
+            return Err(Refusal::Syntax);
+        };
         self.push_pending(Pending::Operation(Operation::Dyadic(function, axis)))
     }
 
@@ -341,13 +342,12 @@ impl Reader {
     }
 
     /// Makes a product wait for its left argument.
-    fn push_product(&mut self, form: Form) -> Result<(), Refusal>
+    fn push_product(&mut self, form: DyadicForm) -> Result<(), Refusal>
         ensures ok { OnOk result ((self.new.state ≡ OperandWanted) × (stack_of self.new ≡ Pending.Operation (Operation.Dyadic form None) ∷ stack_of self.old)) }
         ensures err { result ≡ Err Refusal.Syntax → ⊥ }
         ensures operations { self.new.operations ≡ self.old.operations }
     {
-        let function = Function::new(self.alloc, form)?;
-        self.push_pending(Pending::Operation(Operation::Dyadic(function, Axis::none())))
+        self.push_pending(Pending::Operation(Operation::Dyadic(form, AxisBrackets::none())))
     }
 
     /// A function on the left of a slash that waits for its operand.
@@ -355,25 +355,14 @@ impl Reader {
         ensures ok { OnOk result (with_function self.old.operations (stack_of self.old) OperandWanted column glyph ≡ Some (machine_of self.new)) }
         ensures err { result ≡ Err Refusal.Syntax → with_function self.old.operations (stack_of self.old) OperandWanted column glyph ≡ None }
     {
-        let Some(Pending::Operation(Operation::Dyadic(function, axis))) = self.stack.pop() else {
+        let Some(Pending::Operation(Operation::Dyadic(slash, axis))) = self.stack.pop() else {
             return Err(Refusal::Syntax);
         };
-        match function.form() {
-            Form::Plain {
-                column: slash_column,
-                glyph: slash,
-            } if is_dyadic_scalar(glyph) && reduces(slash) => {
-                let form = Form::Reduce {
-                    column,
-                    function: glyph,
-                    slash_column,
-                    slash,
-                };
-                self.state = State::LeadingFunction(Function::new(self.alloc, form)?, axis);
-                Ok(())
-            }
-            _ => Err(Refusal::Syntax),
-        }
+        let Some(function) = reduced(column, glyph, &slash) else {
+            return Err(Refusal::Syntax);
+        };
+        self.state = State::LeadingFunction(function, axis);
+        Ok(())
     }
 
     fn take_function(&mut self, state: State, column: usize, glyph: Glyph) -> Result<(), Refusal>
@@ -382,44 +371,46 @@ impl Reader {
     {
         match state {
             State::LeadingBrackets(brackets, undecided) => {
-                if !takes_axis(glyph) {
-                    return Err(Refusal::Syntax);
-                }
                 self.fill(undecided);
-                let axis = Axis::new(self.alloc, brackets)?;
+                let axis = AxisBrackets::new(self.alloc, brackets)?;
                 self.set_leading_function(column, glyph, axis)
             }
             State::LeadingDot(dot, right_column, right) => {
-                if !is_dyadic_scalar(glyph) {
+                let Some(left) = dyadic_scalar(glyph) else {
                     return Err(Refusal::Syntax);
-                }
-                let form = Form::Inner {
+                };
+                self.push_product(DyadicForm::Inner {
                     left_column: column,
-                    left: glyph,
+                    left,
                     dot,
                     right_column,
                     right,
-                };
-                self.push_product(form)
+                })
             }
             State::OperandWanted => self.take_reduced(column, glyph),
             _ => {
                 self.end_expression(state)?;
-                self.set_leading_function(column, glyph, Axis::none())
+                self.set_leading_function(column, glyph, AxisBrackets::none())
             }
         }
     }
 
     /// A dot on the left of the function.
-    fn set_leading_dot(&mut self, dot: usize, function: Function, axis: Axis) -> Result<(), Refusal>
-        ensures ok { OnOk result (leading_dot dot function axis ≡ Some self.new.state) }
-        ensures err { result ≡ Err Refusal.Syntax → leading_dot dot function axis ≡ None }
-        ensures operations { self.new.operations ≡ self.old.operations }
-        ensures stack { self.new.stack ≡ self.old.stack }
+    fn set_leading_dot(
+        &mut self,
+        dot: usize,
+        function: DyadicForm,
+        axis: AxisBrackets,
+    ) -> Result<(), Refusal>
+        ensures ok { OnOk result (with_leading_dot self.old.operations (stack_of self.old) dot axis function ≡ Some (machine_of self.new)) }
+        ensures err { result ≡ Err Refusal.Syntax → with_leading_dot self.old.operations (stack_of self.old) dot axis function ≡ None }
     {
-        match function.form() {
-            Form::Plain { column, glyph } if is_dyadic_scalar(glyph) && !axis.is_some() => {
-                self.state = State::LeadingDot(dot, column, glyph);
+        match function {
+            DyadicForm::Plain {
+                column,
+                function: DyadicFunction::Scalar(function),
+            } if !axis.is_some() => {
+                self.state = State::LeadingDot(dot, column, function);
                 Ok(())
             }
             _ => Err(Refusal::Syntax),
@@ -431,7 +422,12 @@ impl Reader {
         ensures err { result ≡ Err Refusal.Syntax → with_dot self.old.operations (stack_of self.old) state dot ≡ None }
     {
         match state {
-            State::LeadingFunction(function, axis) => self.set_leading_dot(dot, function, axis),
+            State::LeadingFunction(function, axis) => {
+                match dyadic_counterpart(&function, axis.is_some()) {
+                    Some(function) => self.set_leading_dot(dot, function, axis),
+                    None => Err(Refusal::Syntax),
+                }
+            }
             State::OperandWanted => match self.stack.pop() {
                 Some(Pending::Operation(Operation::Dyadic(function, axis))) => {
                     self.set_leading_dot(dot, function, axis)
@@ -448,15 +444,14 @@ impl Reader {
     {
         match state {
             State::LeadingDot(dot, column, function) => {
-                let form = Form::Outer {
+                self.push_product(DyadicForm::Outer {
                     jot,
                     dot,
                     column,
                     function,
-                };
-                self.push_product(form)
+                })
             }
-            _ => Err(Refusal::Syntax),
+            _other => Err(Refusal::Syntax),
         }
     }
 

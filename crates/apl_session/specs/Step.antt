@@ -47,7 +47,6 @@ command_answer Incorrect workspace = reply_answer reply.Incorrect workspace
 
 -- the report of an error of a statement
 abbrev pub report_of : EvalError → Report
-report_of error.Syntax = report.Syntax
 report_of error.Value = report.Value
 report_of error.Index = report.Index
 report_of error.Rank = report.Rank

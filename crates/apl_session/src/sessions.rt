@@ -184,7 +184,6 @@ fn report_of(error: EvalError) -> Report
     ensures { result ≡ report_of error }
 {
     match error {
-        EvalError::Syntax => Report::Syntax,
         EvalError::Value => Report::Value,
         EvalError::Index => Report::Index,
         EvalError::Rank => Report::Rank,

@@ -4,10 +4,10 @@ use Rattle.std.specs.Prelude.{true, false, encode_utf8, encode_utf8_all}
 use Rattle.std.proofs.lemmas.Str.{length-encode, len_utf8_bounds}
 use Rattle.apl_array.specs.declared.axis.Origin.TheVariants.{Zero}
 use Rattle.apl_array.specs.declared.function.ScalarFunction.TheVariants.{Plus}
-use Rattle.apl_tokens.specs.declared.token.Glyph.TheVariants.{Scalar}
 use Rattle.apl_tokens.specs.Symbols.{is_blank, is_listed}
 use Rattle.apl_tokens.specs.Fronts.{AllPass}
-use Rattle.apl_grammar.specs.declared.program.Form.TheVariants.{Plain}
+use Rattle.apl_grammar.specs.declared.forms.DyadicFunction.TheVariants.{Scalar}
+use Rattle.apl_grammar.specs.declared.forms.DyadicForm.TheVariants.{Plain}
 use Rattle.apl_grammar.specs.Tree.{Expr, value, dyadic, name, none}
 use Rattle.apl_syntax.specs.declared.lines.Command.TheVariants.{Origin, Width, Clear, Off}
 use Rattle.apl_syntax.specs.Commands.{close_paren, IsCommandLine, IsCommand}

@@ -4,9 +4,11 @@ use Rattle.std.specs.Prelude.{ℕ, encode_utf8_all}
 use Rattle.apl_tokens.specs.declared.token.Token.{Token}
 use Rattle.apl_tokens.specs.Fronts.{IsFront}
 use Rattle.apl_tokens.specs.Lexis.{Lexes, HasLexicalFault, HasLimitFault}
-use Rattle.apl_grammar.specs.declared.program.Form.{Form}
-use Rattle.apl_grammar.specs.declared.program.Form.TheVariants.{Plain, Reduce, Inner, Outer}
-use Rattle.apl_grammar.specs.Tree.{Expr, Operand, Axis, value, dyadic, monadic, assign, assign_at, constant, name, group, index, IsTree, spells, spells_operand, spells_form, spells_axis}
+use Rattle.apl_grammar.specs.declared.forms.MonadicForm.{MonadicForm}
+use Rattle.apl_grammar.specs.declared.forms.MonadicForm.TheVariants as one
+use Rattle.apl_grammar.specs.declared.forms.DyadicForm.{DyadicForm}
+use Rattle.apl_grammar.specs.declared.forms.DyadicForm.TheVariants as two
+use Rattle.apl_grammar.specs.Tree.{Expr, Operand, Axis, value, dyadic, monadic, assign, assign_at, constant, name, group, index, IsTree, spells, spells_operand, spells_monadic, spells_dyadic, spells_axis}
 use Rattle.apl_grammar.specs.Caret.{IsCaret, HasNoTree}
 use Rattle.apl_syntax.specs.declared.lines.Command.{Command}
 use Rattle.apl_syntax.specs.Commands.{IsCommandLine, IsCommand}
@@ -35,17 +37,22 @@ operand_some (name c n) h = absurd cc
 operand_some (group l e r) h = absurd cc
 operand_some (index o l s r) h = not_empty (spells_operand o) _ _ h
 
-form_some : (ts us : List Token) (f : Form) → [] ≡ ts ++ (spells_form f ++ us) → ⊥
-form_some ts us (Plain c g) h = not_empty ts _ _ h
-form_some ts us (Reduce c f s g) h = not_empty ts _ _ h
-form_some ts us (Inner c f d e g) h = not_empty ts _ _ h
-form_some ts us (Outer j d c g) h = not_empty ts _ _ h
+monadic_some : (us : List Token) (f : MonadicForm) → [] ≡ spells_monadic f ++ us → ⊥
+monadic_some us (one.Plain c f) h = absurd cc
+monadic_some us (one.Reverse c axis) h = absurd cc
+monadic_some us (one.Reduce c f s operator) h = absurd cc
+
+dyadic_some : (ts us : List Token) (f : DyadicForm) → [] ≡ ts ++ (spells_dyadic f ++ us) → ⊥
+dyadic_some ts us (two.Plain c f) h = not_empty ts _ _ h
+dyadic_some ts us (two.Along c f) h = not_empty ts _ _ h
+dyadic_some ts us (two.Inner c f d e g) h = not_empty ts _ _ h
+dyadic_some ts us (two.Outer j d c g) h = not_empty ts _ _ h
 
 -- a tree spells some token
 spells_some : (e : Expr) → [] ≡ spells e → ⊥
 spells_some (value o) h = operand_some o h
-spells_some (dyadic o f a e) h = form_some (spells_operand o) (spells_axis a ++ spells e) f h
-spells_some (monadic f a e) h = form_some [] (spells_axis a ++ spells e) f h
+spells_some (dyadic o f a e) h = dyadic_some (spells_operand o) (spells_axis a ++ spells e) f h
+spells_some (monadic f a e) h = monadic_some (spells_axis a ++ spells e) f h
 spells_some (assign c n a e) h = absurd cc
 spells_some (assign_at c n l s r a e) h = absurd cc
 

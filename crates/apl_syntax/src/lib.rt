@@ -9,7 +9,9 @@ mod lines;
 mod reader;
 
 pub use apl_grammar::{
-    Axis, BoxedIndexedName, Brackets, Columns, Form, Function, IndexedName, Operation, Program,
+    AxisBrackets, AxisFunction, BoxedIndexedName, Brackets, Columns, DefaultAxis, DyadicForm,
+    DyadicFunction, DyadicScalar, IndexedName, MonadicForm, MonadicFunction, MonadicScalar,
+    Operation, Operator, Program,
 };
 pub use lines::{Command, Line, ReadStop};
 pub use reader::{one_reading, read, some_reading};

@@ -8,7 +8,7 @@ use Rattle.apl_tokens.specs.declared.token.Glyph.{Glyph}
 use Rattle.apl_tokens.specs.declared.token.Glyph.TheVariants.{Scalar, Rho}
 use Rattle.apl_tokens.specs.declared.token.Lexeme.{Lexeme}
 use Rattle.apl_tokens.specs.declared.token.Lexeme.TheVariants.{Constant, Name, Function, Dot, Jot, Arrow, OpenParen, CloseParen, OpenBracket, CloseBracket, Semicolon}
-use Rattle.apl_tokens.specs.Symbols.{scalar_character, symbol_of, character_of, symbol_lexemes, lexeme_or, lexeme_in, symbol_lexeme}
+use Rattle.apl_tokens.specs.Symbols.{scalar_character, glyph_character, character_of, symbol_lexemes, lexeme_or, lexeme_in, symbol_lexeme}
 
 in_lexemes : (lexemes : List Lexeme) (c : ℕ) (k : Lexeme) → lexeme_in lexemes c ≡ Some k → character_of k ≡ Some c
 in_lexemes [] c k e = absurd cc
@@ -31,7 +31,7 @@ scalar_found : (f : ScalarFunction) → symbol_lexeme (scalar_character f) ≡ S
 scalar_found Plus = refl
 scalar_found _ = refl
 
-function_found : (g : Glyph) → symbol_lexeme (symbol_of g).0 ≡ Some (Function g)
+function_found : (g : Glyph) → symbol_lexeme (glyph_character g) ≡ Some (Function g)
 function_found (Scalar f) = scalar_found f
 function_found Rho = refl
 function_found _ = refl
@@ -44,7 +44,7 @@ found_at k d c is e =
 pub lexeme_found : (k : Lexeme) (c : ℕ) → character_of k ≡ Some c → symbol_lexeme c ≡ Some k
 lexeme_found (Constant v) c e = absurd cc
 lexeme_found (Name n) c e = absurd cc
-lexeme_found (Function g) c e = found_at (Function g) (symbol_of g).0 c (function_found g) e
+lexeme_found (Function g) c e = found_at (Function g) (glyph_character g) c (function_found g) e
 lexeme_found Dot c e = found_at Dot 46 c refl e
 lexeme_found Jot c e = found_at Jot 0x2218 c refl e
 lexeme_found Arrow c e = found_at Arrow 0x2190 c refl e

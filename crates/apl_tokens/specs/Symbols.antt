@@ -3,8 +3,6 @@ use Rattle.std.specs.Prelude.{◌==◌, ◌||◌, ◌&&◌, nat_le, ℕ, Bool, L
 use Rattle.std.specs.List.{list_any}
 use Rattle.apl_array.specs.declared.function.ScalarFunction.{ScalarFunction}
 use Rattle.apl_array.specs.declared.function.ScalarFunction.TheVariants.{Plus, Minus, Times, Divide, Stile, Star, Bang, Floor, Ceiling, And, Or, Nand, Nor, Less, LessOrEqual, Equal, GreaterOrEqual, Greater, NotEqual, Tilde}
-use Rattle.apl_tokens.specs.declared.token.Class.{Class}
-use Rattle.apl_tokens.specs.declared.token.Class.TheVariants as class
 use Rattle.apl_tokens.specs.declared.token.Glyph.{Glyph}
 use Rattle.apl_tokens.specs.declared.token.Glyph.TheVariants.{Scalar, Rho, Comma, Iota, Epsilon, UpArrow, DownArrow, CircleStile, CircleBar, Transpose, GradeUp, GradeDown, Slash, SlashBar, Backslash, BackslashBar, UpTack, DownTack}
 use Rattle.apl_tokens.specs.declared.token.Lexeme.{Lexeme}
@@ -75,26 +73,26 @@ scalar_functions =
     Plus ∷ Minus ∷ Times ∷ Divide ∷ Stile ∷ Star ∷ Bang ∷ Floor ∷ Ceiling ∷ And
     ∷ Or ∷ Nand ∷ Nor ∷ Less ∷ LessOrEqual ∷ Equal ∷ GreaterOrEqual ∷ Greater ∷ NotEqual ∷ Tilde ∷ []
 
--- a function's symbol: its character, and its class in the grammar
-abbrev pub symbol_of : Glyph → ℕ × Class
-symbol_of (Scalar f) = (scalar_character f, class.Scalar f)
-symbol_of Rho = (0x2374, class.BothValences)  -- ⍴
-symbol_of Comma = (44, class.Catenation)  -- ,
-symbol_of Iota = (0x2373, class.BothValences)  -- ⍳
-symbol_of Epsilon = (0x220A, class.DyadicOnly)  -- ∊
-symbol_of UpArrow = (0x2191, class.DyadicOnly)  -- ↑
-symbol_of DownArrow = (0x2193, class.DyadicOnly)  -- ↓
-symbol_of CircleStile = (0x233D, class.Rotation)  -- ⌽
-symbol_of CircleBar = (0x2296, class.Rotation)  -- ⊖
-symbol_of Transpose = (0x2349, class.BothValences)  -- ⍉
-symbol_of GradeUp = (0x234B, class.MonadicOnly)  -- ⍋
-symbol_of GradeDown = (0x2352, class.MonadicOnly)  -- ⍒
-symbol_of Slash = (47, class.Slash)  -- /
-symbol_of SlashBar = (0x233F, class.Slash)  -- ⌿
-symbol_of Backslash = (92, class.Backslash)  -- \
-symbol_of BackslashBar = (0x2340, class.Backslash)  -- ⍀
-symbol_of UpTack = (0x22A5, class.DyadicOnly)  -- ⊥
-symbol_of DownTack = (0x22A4, class.DyadicOnly)  -- ⊤
+-- the character of a function symbol
+abbrev pub glyph_character : Glyph → ℕ
+glyph_character (Scalar f) = scalar_character f
+glyph_character Rho = 0x2374  -- ⍴
+glyph_character Comma = 44  -- ,
+glyph_character Iota = 0x2373  -- ⍳
+glyph_character Epsilon = 0x220A  -- ∊
+glyph_character UpArrow = 0x2191  -- ↑
+glyph_character DownArrow = 0x2193  -- ↓
+glyph_character CircleStile = 0x233D  -- ⌽
+glyph_character CircleBar = 0x2296  -- ⊖
+glyph_character Transpose = 0x2349  -- ⍉
+glyph_character GradeUp = 0x234B  -- ⍋
+glyph_character GradeDown = 0x2352  -- ⍒
+glyph_character Slash = 47  -- /
+glyph_character SlashBar = 0x233F  -- ⌿
+glyph_character Backslash = 92  -- \
+glyph_character BackslashBar = 0x2340  -- ⍀
+glyph_character UpTack = 0x22A5  -- ⊥
+glyph_character DownTack = 0x22A4  -- ⊤
 
 -- all function symbols
 abbrev pub glyphs : List Glyph
@@ -103,13 +101,9 @@ glyphs =
     ++ (Rho ∷ Comma ∷ Iota ∷ Epsilon ∷ UpArrow ∷ DownArrow ∷ CircleStile ∷ CircleBar ∷ Transpose
     ∷ GradeUp ∷ GradeDown ∷ Slash ∷ SlashBar ∷ Backslash ∷ BackslashBar ∷ UpTack ∷ DownTack ∷ [])
 
--- the class of a function symbol in the grammar
-abbrev pub class_of : Glyph → Class
-class_of glyph = (symbol_of glyph).1
-
 -- the character of a token that is one symbol
 abbrev pub character_of : Lexeme → Option ℕ
-character_of (Function glyph) = Some (symbol_of glyph).0
+character_of (Function glyph) = Some (glyph_character glyph)
 character_of Dot = Some 46
 character_of Jot = Some 0x2218
 character_of Arrow = Some 0x2190

@@ -129,49 +129,6 @@ pub enum Glyph {
     DownTack,
 }
 
-/// What a function's symbol may do in a statement.
-#[derive(Clone, Copy, Debug, PartialEq, Eq, Drop)]
-pub enum Class {
-    /// A scalar function: monadic, dyadic, or both.
-    Scalar(ScalarFunction),
-    /// Monadic.
-    MonadicOnly,
-    /// Dyadic.
-    DyadicOnly,
-    /// Monadic and dyadic.
-    BothValences,
-    /// Reversal and rotation: monadic and dyadic, each also with an axis.
-    Rotation,
-    /// Ravel and catenation: monadic, and dyadic also with an axis.
-    Catenation,
-    /// Replication: dyadic, also with an axis. After a dyadic scalar function it makes a reduction.
-    Slash,
-    /// Expansion: dyadic, also with an axis. After a dyadic scalar function it makes a scan.
-    Backslash,
-}
-
-impl Glyph {
-    ghost use Rattle.std.specs.Prelude.{◌≡◌};
-    ghost use Rattle.apl_tokens.specs.Symbols.{class_of};
-
-    /// Its class in the grammar.
-    pub fn class(self) -> Class
-        ensures { result ≡ class_of self }
-    {
-        match self {
-            Glyph::Scalar(function) => Class::Scalar(function),
-            Glyph::GradeUp | Glyph::GradeDown => Class::MonadicOnly,
-            Glyph::Epsilon | Glyph::UpArrow | Glyph::DownArrow | Glyph::UpTack | Glyph::DownTack =>
-                Class::DyadicOnly,
-            Glyph::Rho | Glyph::Iota | Glyph::Transpose => Class::BothValences,
-            Glyph::CircleStile | Glyph::CircleBar => Class::Rotation,
-            Glyph::Comma => Class::Catenation,
-            Glyph::Slash | Glyph::SlashBar => Class::Slash,
-            Glyph::Backslash | Glyph::BackslashBar => Class::Backslash,
-        }
-    }
-}
-
 /// What a token is.
 #[derive(Drop)]
 pub enum Lexeme {

@@ -1,8 +1,7 @@
 //! Tokens of lines, as text: each token with its column, or the stop.
 use crate::tables::{Table, rows_of};
-use apl_array::ScalarFunction;
 use apl_tokens::{
-    Class, Constant, Glyph, Lexeme, Token, blanks_before, constants_are_within_limits, front,
+    Constant, Glyph, Lexeme, Token, blanks_before, constants_are_within_limits, front,
     front_is_total, front_is_unique, is_digit, lexing_is_total, lexing_is_unique, tokens,
 };
 use std::alloc::{AllocError, Global};
@@ -102,35 +101,6 @@ fn check(rt: &impl Abort, alloc: Global, table: Table) -> Result<(), Fail> {
 fn tokens_of_lines(rt: HostRuntime) -> Result<(), Fail> {
     check(&rt, rt.alloc(), (LINES, 15))?;
     check(&rt, rt.alloc(), (GLYPHS, 6))
-}
-
-#[test]
-fn classes(rt: HostRuntime) {
-    for (glyph, class) in [
-        (
-            Glyph::Scalar(ScalarFunction::Less),
-            Class::Scalar(ScalarFunction::Less),
-        ),
-        (Glyph::Rho, Class::BothValences),
-        (Glyph::Comma, Class::Catenation),
-        (Glyph::Iota, Class::BothValences),
-        (Glyph::Epsilon, Class::DyadicOnly),
-        (Glyph::UpArrow, Class::DyadicOnly),
-        (Glyph::DownArrow, Class::DyadicOnly),
-        (Glyph::CircleStile, Class::Rotation),
-        (Glyph::CircleBar, Class::Rotation),
-        (Glyph::Transpose, Class::BothValences),
-        (Glyph::GradeUp, Class::MonadicOnly),
-        (Glyph::GradeDown, Class::MonadicOnly),
-        (Glyph::Slash, Class::Slash),
-        (Glyph::SlashBar, Class::Slash),
-        (Glyph::Backslash, Class::Backslash),
-        (Glyph::BackslashBar, Class::Backslash),
-        (Glyph::UpTack, Class::DyadicOnly),
-        (Glyph::DownTack, Class::DyadicOnly),
-    ] {
-        assert!(rt; glyph.class() == class, "{glyph:?}");
-    }
 }
 
 #[test]

@@ -1,7 +1,8 @@
 //! Operations of statements, in the order of evaluation.
 use crate::tables::rows_of;
 use apl_grammar::{
-    Form, Operation, Program, one_caret, one_reading, one_tree, program_of, tree_or_caret,
+    DyadicForm, GrammarStop, MonadicForm, Operation, Program, one_caret, one_reading, one_tree,
+    program_of, tree_or_caret,
 };
 use apl_tokens::{front, tokens};
 use std::alloc::Global;
@@ -25,10 +26,15 @@ fn column_of(operation: &Operation) -> Option<usize> {
         Operation::EmptySlot => None,
         Operation::Assign(column, _, _) => Some(*column),
         Operation::AssignAt(target) => Some(target.indexed_name().arrow),
-        Operation::Monadic(function, _) | Operation::Dyadic(function, _) => match function.form() {
-            Form::Plain { column, .. } => Some(column),
-            Form::Reduce { slash_column, .. } => Some(slash_column),
-            Form::Inner { dot, .. } | Form::Outer { dot, .. } => Some(dot),
+        Operation::Monadic(form, _) => match form {
+            MonadicForm::Plain { column, .. } | MonadicForm::Reverse { column, .. } => Some(
+                *column,
+            ),
+            MonadicForm::Reduce { slash_column, .. } => Some(*slash_column),
+        },
+        Operation::Dyadic(form, _) => match form {
+            DyadicForm::Plain { column, .. } | DyadicForm::Along { column, .. } => Some(*column),
+            DyadicForm::Inner { dot, .. } | DyadicForm::Outer { dot, .. } => Some(*dot),
         },
     }
 }
@@ -64,6 +70,62 @@ fn order_of_evaluation(rt: HostRuntime) -> Result<(), Fail> {
     for (line, wanted) in rows_of(rt.alloc(), (ORDERED, 5))? {
         let columns = columns_of(rt.alloc(), line)?;
         assert!(rt; columns.trim_start() == wanted, "of {line}");
+    }
+    Ok(())
+}
+
+/// Symbols of functions, and which of four forms are statements: monadic, dyadic, monadic with an axis, dyadic with an axis.
+const VALENCES: &str = "
+    :+ → yes yes no no
+    :< → no yes no no
+    :~ → yes no no no
+    :⍴ → yes yes no no
+    :, → yes yes no yes
+    :⍳ → yes yes no no
+    :∊ → no yes no no
+    :↑ → no yes no no
+    :↓ → no yes no no
+    :⌽ → yes yes yes yes
+    :⊖ → yes yes yes yes
+    :⍉ → yes yes no no
+    :⍋ → yes no no no
+    :⍒ → yes no no no
+    :/ → no yes no yes
+    :⌿ → no yes no yes
+    :\\ → no yes no yes
+    :⍀ → no yes no yes
+    :⊥ → no yes no no
+    :⊤ → no yes no no
+    :+/ → yes no yes no
+    :<⍀ → yes no yes no
+    :+.× → no yes no no
+    :∘.< → no yes no no
+    ";
+
+/// Whether a line is a statement: yes or no.
+fn is_statement(alloc: Global, line: &str) -> Result<&'static str, Fail> {
+    let characters = front(alloc, line.as_bytes())?;
+    let tokens = tokens(alloc, characters.as_slice())?;
+    if tokens.is_empty() {
+        return Err(Fail::new("no tokens"));
+    }
+    match program_of(alloc, tokens) {
+        Ok(_program) => Ok("yes"),
+        Err(GrammarStop::Syntax { .. }) => Ok("no"),
+        Err(GrammarStop::Memory) => Err(Fail::new("no memory")),
+    }
+}
+
+#[test]
+fn valences(rt: HostRuntime) -> Result<(), Fail> {
+    let alloc = rt.alloc();
+    for (symbol, wanted) in rows_of(alloc, (VALENCES, 24))? {
+        let mut forms = String::new(alloc);
+        for (left, right) in [("", "B"), ("A", "B"), ("", "[1]B"), ("A", "[1]B")] {
+            let line = format!(in alloc; "{left}{symbol}{right}")?;
+            write!(forms, " {}", is_statement(alloc, line.as_str())?)?;
+        }
+        assert!(rt; forms.trim_start() == wanted, "of {symbol}");
     }
     Ok(())
 }

@@ -1,6 +1,6 @@
 use Rattle.std.proofs.Common.{◌≡◌, ◌∷◌, ◌∙◌, ap, Some}
 use Rattle.std.specs.Prelude.{is_some}
-use Rattle.apl_eval.specs.Functions.{caret_column, dyadic_result}
+use Rattle.apl_eval.specs.Functions.{dyadic_column, dyadic_result}
 use Rattle.apl_eval.specs.Meaning.{outcome_at}
 use Rattle.apl_eval.specs.Steps.{item_of, under_axis, HasValue, HasAxisAbove}
 use Rattle.apl_eval.proofs.StackLemmas.{has_value, below_value, has_axis, below_axis, some_item, step-dyadic}
@@ -25,7 +25,7 @@ pop_value-right-requires g c =
 
 pub returns : goal.returns
 returns g c w same_origin =
-    let form = c.args.function.now in
+    let form = c.args.form.now in
     let left = c.pop_value-left.result.value in
     let axis = c.pop_axis-axis.result in
     let right = c.pop_value-right.result.value in
@@ -35,6 +35,6 @@ returns g c w same_origin =
     c.pop_value-left.ensures ∙ ap (λ items. Some left ∷ items) (c.pop_axis-axis.ensures.items ∙ ap (under_axis (item_of axis)) c.pop_value-right.ensures) in
     let is = step-dyadic w form c.args.axis.now left (item_of axis) right below c.args.stack.now some stack in
     let wanted = dyadic_result w.origin form (item_of axis) left right in
-    let answers = rw (← same_origin, c.form-form.ensures, c.array_of-axis.ensures, c.deref.ensures, c.deref-2.ensures) at c.dyadic-answer.ensures in
-    let outcome = rw (c.caret_column.ensures, c.form-form.ensures) at (c.outcome_at.ensures wanted w answers) in
-    rw is (c.put.ensures (outcome_at (caret_column form) wanted w) w outcome)
+    let answers = rw (← same_origin, c.array_of-axis.ensures, c.deref.ensures, c.deref-2.ensures) at c.dyadic-answer.ensures in
+    let outcome = rw c.dyadic_column.ensures at (c.outcome_at.ensures wanted w answers) in
+    rw is (c.put.ensures (outcome_at (dyadic_column form) wanted w) w outcome)

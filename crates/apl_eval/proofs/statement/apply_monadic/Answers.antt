@@ -1,6 +1,6 @@
 use Rattle.std.proofs.Common.{◌≡◌, ◌∷◌, ◌∙◌, ap, Some}
 use Rattle.std.specs.Prelude.{is_some}
-use Rattle.apl_eval.specs.Functions.{caret_column, monadic_result}
+use Rattle.apl_eval.specs.Functions.{monadic_column, monadic_result}
 use Rattle.apl_eval.specs.Meaning.{outcome_at}
 use Rattle.apl_eval.specs.Steps.{item_of, under_axis, HasValue}
 use Rattle.apl_eval.proofs.StackLemmas.{has_axis, below_axis, some_item, step-monadic}
@@ -17,7 +17,7 @@ pop_value-right-requires g c =
 
 pub returns : goal.returns
 returns g c w same_origin =
-    let form = c.args.function.now in
+    let form = c.args.form.now in
     let axis = c.pop_axis-axis.result in
     let right = c.pop_value-right.result.value in
     let below = c.pop_value-right.new.self in
@@ -25,6 +25,6 @@ returns g c w same_origin =
     let stack : c.args.stack.now ≡ under_axis (item_of axis) (Some right ∷ below) = c.pop_axis-axis.ensures.items ∙ ap (under_axis (item_of axis)) c.pop_value-right.ensures in
     let is = step-monadic w form c.args.axis.now (item_of axis) right below c.args.stack.now some stack in
     let wanted = monadic_result w.origin form (item_of axis) right in
-    let answers = rw (← same_origin, c.form-form.ensures, c.array_of-axis.ensures, c.deref.ensures) at c.monadic-answer.ensures in
-    let outcome = rw (c.caret_column.ensures, c.form-form.ensures) at (c.outcome_at.ensures wanted w answers) in
-    rw is (c.put.ensures (outcome_at (caret_column form) wanted w) w outcome)
+    let answers = rw (← same_origin, c.array_of-axis.ensures, c.deref.ensures) at c.monadic-answer.ensures in
+    let outcome = rw c.monadic_column.ensures at (c.outcome_at.ensures wanted w answers) in
+    rw is (c.put.ensures (outcome_at (monadic_column form) wanted w) w outcome)

@@ -20,7 +20,7 @@ returns-in-Name g c =
 pub apply_dyadic-requires : goal.apply_dyadic-requires
 apply_dyadic-requires g c =
     let w = staged_in c.args.staged.now c.args.machine.now.workspace.now in
-    let possible = dyadic_above w c.in-Dyadic.function c.in-Dyadic.axis c.args.stack.now (rw c.in-Dyadic.is at c.requires) in
+    let possible = dyadic_above w c.in-Dyadic.form c.in-Dyadic.axis c.args.stack.now (rw c.in-Dyadic.is at c.requires) in
     (search rules, (search rules, (search rules, possible)))
 
 pub returns-in-Dyadic : goal.returns-in-Dyadic
@@ -31,7 +31,7 @@ returns-in-Dyadic g c =
 pub apply_monadic-requires : goal.apply_monadic-requires
 apply_monadic-requires g c =
     let w = staged_in c.args.staged.now c.args.machine.now.workspace.now in
-    let possible = monadic_above w c.in-Monadic.function c.in-Monadic.axis c.args.stack.now (rw c.in-Monadic.is at c.requires) in
+    let possible = monadic_above w c.in-Monadic.form c.in-Monadic.axis c.args.stack.now (rw c.in-Monadic.is at c.requires) in
     (search rules, (search rules, (search rules, possible)))
 
 pub returns-in-Monadic : goal.returns-in-Monadic
