@@ -15,7 +15,7 @@ use apl_pool::{Cut, Fault, Gate, Kernel, Pool, Stop};
 use std::alloc::Global;
 use std::thread::Threads;
 
-/// Numbers of lines that stand one behind the other, by the places where neighbours in a line are apart.
+/// Numbers of lines that are one after the other, by the places where neighbours in a line are apart.
 #[derive(Drop)]
 struct Exchanged<'a> {
     numbers: &'a [i64],
@@ -28,7 +28,7 @@ struct Exchanged<'a> {
 }
 
 impl Exchanged<'_> {
-    /// Where the number stands that belongs to a place.
+    /// Where the number is that belongs to a place.
     #[inline(always)]
     fn source(&self, place: usize) -> usize
         requires { place < length self.now.numbers.now }
@@ -63,8 +63,8 @@ impl Kernel for Exchanged<'_> {
     }
 }
 
-/// Numbers of lines that stand one behind the other, in the order in which neighbours in a line are `inner`
-/// apart; and with `items` and `inner` exchanged, the way back.
+/// Numbers of lines that are one after the other, in the order in which neighbours in a line are `inner` apart. With `items` and `inner`
+/// exchanged it is the way back.
 fn exchange<R: Threads + Sync, C: Cut + Sync, G: Gate + Sync>(
     rt: &R,
     alloc: Global,
