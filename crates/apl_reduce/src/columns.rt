@@ -12,7 +12,7 @@ use apl_pool::{Cut, Fault, Gate, Kernel, MOST_PLACES, Stop};
 use std::thread::Threads;
 
 impl Layout {
-    /// Whether it is repaid to bring the right argument into the order of its columns, and there is room for that.
+    /// Whether it pays to bring the right argument into the order of its columns, and there is room for that.
     pub(crate) fn repays_an_order(&self) -> bool
         ensures { IsTrue result ↔ (0 < self.now.items) × (1 < self.now.columns) × (SEVERAL_LINES * self.now.columns ≤ self.now.count) × (self.now.columns * self.now.items ≤ MOST_PLACES) }
     {
