@@ -91,7 +91,7 @@ impl Gate for Holding {
     }
 }
 
-/// Fills the places of so many pieces by two workers, and says whether each place has its value, and both held pieces went on.
+/// Fills the places of `pieces` pieces by two workers, and says whether each place has its value, and both held pieces went on.
 fn holds_while_filling<R: Threads + Sync>(
     rt: &R,
     alloc: Global,
@@ -116,7 +116,7 @@ fn holds_while_filling<R: Threads + Sync>(
     Ok(has_values && values.len() == count && holding.met() == 2)
 }
 
-/// Sums the places of so many pieces by two workers, and says whether each place was summed, and both held pieces went on.
+/// Sums the places of `pieces` pieces by two workers, and says whether each place was summed, and both held pieces went on.
 fn holds_while_folding<R: Threads + Sync>(
     rt: &R,
     alloc: Global,
@@ -137,7 +137,7 @@ fn holds_while_folding<R: Threads + Sync>(
     Ok(sum.apply(0) == Ok((pieces * length) as i64) && holding.met() == 2)
 }
 
-/// Whether both held pieces go on while two workers fill, and while they sum, the places of so many pieces.
+/// Whether both held pieces go on while two workers fill, and while they sum, the places of `pieces` pieces.
 fn holds<R: Threads + Sync>(
     rt: &R,
     alloc: Global,
@@ -219,8 +219,8 @@ const FUNCTIONS: &str = r"
 /// What the structural functions get: numbers of axis lengths, no elements, and one row of all elements of `A`.
 const ARGUMENTS: &str = "Z←T⍴''\nM←S⍴A\n";
 
-/// Structural functions of `A`, whose elements are all 1, of its count `N`, of the shape `S` of `M`, which is its elements as
-/// a row, and of `Z` without a row. Each has as many elements as `A`; here is what it is for two of them.
+/// Structural functions of `A`, whose elements are all 1, and of its count `N`. `M` is its elements as a row, of shape `S`, and `Z` has no
+/// row. Each result has as many elements as `A`; here is what it is for two of them.
 const STRUCTURES: &str = r"
     S⍴A → 1 1⏎
     N⍴3 → 3 3⏎
@@ -276,7 +276,7 @@ const STRUCTURES: &str = r"
     M[;]←1 →
     ";
 
-/// What the reductions get: so many items for each element of `A`, as rows and as columns.
+/// What the reductions get: some items for each element of `A`, as rows and as columns.
 const ITEMS: &str = "C←V⍴A\nD←W⍴A\n";
 
 /// Reductions and products of `A`, whose elements are all 1, by each function. Each has as many elements as `A`; here is what it
@@ -400,7 +400,8 @@ const REDUCTIONS: &str = r"
     R+.×C → 3 3⏎
     ";
 
-/// The functions whose folds are cut along the axis, of `F`, whose elements are all 1: one result; here is what it is for three items.
+/// The functions whose folds are cut along the axis, of `F`, whose elements are all 1. They have one result; here is what it is for three
+/// items.
 const CUT_FOLDS: &str = r"
     +/F → 3⏎
     +⌿F → 3⏎
@@ -479,8 +480,8 @@ const CUT_FOLDS: &str = r"
     F≠.×F → 1⏎
     ";
 
-/// Answers a session by two workers and pieces of this length. Says whether it wrote the text, and both pieces met
-/// at each of so many functions.
+/// Answers a session by two workers and pieces of this length. Says whether it wrote the text, and both pieces met at each of `functions`
+/// functions.
 fn meets<R: Threads + Sync>(
     rt: &R,
     alloc: Global,
@@ -505,7 +506,7 @@ fn gate_run(rt: HostRuntime) {
     }
 }
 
-/// The line that makes `A` so many numbers 1.
+/// The line that makes `A` a vector of `count` ones.
 fn ones(alloc: Global, count: usize) -> Result<String, AllocError> {
     let mut line = String::from_str(alloc, "A←'x'='")?;
     for _ in 0..count {
@@ -515,7 +516,7 @@ fn ones(alloc: Global, count: usize) -> Result<String, AllocError> {
     Ok(line)
 }
 
-/// Adds the lines of a table to a session, what they write to its text, and each line with its value in `B` to another session.
+/// Adds the lines of a table to a session, and what they write to its text. Adds each line with its value in `B` to another session.
 fn push_lines(
     alloc: Global,
     table: Table,
@@ -593,7 +594,7 @@ fn each_reduction_uses_the_pool(rt: HostRuntime) -> Result<(), Fail> {
     Ok(())
 }
 
-/// Adds the line that makes `F` so many numbers 1, by a constant.
+/// Adds the line that makes `F` a vector of `count` ones, by a constant.
 fn push_items(session: &mut String, count: usize) -> Result<(), AllocError> {
     session.push_str("F←")?;
     for _ in 0..count {
