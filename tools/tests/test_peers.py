@@ -8,7 +8,7 @@ import unittest
 from common import PROGRAM, TOP
 
 PEERS = TOP / "bench" / "peers"
-ROWS = 36
+ROWS = 74
 
 
 def asked(*words: str, path: str = os.environ["PATH"]) -> subprocess.CompletedProcess:
@@ -37,13 +37,16 @@ class Table(unittest.TestCase):
             run = asked("--size", "100", "--starts", "1", "--rounds", "1", PROGRAM, "A+B", path=empty)
         self.assertEqual(run.returncode, 3, run.stderr)
         self.assertIn("A+ is missing: 'apt-get install aplus-fsf', or bench/peers --install", run.stderr)
-        self.assertIn("A+B", run.stdout)
+        heading, row = run.stdout.splitlines()[-2:]
+        self.assertIn("A+ is missing", heading)
+        self.assertEqual(row[:4], "A+B ")
 
     def test_nothing_to_install_with(self):
         with tempfile.TemporaryDirectory() as empty:
             run = asked("--install", "--size", "100", PROGRAM, "A+B", path=empty)
-        self.assertEqual(run.returncode, 1)
+        self.assertEqual(run.returncode, 3)
         self.assertIn("peers: there is no apt-get here to install A+", run.stderr)
+        self.assertIn("A+B", run.stdout)
 
 
 class Words(unittest.TestCase):
@@ -65,6 +68,12 @@ class Words(unittest.TestCase):
                 self.assertEqual(run.stdout, "")
 
     def test_program_that_is_no_calculator(self):
-        run = asked("--size", "100", "/bin/true", "A+B")
+        run = asked("--size", "100", "/bin/true", "A+B", "A-B")
         self.assertEqual(run.returncode, 1)
         self.assertIn("peers: aplcalc, 1 worker ended", run.stderr)
+        self.assertEqual([row.split() for row in run.stdout.splitlines()[-2:]], [["A+B", "failed"], ["A-B", "failed"]])
+
+    def test_help(self):
+        run = asked("--help")
+        self.assertEqual(run.returncode, 0)
+        self.assertIn("usage: bench/peers", run.stdout)

@@ -14,7 +14,7 @@ use Rattle.apl_reduce.specs.Encoding.{carry_past}
 abbrev pub digit_number : List ℤ → ℕ → ℤ → Result ℤ Fault
 digit_number radices k b = exact (residue (slice_index_or radices k (pos 0)) (carry_past (drop (k + 1) radices) b))
 
--- the same at the place of a radix and a number, the numbers varying fastest
+-- that digit at the place of a radix and a number, the numbers varying fastest
 abbrev pub digit_in : List ℤ → List ℤ → ℕ → Result Elem Fault
 digit_in radices numbers place = as_element (digit_number radices (place / length numbers) (slice_index_or numbers (place % length numbers) (pos 0)))
 

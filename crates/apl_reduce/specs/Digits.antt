@@ -12,8 +12,8 @@ use Rattle.apl_reduce.specs.Encoding.{carry_past}
 abbrev pub IsDigitBy : ℤ → ℤ → Type 0
 IsDigitBy radix digit = (digit ≡ pos 0) ⊎ ((int_signum digit ≡ int_signum radix) × (unsigned_abs digit < unsigned_abs radix))
 
--- the digit at each radix, and what is carried before each radix and, last, before the end: the last carry is the number, and each carry
--- is the one before it times the radix plus the digit. Before radix 0 nothing is carried
+-- The digit at each radix, and what is carried before each radix and, last, before the end. The last carry is the number, and each carry is
+-- the one before it times the radix plus the digit. Before radix 0 nothing is carried.
 pub record AreDigitsOf (number : ℤ) (radices : List ℤ) (digit carry : ℕ → ℤ) : Type 0 where
   pub last : carry (length radices) ≡ number
   pub step : (k : ℕ) → k < length radices → carry (k + 1) ≡ carry k *ℤ slice_index_or radices k (pos 0) +ℤ digit k

@@ -10,12 +10,12 @@ abbrev pub number_step : ScalarFunction → Elem → Result ℤ Fault → Result
 number_step f x (Ok r) = dyadic_of f x (Int r)
 number_step f x (Err fault) = Err fault
 
--- the right fold of item k and the more + 1 items behind it
+-- the right fold of item k and the more + 1 items after it
 abbrev pub folded : ScalarFunction → (item : ℕ → Elem) → (k more : ℕ) → Result ℤ Fault
 folded f item k zero = dyadic_of f (item k) (item (suc k))
 folded f item k (suc more) = number_step f (item k) (folded f item (suc k) more)
 
--- elements that stand `stride` apart from place `first` on
+-- elements that are `stride` apart from place `first` on
 abbrev pub element_along : List Elem → (first stride : ℕ) → ℕ → Elem
 element_along elements first stride i = slice_index_or elements (first + i * stride) (Int (pos 0))
 
@@ -27,7 +27,7 @@ fold_at f elements items block inner place = folded f (element_along elements (p
 abbrev pub number_of_axis : List ℤ → (block inner place k : ℕ) → ℤ
 number_of_axis numbers block inner place k = slice_index_or numbers (place / inner * block + place % inner + k * inner) (pos 0)
 
--- the folds of item k and the `more` + 1 items behind it, at neighbouring places from `first` on
+-- the folds of item k and the `more` + 1 items after it, at neighbouring places from `first` on
 abbrev pub AreFolds : ScalarFunction → List Elem → (first stride k more : ℕ) → List ℤ → Type 0
 AreFolds f elements first stride k more totals =
     (j : ℕ) (d : ℤ) → j < length totals → folded f (element_along elements (first + j) stride) k more ≡ Ok (slice_index_or totals j d)

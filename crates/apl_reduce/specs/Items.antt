@@ -39,7 +39,7 @@ or_next_fault (Err fault) next = Some fault
 or_next_fault (Ok z) next = next
 
 module _ (item : ℕ → Result ℤ Fault) where
-  -- the fold of item k and the `more` items behind it, from the right: the first fault on the way
+  -- the fold of item k and the `more` items after it, from the right: the first fault on the way
   abbrev pub folded_from : ScalarFunction → ℕ → ℕ → Result ℤ Fault
   folded_from f k zero = item k
   folded_from f k (suc more) = number_step f (item k) (folded_from f (k + 1) more)

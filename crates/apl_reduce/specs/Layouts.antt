@@ -1,4 +1,4 @@
--- How the items of an inner product lie in its arguments. No contract of a public function cites this file.
+-- Where the items of an inner product are in its arguments. No contract of a public function cites this file.
 use Rattle.std.specs.Prelude.{ℕ, ℤ, pos, ◌+◌, ◌*◌, ◌*ℤ◌, ◌/◌, ◌%◌, ◌<◌, ◌≤◌, ◌≡◌, List, length, Result, slice_index_or}
 use Rattle.apl_array.specs.declared.array.Elem.{Elem}
 use Rattle.apl_array.specs.declared.function.ScalarFunction.{ScalarFunction}
@@ -15,7 +15,7 @@ left_place layout place k = place / layout.columns * layout.left.line + k * layo
 abbrev pub right_place : Layout → ℕ → ℕ → ℕ
 right_place layout place k = place % layout.columns * layout.right.line + k * layout.right.item
 
--- all of them are within arguments of so many elements
+-- all of them are within arguments of `left` and `right` elements
 pub record IsWithin (layout : Layout) (left right : ℕ) : Type 0 where
   pub left_start : (place : ℕ) → place < layout.count → place / layout.columns * layout.left.line ≤ MOST_PLACES
   pub right_start : (place : ℕ) → place < layout.count → place % layout.columns * layout.right.line ≤ MOST_PLACES
@@ -40,7 +40,7 @@ product_at layout left right place k = slice_index_or left (left_place layout pl
 abbrev pub column_place : Layout → ℕ → ℕ → ℕ
 column_place layout column k = column * layout.right.line + k * layout.right.item
 
--- the same items, those of a column of the right argument being neighbours
+-- as `layout`, but those of a column of the right argument are neighbours
 pub record IsByColumns (layout ordered : Layout) : Type 0 where
   pub left : ordered.left ≡ layout.left
   pub right_line : ordered.right.line ≡ layout.items
@@ -49,7 +49,7 @@ pub record IsByColumns (layout ordered : Layout) : Type 0 where
   pub columns : ordered.columns ≡ layout.columns
   pub count : ordered.count ≡ layout.count
 
--- all items of all columns are within a right argument of so many elements
+-- all items of all columns are within a right argument of `right` elements
 abbrev pub HasColumns : Layout → ℕ → Type 0
 HasColumns layout right = (column k : ℕ) → column < layout.columns → k < layout.items → column_place layout column k < right
 

@@ -86,7 +86,7 @@ impl<T> AxisItems<'_, T> {
         self.inner.quotient(place) * self.block + self.inner.remainder(place)
     }
 
-    /// Whether too few places lie side by side to be folded together.
+    /// Whether too few places are side by side to be folded together.
     #[inline(always)]
     fn has_narrow_rows(&self) -> bool {
         self.inner.number() < NARROW

@@ -6,7 +6,7 @@ ghost use Rattle.apl_reduce.specs.Carrying.{carry_by, is_above_zero, StandsFor};
 use crate::quotient::Quotient;
 use std::alloc::{AllocError, Global};
 
-/// What is carried past the radices behind one.
+/// What is carried past the radices after one.
 #[derive(Clone, Copy)]
 pub(crate) enum Behind {
     /// A radix is 0: nothing is carried past it.
@@ -50,7 +50,7 @@ impl Behind {
     }
 }
 
-/// Writes what is carried past the radices behind each, from the last radix to the first.
+/// Writes what is carried past the radices after each, from the last radix to the first.
 fn write_behind(radices: &[i64], behind: &mut [Behind])
     requires { length behind.old ≡ length radices.now }
     ensures each { length behind.new ≡ length radices.now }
@@ -63,7 +63,7 @@ fn write_behind(radices: &[i64], behind: &mut [Behind])
     }
 }
 
-/// What is carried past the radices behind each.
+/// What is carried past the radices after each.
 pub(crate) fn behind_each(alloc: Global, radices: &[i64]) -> Result<Vec<Behind>, AllocError>
     ensures each { IfOk result (λ behind. length behind.items ≡ length radices.now) }
     ensures stand { IfOk result (λ behind. (k : ℕ) → k < length radices.now → StandsFor (slice_index_or behind.items k Nothing) (drop (k + 1) radices.now)) }

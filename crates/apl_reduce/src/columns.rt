@@ -12,7 +12,7 @@ use apl_walk::{ByLines, Gathered, Map, Window};
 use std::thread::Threads;
 
 impl Layout {
-    /// Whether it is repaid to bring the right argument from the order of its rows into that of its columns, and there is room for that.
+    /// Whether it pays to bring the right argument into the order of its columns, and there is room for that.
     pub(crate) fn repays_an_order(&self) -> bool
         ensures { IsTrue result ↔ (self.now.right.line ≡ 1) × (self.now.right.item ≡ self.now.columns) × (0 < self.now.items) × (1 < self.now.columns) × (SEVERAL_LINES * self.now.columns ≤ self.now.count) × (self.now.columns * self.now.items ≤ MOST_PLACES) }
     {

@@ -48,7 +48,7 @@ fn with_digit(value: i64, radix: i64, digit: i64) -> Result<i64, Fault>
     limited(value as i128 * radix as i128 + digit as i128)
 }
 
-/// The value of so many digits, from the first on.
+/// The value of the first `count` digits.
 #[derive(Drop)]
 struct Decoding<'a> {
     radices: Served<'a>,
@@ -127,7 +127,7 @@ impl<R: Threads + Sync, C: Cut + Sync, G: Gate + Sync> Workers<'_, R, C, G> {
 
 /// `A⊥B`, decode: the value that the digits `B` have in the radices `A`.
 /// Shape: a scalar number. An argument of one element serves all digits of the other.
-/// Errors in order: RANK, LENGTH, DOMAIN of the kinds where there is a digit, LIMIT where the value of some first digits is outside the range.
+/// Errors in order: RANK, LENGTH, DOMAIN of the kinds if there is a digit, LIMIT if the value of some first digits is out of range.
 /// Source: APL\360 User's Manual, base value; the order of errors is this calculator's own.
 pub fn decode<R: Threads + Sync, C: Cut + Sync, G: Gate + Sync>(
     rt: &R,

@@ -27,7 +27,7 @@ pub(crate) trait Dyadic: Copy {
     fn of_numbers(&self, x: i64, y: i64) -> Result<i64, Fault>
         ensures { result ≡ dyadic_numbers (function self.now) x y };
 
-    /// What the reduction of no element gives, where it gives something.
+    /// What the reduction of no element gives, if anything.
     fn identity(&self) -> Option<i64>
         ensures { result ≡ identity_of (function self.now) };
 }

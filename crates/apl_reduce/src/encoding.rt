@@ -107,7 +107,7 @@ impl<R: Threads + Sync, C: Cut + Sync, G: Gate + Sync> Workers<'_, R, C, G> {
 
 /// `A⊤B`, encode: the digits of each element of `B` in the radices `A`.
 /// Shape: that of `A`, then that of `B`; of numbers. A scalar `A` is the only radix.
-/// Errors in order: RANK of `A`, LIMIT of the shape, DOMAIN of the kinds where there is an element, LIMIT where a digit is outside the range.
+/// Errors in order: RANK of `A`, LIMIT of the shape, DOMAIN of the kinds if there is an element, LIMIT if a digit is out of range.
 /// Source: APL\360 User's Manual, representation; radices of 0 and below, and the order of errors, are this calculator's own.
 pub fn encode<R: Threads + Sync, C: Cut + Sync, G: Gate + Sync>(
     rt: &R,

@@ -1,4 +1,4 @@
-//! Right folds of rows that stand at equal distances, all places of a stretch at once.
+//! Right folds of rows at equal distances, all places of a stretch at once.
 ghost use Rattle.std.specs.Prelude.{◌≡◌, ℕ, ◌+◌, ◌*◌, ◌<◌, ◌≤◌, true, Ok, pos, drop, length, map, slice_index_or};
 ghost use Rattle.apl_pool.specs.Runs.{AreWritten};
 ghost use Rattle.apl_pool.specs.declared.kernel.TheConstants.{MOST_PLACES};
@@ -80,8 +80,7 @@ fn fold_row<F: Function, T: Element>(row: &[T], totals: &mut [i64]) -> bool
     true
 }
 
-/// Folds the items of the first `more` rows into the totals of those behind them. It says whether no
-/// place has a fault.
+/// Folds the items of the first `more` rows into the totals of those after them. It says whether no place has a fault.
 #[inline(always)]
 pub(crate) fn fold_rows<F: Function, T: Element>(
     elements: &[T],

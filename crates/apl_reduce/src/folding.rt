@@ -1,4 +1,4 @@
-//! Right folds of elements that stand at equal distances.
+//! Right folds of elements at equal distances.
 ghost use Rattle.std.specs.Prelude.{◌≡◌, ◌+◌, ◌-◌, ◌*◌, ◌<◌, ◌≤◌, pos, length, map, slice_index_or};
 ghost use Rattle.apl_array.specs.declared.array.Elem.TheVariants.{Int};
 ghost use Rattle.apl_pool.specs.declared.kernel.TheConstants.{MOST_PLACES};
@@ -30,7 +30,7 @@ pub(crate) fn fold_step<F: Function>(item: Elem, total: Result<i64, Fault>) -> R
     }
 }
 
-/// The right fold of `count` elements that stand `stride` apart from place `first` on.
+/// The right fold of `count` elements that are `stride` apart from place `first` on.
 #[inline(never)]
 pub(crate) fn fold_along<F: Function, T: Element>(
     elements: &[T],

@@ -232,7 +232,7 @@ impl<R: Threads + Sync, C: Cut + Sync, G: Gate + Sync> Workers<'_, R, C, G> {
         }
     }
 
-    /// An inner product of numbers. The right ones are brought into the order of their columns first where that is repaid.
+    /// An inner product of numbers. The right ones are brought into the order of their columns first if that pays.
     fn fill_inner_ordered(
         &self,
         f: ScalarFunction,

@@ -18,8 +18,8 @@ use apl_answer::answer_is_within_limits;
 use apl_array::{range_is_decided, shape_is_decided};
 use apl_scalar::answers_are_in_range;
 
-/// A fold of numbers by `+`, `-` or `×` is the exact one, and is refused exactly where the exact fold of
-/// some end of the list is outside the range.
+/// A fold of numbers by `+`, `-` or `×` is the exact one. It is refused exactly if the exact fold of some end of the list is outside the
+/// range.
 pub fn partial_results_decide()
     ensures { (f : ScalarFunction) (exact : ℤ → ℤ → ℤ) (x : ℤ) (rest : List ℤ) → exact_function f ≡ Some exact → All IsInRange (x ∷ rest)
         → right_fold f (Int x) (map Int rest) ≡ fold_by_partial_results exact x rest }

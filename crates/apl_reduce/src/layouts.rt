@@ -1,9 +1,9 @@
-//! How the items of an inner product lie in its arguments.
+//! Where the items of an inner product are in its arguments.
 ghost use Rattle.std.specs.Prelude.{◌≡◌, ◌*◌, ◌<◌, ◌≤◌, ◌↔◌, IsTrue, if◌then◌else◌};
 ghost use Rattle.apl_pool.specs.declared.kernel.TheConstants.{MOST_PLACES};
 ghost use Rattle.apl_reduce.specs.declared.layouts.TheConstants.{SEVERAL_LINES};
 
-/// How many lines of the left argument repay a pass over the right one.
+/// From how many lines of the left argument on a pass over the right one pays.
 const SEVERAL_LINES: usize = 8;
 
 /// How far apart the lines of an argument are, and the items of a line.
@@ -27,8 +27,8 @@ impl Strides {
     }
 }
 
-/// How many items are folded at each of so many places, and how they lie in the arguments. A place is
-/// a line of the left argument times the columns and a line of the right one.
+/// How many items are folded at each of `count` places, and where they are in the arguments. A place is a line of the left argument times
+/// the columns and a line of the right one.
 #[derive(Clone, Copy)]
 pub(crate) struct Layout {
     pub left: Strides,
@@ -43,7 +43,7 @@ pub(crate) struct Layout {
 }
 
 impl Layout {
-    /// Whether both arguments have so many lines that a pass over their elements is repaid.
+    /// Whether both arguments have enough lines for a pass over their elements to pay.
     pub(crate) fn repays_a_pass(&self) -> bool
         ensures { IsTrue result ↔ (1 < self.now.columns) × (SEVERAL_LINES * self.now.columns ≤ self.now.count) }
     {

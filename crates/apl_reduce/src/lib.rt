@@ -1,6 +1,10 @@
 //! Reduction along an axis, outer and inner products, decode and encode.
 //!
 //! They are those of the APL\360 User's Manual (1968), over whole numbers of 64 bits.
+//!
+//! Below it: `apl_scalar` for the functions, `apl_summary`, whose summaries let workers share a fold, `apl_pool`, which fills results,
+//! and `apl_answer` for the rows.
+//! Begin with `specs/Folding.antt` and `specs/Reducing.antt`, and then `reducing.rt`.
 #![tactic(auto)]
 
 mod axis_items;

@@ -20,7 +20,7 @@ pub(crate) fn are_narrow(numbers: &[i64]) -> bool
     magnitude(numbers) < 1 << 31
 }
 
-/// Whether so many products of a left number and a right one are within the range, and each sum of them, whatever their signs.
+/// Whether `count` products of a left number and a right one are within the range, and each sum of them, whatever their signs.
 pub(crate) fn sums_are_small(left: &[i64], right: &[i64], count: usize) -> bool
     ensures { IsTrue result ↔ magnitude left.now * magnitude right.now * count < 2 ^ 63 }
 {

@@ -76,8 +76,8 @@ pub(crate) fn right_lengths(b: &Array) -> &[usize]
     &lengths[1..]
 }
 
-/// The layout for two arguments that agree on the number of items, and the shape of their result,
-/// to which the left one gives so many axes.
+/// The layout for two arguments that agree on the number of items, and for the shape of their result. The left one gives it `left_axes`
+/// axes.
 pub(crate) fn layout_of(
     a: &Array,
     b: &Array,

@@ -37,8 +37,7 @@ struct EachPair<'a, T, U, F: Dyadic> {
 }
 
 impl<T: Element, U: Element, F: Dyadic> EachPair<'_, T, U, F> {
-    /// The left element of a place's row, and the right ones from that place on, up to before another
-    /// place or the end of the row.
+    /// The left element of a place's row, and the right ones from that place on. They end before another place, or at the end of the row.
     #[inline(always)]
     fn row_from(&self, from: usize, to: usize) -> (T, &[U])
         requires some { from < to }
@@ -112,7 +111,7 @@ impl<R: Threads + Sync, C: Cut + Sync, G: Gate + Sync> Workers<'_, R, C, G> {
         self.pool.fill(self.rt, self.alloc, &kernel)
     }
 
-    /// The same of characters, of which only `=` and `≠` give something.
+    /// As for numbers, but of characters, of which only `=` and `≠` give something.
     fn fill_outer_characters(
         &self,
         f: ScalarFunction,

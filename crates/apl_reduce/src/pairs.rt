@@ -33,8 +33,8 @@ pub(crate) fn put<X: Copy>(room: &mut [X], place: usize, value: X)
     room[place] = value;
 }
 
-/// Writes what a function gives of one element and each of others into the room for them, up to the
-/// first that has a fault, and answers how many they are.
+/// Writes what a function gives of one element and each of others into the room for them. It ends before the first that has a fault, and
+/// answers how many they are.
 #[inline(always)]
 pub(crate) fn write_pairs<T: Element, U: Element, F: Dyadic>(
     x: T,

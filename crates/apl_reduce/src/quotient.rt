@@ -7,7 +7,7 @@ ghost use Rattle.apl_reduce.specs.Encoding.{carried};
 /// The largest divisor that is kept. By any larger one a quotient is ¯1 or 0, by the sign of what is divided.
 const MOST_DIVISOR: i128 = 1 << 65;
 
-/// A number or its negative, and so much added, divided and rounded down.
+/// A number or its negative, plus `added`, divided and rounded down.
 #[derive(Clone, Copy)]
 pub(crate) struct Quotient {
     is_negated: bool,
@@ -62,14 +62,14 @@ impl Quotient {
         }
     }
 
-    /// It divided by so much, and rounded down.
+    /// It divided by a number, and rounded down.
     fn divided(self, by: i128) -> Quotient
         requires { pos 0 <ℤ by }
         ensures { (b : ℤ) → IsInRange b → quotient_of result b ≡ floor_quotient (quotient_of self b) by }
     {
         let divisor = self.divisor.saturating_mul(by);
         if divisor > MOST_DIVISOR {
-            // No number outweighs 2^63, so the sign is the same where no more of it is added.
+            // No number outweighs 2^63, so the sign stays if no more of it is added.
             return Quotient {
                 is_negated: self.is_negated,
                 added: self.added.min(1 << 63),

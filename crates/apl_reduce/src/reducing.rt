@@ -34,7 +34,7 @@ fn identity_or_fault(f: ScalarFunction) -> Result<i64, Fault>
 }
 
 impl<R: Threads + Sync, C: Cut + Sync, G: Gate + Sync> Workers<'_, R, C, G> {
-    /// The array of this shape with the same number at each place, or the fault.
+    /// The array of this shape with one number at all places, or the fault.
     pub(crate) fn everywhere(
         &self,
         shape: Shape,

@@ -13,7 +13,7 @@ use std::thread::Threads;
 /// How many numbers of a line are summarized together.
 pub(crate) const CHUNK: usize = 1024;
 
-/// The chunks of all lines, a row each: as many of each line as lie before its last number.
+/// The chunks of all lines, a row each: as many of each line as are before its last number.
 #[derive(Drop)]
 pub(crate) struct Chunks<'a> {
     pub numbers: &'a [i64],
@@ -71,8 +71,8 @@ fn carry_on<S: Summary<Item = i64> + Copy + Drop>(chunks: &Chunks, summaries: &m
     }
 }
 
-/// For each chunk the summary of its line up to the end of the chunk; and where several workers made them as many copies of a number as
-/// there are numbers.
+/// For each chunk the summary of its line up to the end of the chunk. If several workers made these, there are also copies of a number, one
+/// for each number.
 pub(crate) fn summarize<
     S: Summary<Item = i64> + Copy + Drop + Send,
     R: Threads + Sync,

@@ -12,7 +12,7 @@ pub(crate) struct Kept<S: Summary> {
 }
 
 impl<S: Summary + Copy> Kept<S> {
-    /// The same summary.
+    /// A copy of the summary.
     pub(crate) fn copied(&self) -> Kept<S>
         ensures { result.summary ≡ self.now.summary }
     {
@@ -21,7 +21,7 @@ impl<S: Summary + Copy> Kept<S> {
         }
     }
 
-    /// What is kept, where there is something.
+    /// The summary that is kept, if there is one.
     pub(crate) fn summary_of(kept: &Option<Kept<S>>) -> Option<S>
         ensures { MatchOption kept.now (result ≡ None) (λ k. result ≡ Some k.summary) }
     {

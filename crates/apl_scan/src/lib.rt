@@ -1,6 +1,10 @@
 //! Scan along an axis: at each item the reduction of the items up to it.
 //!
 //! It is that of ISO 8485:1989, over whole numbers of 64 bits.
+//!
+//! Below it: `apl_summary`, whose summaries put most folds, `apl_reduce` for the reduction of a list, `apl_pool`, which fills
+//! results, and `apl_answer` for the row.
+//! Begin with `specs/Scanning.antt`, and then `scanning.rt` and `lines.rt`.
 #![tactic(auto)]
 
 mod chunks;

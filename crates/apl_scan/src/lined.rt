@@ -15,11 +15,11 @@ use apl_walk::{ByLines, Gathered, Map, Window};
 use std::alloc::Global;
 use std::thread::Threads;
 
-/// So many numbers of a line are taken before those of the next one, since their cache lines are near.
+/// How many numbers of a line are taken before those of the next one, since their cache lines are near.
 const TILE: usize = 256;
 
-/// Numbers of lines that stand one behind the other, in the order in which neighbours in a line are `inner`
-/// apart; and with `items` and `inner` exchanged, the way back.
+/// Numbers of lines that are one after the other, in the order in which neighbours in a line are `inner` apart. With `items` and `inner`
+/// exchanged it is the way back.
 fn exchange<R: Threads + Sync, C: Cut + Sync, G: Gate + Sync>(
     rt: &R,
     alloc: Global,

@@ -17,7 +17,7 @@ use std::alloc::Global;
 use std::marker::PhantomData;
 use std::thread::Threads;
 
-/// How many numbers a line has at least for which it is repaid to bring lines in order.
+/// The least count of numbers in a line for which it pays to bring lines in order.
 const LONG_LINE: usize = 32;
 
 /// The numbers of an array, in lines along an axis.
@@ -34,7 +34,7 @@ pub(crate) struct AxisLines<'a> {
 }
 
 impl<'a> AxisLines<'a> {
-    /// Lines of so many numbers, which are `inner` apart.
+    /// Lines of `items` numbers, which are `inner` apart.
     pub(crate) fn new(numbers: &'a [i64], items: usize, inner: usize) -> AxisLines<'a>
         requires some { 0 < length numbers.now }
         requires most { length numbers.now ≤ MOST_PLACES }
@@ -52,7 +52,7 @@ impl<'a> AxisLines<'a> {
         }
     }
 
-    /// How many numbers of its line stand before a place.
+    /// How many numbers of its line are before a place.
     #[inline(always)]
     fn before(&self, place: usize) -> usize
         requires { place < length self.now.numbers.now }
@@ -148,7 +148,7 @@ pub(crate) fn fill_scans<R: Threads + Sync, C: Cut + Sync, G: Gate + Sync>(
         match fill_by_lines(rt, alloc, pool, f, lines.numbers, items, inner) {
             Ok(values) => return Ok(values),
             Err(Stop::Memory) => return Err(Stop::Memory),
-            // Which of the faults stands at the least place is found below.
+            // Which of the faults is at the least place is found below.
             Err(Stop::Fault { .. }) => {}
         }
     }

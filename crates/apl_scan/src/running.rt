@@ -1,4 +1,4 @@
-//! What some numbers do, and one more behind them.
+//! What some numbers do, and one more after them.
 ghost use Rattle.std.specs.Prelude.{◌≡◌, ◌+◌, ◌≤◌, ℤ, List, [], ◌∷◌, ◌++◌, IfSome};
 ghost use Rattle.apl_pool.specs.declared.kernel.TheConstants.{MOST_PLACES};
 ghost use Rattle.apl_pool.specs.Summaries.{fold_onto, IsSummaryOf};
@@ -7,7 +7,7 @@ ghost use Rattle.apl_summary.specs.Running.{IsSummaryOrNone};
 use crate::kept::Kept;
 use apl_pool::{Fault, Summary};
 
-/// The summary of numbers, of which there may be none, and one more behind them.
+/// The summary of numbers, of which there may be none, and one more after them.
 #[inline(always)]
 pub(crate) fn with_next<S: Summary<Item = i64> + Drop>(
     before: &Option<Kept<S>>,
@@ -24,7 +24,7 @@ pub(crate) fn with_next<S: Summary<Item = i64> + Drop>(
     }
 }
 
-/// The fold of numbers, of which there may be none, and one more behind them.
+/// The fold of numbers, of which there may be none, and one more after them.
 #[inline(always)]
 pub(crate) fn fold_behind<S: Summary<Item = i64> + Drop>(
     before: &Option<Kept<S>>,

@@ -15,8 +15,8 @@ ghost use Rattle.apl_scan.specs.RunningSums.{HasSumOutside, running_sums};
 use apl_array::{range_is_decided, replaced_index_has_place};
 use apl_reduce::{exact_folds_decide, limits_are_answered};
 
-/// A scan by `+` of numbers along an axis that exists is `Limit` exactly where some consecutive items of a
-/// line have a sum outside the range. Otherwise, along an axis of length 2 or more, it is the running sums.
+/// Numbers are scanned by `+` along an axis that exists. The answer is `Limit` exactly if some consecutive items of a line have a sum
+/// outside the range. Otherwise, along an axis of length 2 or more, it is the running sums.
 pub fn consecutive_sums_decide()
     ensures limit { (shape : List ℕ) (numbers : List ℤ) (axis : Axis) → let b = number_array shape numbers in let k = axis_of axis (rank_of b) in
         All IsInRange numbers → IsTrue (has_axis axis (rank_of b)) → (result_of (scan_row Plus b axis) ≡ Err Limit) ↔ HasSumOutside b k }

@@ -22,7 +22,7 @@ use apl_pool::{Cut, Fault, Gate, Pool};
 use std::alloc::Global;
 use std::thread::Threads;
 
-/// The array of this shape with the same number at each place, or the fault.
+/// The array of this shape with one number at all places, or the fault.
 fn everywhere<R: Threads + Sync, C: Cut + Sync, G: Gate + Sync>(
     rt: &R,
     alloc: Global,

@@ -36,7 +36,7 @@ struct Scans<'a, S: Summary<Item = i64>> {
     ghost joined: { AreUpToChunks S.step (λ k. S.item_count k.summary) (λ k. S.outcome k.summary) numbers.now items per_line (length beginnings.now) beginnings.now },
 }
 
-/// Puts so many ones behind other values. They are no zeros: for these the compiler calls `memset`, which takes longer than a loop.
+/// Puts `len` ones after other values. They are no zeros: for these the compiler calls `memset`, which takes longer than a loop.
 fn append_ones(values: &mut Vec<i64>, len: usize)
     requires { vec_len values.old + len ≤ vec_capacity values.old }
     ensures items { values.new.items ≡ values.old.items ++ replicate len (pos 1) }
@@ -48,7 +48,7 @@ fn append_ones(values: &mut Vec<i64>, len: usize)
 }
 
 impl<S: Running + Copy + Drop> Scans<'_, S> {
-    /// The row of the last whole chunk of a line that lies before a place, if there is one.
+    /// The row of the last whole chunk of a line before a place, if there is one.
     fn chunk_before(&self, place: usize) -> Option<usize>
         requires { place < length self.now.numbers.now }
         ensures within { IfSome result (λ row. row < length self.now.beginnings.now) }
@@ -61,7 +61,7 @@ impl<S: Running + Copy + Drop> Scans<'_, S> {
         Some(self.items.quotient(place) * self.per_line + (chunks - 1))
     }
 
-    /// The summary of the whole chunks of a line that lie before a place, where there are some.
+    /// The summary of the whole chunks of a line before a place, if there are some.
     fn chunks_before(&self, place: usize) -> Option<Kept<S>>
         requires { place < length self.now.numbers.now }
         ensures { IsSummaryOrNone S.step (λ k. S.item_count k.summary) (λ k. S.outcome k.summary) (stretch self.now.numbers.now (place - place % self.now.items) (place % self.now.items / CHUNK * CHUNK)) result }
@@ -73,7 +73,7 @@ impl<S: Running + Copy + Drop> Scans<'_, S> {
         }
     }
 
-    /// The summary of the numbers of a line that stand before a place, where there are some.
+    /// The summary of the numbers of a line before a place, if there are some.
     fn before(&self, place: usize) -> Option<Kept<S>>
         requires { place < length self.now.numbers.now }
         ensures { IsSummaryOrNone S.step (λ k. S.item_count k.summary) (λ k. S.outcome k.summary) (stretch self.now.numbers.now (place - place % self.now.items) (place % self.now.items)) result }
@@ -86,7 +86,7 @@ impl<S: Running + Copy + Drop> Scans<'_, S> {
         running
     }
 
-    /// How many places from one on up to before another stand in one line.
+    /// How many places from one on up to before another are in one line.
     fn run_length(&self, from: usize, to: usize) -> usize
         requires order { from ≤ to }
         requires within { to ≤ length self.now.numbers.now }
@@ -99,8 +99,8 @@ impl<S: Running + Copy + Drop> Scans<'_, S> {
         (self.items.number() - self.items.remainder(from)).min(to - from)
     }
 
-    /// Puts the folds up to the places from `from` on, all of them in one line, into the room, where the
-    /// summaries do so themselves. It says how many they are.
+    /// Puts the folds up to the places from `from` on into the room, if the summaries do so themselves. All places are in one line. It says
+    /// how many folds they are.
     #[inline(always)]
     fn put_folds(&self, running: &Option<Kept<S>>, from: usize, room: &mut [i64]) -> usize
         requires within { from + length room.old ≤ length self.now.numbers.now }
@@ -114,8 +114,8 @@ impl<S: Running + Copy + Drop> Scans<'_, S> {
         S::put_folds(&Kept::summary_of(running), numbers, room)
     }
 
-    /// Puts the folds up to the places from `from` on, all of them in one line, into the room, up to before
-    /// the first that has a fault. It says how many they are.
+    /// Puts the folds up to the places from `from` on into the room, up to before the first that has a fault. All places are in one line.
+    /// It says how many folds they are.
     fn scan_run(&self, from: usize, room: &mut [i64]) -> usize
         requires some { 0 < length room.old }
         requires within { from + length room.old ≤ length self.now.numbers.now }
@@ -168,8 +168,8 @@ impl<S: Running + Copy + Drop> Kernel for Scans<'_, S> {
     }
 }
 
-/// The summaries of the beginnings of all lines, so many of each; and where several workers made them as many copies of a
-/// number as there are numbers.
+/// The summaries of the beginnings of all lines, as many of each. If several workers made these, there are also copies of a number, one for
+/// each number.
 fn summarize_lines<
     S: Summary<Item = i64> + Copy + Drop + Send,
     R: Threads + Sync,
@@ -207,7 +207,7 @@ fn summarize_lines<
     summarize(rt, alloc, pool, &chunks)
 }
 
-/// The folds of numbers up to each, in one pass from the left, where the summaries put all of them.
+/// The folds of numbers up to each, in one pass from the left, if the summaries put all of them.
 fn put_line<S: Running>(alloc: Global, numbers: &[i64]) -> Result<Option<Vec<i64>>, AllocError>
     requires some { 0 < length numbers.now }
     ensures { IfOk result (λ line. IfSome line (λ v. AreValues (scan_at S.step numbers.now (length numbers.now) 1) (length numbers.now) v.items)) }
@@ -224,7 +224,7 @@ fn put_line<S: Running>(alloc: Global, numbers: &[i64]) -> Result<Option<Vec<i64
     Ok(Some(values))
 }
 
-/// The folds at all places, written into the room where it has as many.
+/// The folds at all places, written into the room if it has as many.
 fn fill_scans<
     S: Running + Copy + Drop + Send + Sync,
     R: Threads + Sync,
@@ -247,7 +247,7 @@ fn fill_scans<
     }
 }
 
-/// The folds of numbers up to each place of lines of so many neighbours, by one type of summaries.
+/// The folds of numbers up to each place of lines of neighbours, by one type of summaries.
 fn fill_summarized<
     S: Running + Copy + Drop + Send + Sync,
     R: Threads + Sync,
@@ -278,8 +278,7 @@ fn fill_summarized<
     fill_scans(rt, alloc, pool, &scans, room)
 }
 
-/// The folds of numbers up to each place of lines of so many neighbours, by a function whose folds have
-/// summaries.
+/// The folds of numbers up to each place of lines of neighbours, by a function whose folds have summaries.
 pub(crate) fn fill_by_summary<R: Threads + Sync, C: Cut + Sync, G: Gate + Sync>(
     rt: &R,
     alloc: Global,

@@ -28,8 +28,7 @@ module _ {W : Type 0} (semantics : Semantics W) where
     pub leads : Leads semantics state lines answers now
     pub written : Appends old new (text_of answers)
 
-  -- What a block of the text does, of at most so many bytes: bytes is the rest before it and the block, and rest is the rest
-  -- after it.
+  -- What a block of the text does, of at most `most` bytes. `bytes` is the rest before it and the block, and `rest` is the rest after it.
   abbrev pub IsBlockAnswered : W → W → ℕ → List ℕ → List ℕ → Option (List ℕ) → Option (List ℕ) → Result Next RunFault → Type 0
   IsBlockAnswered state now most bytes rest old new (Ok Go) = Progress state now bytes rest old new × IsUnbroken rest
   -- whatever follows, the whole run was written

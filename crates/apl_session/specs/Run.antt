@@ -10,8 +10,8 @@ pub record Answer (W : Type 0) : Type 0 where
   pub after : W
   pub ends : Bool
 
--- What an interpreter means: the answers that a line without its carriage return has in a state, and the lines that may
--- be refused for want of memory.
+-- What an interpreter means: the answers of a line without its carriage return in a state, and the lines that may be refused for want of
+-- memory.
 pub record Semantics (W : Type 0) : Type 1 where
   pub IsStep : W → List ℕ → Answer W → Type 0
   pub IsRefusable : List ℕ → Type 0

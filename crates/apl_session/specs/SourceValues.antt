@@ -7,8 +7,8 @@ pub record InValue (R : Type 0) : Type 0 where
   pub takes_left : ℕ
   pub failures : ℕ
 
--- a source in memory: the bytes that are still to come, how many it gives at most in a call, how many calls there are up to
--- the one that fails, if one is to fail, and how many failed
+-- A source in memory: the bytes that are still to come, how many it gives at most in a call, and how many calls failed. If one is to fail,
+-- it also has how many calls there are up to that.
 pub record MemorySourceValue : Type 0 where
   pub bytes : List ℕ
   pub most : ℕ

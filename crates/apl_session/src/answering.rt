@@ -18,8 +18,8 @@ use apl_tokens::constants_are_within_limits;
 use std::alloc::Global;
 use std::thread::Threads;
 
-/// Answers the lines of a source in a new session, and writes the answers to a sink: up to the first line whose answer ends
-/// the run, or to the end of the source.
+/// Answers the lines of a source in a new session, and writes the answers to a sink. It goes up to the first line whose answer ends the
+/// run, or to the end of the source.
 pub fn run<R: Threads + Sync, C: Cut + Sync, G: Gate + Sync, I: Source, S: Sink>(
     rt: &R,
     alloc: Global,

@@ -4,8 +4,8 @@ ghost use Rattle.apl_session.specs.Ending.{ending_status, ending_message};
 
 use super::interpreter::RunFault;
 
-/// The program's exit status, and its line for standard error without the LF: status 0 and no text at the end of a run,
-/// status 1 after a fault.
+/// The program's exit status, and its line for standard error without the LF. At the end of a run they are 0 and no text. After a fault the
+/// status is 1.
 pub fn ending(outcome: &Result<(), RunFault>) -> (u8, &'static str)
     ensures status { result.0 ≡ ending_status outcome.now }
     ensures message { result.1.now ≡ ending_message outcome.now }

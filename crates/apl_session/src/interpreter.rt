@@ -65,8 +65,7 @@ impl<'a, R: Threads + Sync, C: Cut + Sync, G: Gate + Sync> Interpreter<'a, R, C,
         }
     }
 
-    /// Answers a line. Where the write fails, the session is as after the line, and a beginning of the answer's text was
-    /// written.
+    /// Answers a line. If the write fails, the session is as after the line, and a beginning of the answer's text was written.
     pub(crate) fn answer<S: Sink>(&mut self, line: &[u8], sink: &mut S) -> Result<Next, RunFault>
         requires { IsUnbroken line.now }
         ensures answered { IsLineAnswered session_semantics self.old self.new line.now (S.taken sink.old) (S.taken sink.new) result }

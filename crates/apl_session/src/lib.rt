@@ -1,4 +1,7 @@
 //! Sessions: the lines of a source, answered one after the other.
+//!
+//! Below it: `apl_syntax` reads a line, `apl_eval` evaluates its statement, `apl_print` writes the answer, and `apl_pool` has the workers.
+//! Begin with `answering.rt`, whose `run` carries the theorem, and then `specs/Run.antt` and `specs/Step.antt`.
 #![tactic(auto)]
 
 mod answering;

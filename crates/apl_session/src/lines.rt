@@ -3,7 +3,7 @@ ghost use Rattle.std.specs.Prelude.{◌≡◌, ℕ, ◌++◌, ◌∷◌, IfSome,
 ghost use Rattle.apl_print.specs.Text.{line_feed};
 ghost use Rattle.apl_session.specs.Lines.{IsUnbroken, without_return};
 
-/// The first line and what follows its end, or nothing where no line ends.
+/// The first line and what follows its end, or nothing if no line ends.
 pub(crate) fn split_line(bytes: &[u8]) -> Option<(&[u8], &[u8])>
     ensures split { IfSome result (λ parts. (bytes.now ≡ parts.0.now ++ line_feed ∷ parts.1.now) × IsUnbroken parts.0.now) }
     ensures none { IfNone result (IsUnbroken bytes.now) }

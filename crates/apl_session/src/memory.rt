@@ -28,8 +28,8 @@ impl<'a> Model for MemorySource<'a> {
 }
 
 impl<'a> MemorySource<'a> {
-    /// A source of these bytes that gives at most `most` a call, and fails at the call of that number, counted from 1, if
-    /// one is given. It takes no memory.
+    /// A source of these bytes that gives at most `most` a call. If a number is given, it fails at the call with that number, counted from
+    /// 1. It takes no memory.
     pub fn new(bytes: &'a [u8], most: usize, fail_at: Option<u64>) -> MemorySource<'a>
         requires { 0 < most }
         ensures bytes { result.bytes ≡ bytes.now }

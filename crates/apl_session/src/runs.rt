@@ -70,8 +70,8 @@ fn answer_block<R: Threads + Sync, C: Cut + Sync, G: Gate + Sync, S: Sink>(
     }
 }
 
-/// Answers the text of a source, line by line, and writes the answers to a sink: up to the first line whose answer ends
-/// the run, or to the end of the source.
+/// Answers the text of a source, line by line, and writes the answers to a sink. It goes up to the first line whose answer ends the run, or
+/// to the end of the source.
 pub(crate) fn run_with<R: Threads + Sync, C: Cut + Sync, G: Gate + Sync, I: Source, S: Sink>(
     alloc: Global,
     interpreter: &mut Interpreter<'_, R, C, G>,

@@ -52,8 +52,8 @@ impl Session {
         }
     }
 
-    /// Answers a line, which is given without its LF, and writes the answer. Where the write fails, the session is as after
-    /// the line, and a beginning of the answer's text was written.
+    /// Answers a line, which is given without its LF, and writes the answer. If the write fails, the session is as after the line, and a
+    /// beginning of the answer's text was written.
     pub fn line<R: Threads + Sync, C: Cut + Sync, G: Gate + Sync, S: Sink>(
         &mut self,
         rt: &R,

@@ -9,13 +9,13 @@ pub struct SourceFault;
 
 /// Gives bytes, some at a time, until there are none.
 pub trait Source {
-    // the bytes that are still to come, where it tells them
+    // the bytes that are still to come, if it tells them
     ghost coming: { Self → Option (List ℕ) };
 
     // how many calls failed
     ghost failures: { Self → ℕ };
 
-    // at most so many calls can still give bytes
+    // how many calls can still give bytes at most
     ghost takes_left: { Self → ℕ };
 
     /// Gives the next bytes, in the front of the room, and says how many: 0 for a room that is not empty means the end.

@@ -54,7 +54,7 @@ fn places(rt: HostRuntime) -> Result<(), Fail> {
     Ok(())
 }
 
-/// A shape of more axes than lie in itself is copied, and has its places.
+/// A shape of more axes than it holds in itself is copied, and has its places.
 #[test]
 fn many_axes(rt: HostRuntime) -> Result<(), Fail> {
     let shape = Shape::new(rt.alloc(), &[1, 1, 1, 1, 1, 1, 1, 1, 1, 1, 1, 1, 2, 1, 3])?;

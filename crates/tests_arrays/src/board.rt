@@ -86,7 +86,7 @@ fn split_shares(board: &Board, seat: BoardSeat, share: u8) -> ([u8; 2], BoardSea
     }
 }
 
-/// Every share that can be cut off a seat with all 64, and those that can't, which leave it as it was: one can be cut off it then.
+/// Every share that can be cut off a seat with all 64, and those that can't. These leave it as it was: one can be cut off it then.
 #[test]
 fn board_split(rt: HostRuntime) -> Result<(), Fail> {
     for share in 0u8..=65 {
@@ -126,7 +126,7 @@ fn await_place(board: &Board, seat: &mut BoardSeat, place: u32)
 type Drained = Result<(BoardSeat, Vec<u32>), AllocError>;
 
 /// Reports a place after the one above it, and claims until no piece is left once the places 9, 8 and 7 are
-/// reported. So the threads claim at the same time, where they run at the same time.
+/// reported. So threads that run at the same time claim at the same time.
 fn drain(alloc: Global, board: &Board, mut seat: BoardSeat, place: u32) -> Drained
     requires board { IsSeatOf board.now seat }
     requires place { place ≤ 9 }

@@ -1,8 +1,8 @@
 //! Calls of functions of arrays, with what they answer, as text.
 //!
-//! A row is `CALL → ANSWER`, with the origin 1, or 0 behind `)ORIGIN 0`. A call is `F (..)`, `(..) F (..)`, `(..)[(..);(..)]` or
-//! `(..)[(..);(..)] ← (..)`, as a line of a session has it. Brackets of a scalar, which has no axes, are `[none]`. `⍪` joins along the first
-//! axis. The answer is an array or the name of a report.
+//! A row is `CALL → ANSWER`, with the origin 1, or 0 after `)ORIGIN 0`. A call is `F (..)`, `(..) F (..)`, `(..)[(..);(..)]` or
+//! `(..)[(..);(..)] ← (..)`, as a line of a session has it. Brackets of a scalar, which has no axes, are `[none]`. `⍪` joins along the
+//! first axis. The answer is an array or the name of a report.
 
 use crate::notation::{array_of, last_array, number_of, scalar_of, wanted_of};
 use apl_array::{Array, Axis, Origin};
@@ -59,7 +59,7 @@ pub(crate) struct Row {
     pub(crate) wanted: Result<Array, OpFault>,
 }
 
-/// The symbols of a function, and the axis that stands behind them in brackets.
+/// The symbols of a function, and the axis that is after them in brackets.
 fn symbols_of(alloc: Global, text: &str, origin: Origin) -> Option<(Vec<char>, Option<Axis>)> {
     let Some((name, axis)) = text.trim().split_once('[') else {
         return Some((text.trim().chars().collect(alloc).ok()?, None));
@@ -134,7 +134,7 @@ fn slots_of(alloc: Global, text: &str) -> Option<Vec<Option<Array>>> {
     Some(slots)
 }
 
-/// A selection from an array, or a replacement in it, from behind its opening bracket on.
+/// A selection from an array, or a replacement in it, from after its opening bracket on.
 fn indexed(alloc: Global, left: Array, text: &str, origin: Origin) -> Option<Call> {
     let (inside, rest) = text.split_once(']')?;
     let slots = slots_of(alloc, inside)?;

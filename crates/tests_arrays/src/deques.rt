@@ -59,10 +59,10 @@ impl Start {
     }
 }
 
-/// What an end took, or the want of memory.
+/// What an end took, or out of memory.
 type Pieces = Result<Vec<u32>, AllocError>;
 
-/// The owner's share: it pushes so many pieces, and takes until there is none, once the thieves have come.
+/// The owner's share: it pushes `pieces` pieces, and takes until there is none, once the thieves have come.
 fn push_and_pop(alloc: Global, start: &Start, hand: &mut Hand, pieces: u32) -> Pieces {
     let mut taken = Vec::new(alloc);
     for piece in 0..pieces {

@@ -181,7 +181,7 @@ fn outcome_of(text: &str) -> Option<Result<i64, Fault>> {
     Some(Ok(number_of(text)?))
 }
 
-/// The function that a symbol stands for.
+/// The function of a symbol.
 fn function_of(symbol: &str) -> Option<Prim> {
     scalar_of(symbol.chars().next()?)
 }

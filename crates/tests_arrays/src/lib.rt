@@ -1,5 +1,7 @@
-//! Tests of arrays, of the scalar and the structural functions, of reductions and products, of printed values, and of what workers
-//! share: boards, deques and rooms.
+//! Tests of arrays, of the functions of arrays, of printed values, and of what workers share: boards, deques and rooms.
+//!
+//! Below it: the crates of these, which it reaches by public items alone.
+//! Begin with `notation.rt` and `calls.rt`, which say how a row of a table is written, and then `structures.rt`.
 #![tactic(auto)]
 
 #[cfg(test)]

@@ -106,7 +106,7 @@ fn list_of(alloc: Global, text: &str) -> Option<Vec<i64>> {
     Some(items)
 }
 
-/// So many numbers: those of a list, again and again.
+/// `count` numbers: those of a list, again and again.
 fn repeated(alloc: Global, count: usize, list: &[i64]) -> Option<Vec<i64>> {
     let mut items = Vec::new(alloc);
     for place in 0..count {
@@ -115,7 +115,7 @@ fn repeated(alloc: Global, count: usize, list: &[i64]) -> Option<Vec<i64>> {
     Some(items)
 }
 
-/// The numbers of an array of so many elements.
+/// The numbers of an array of `count` elements.
 fn numbers_of(alloc: Global, count: usize, text: &str) -> Option<Vec<i64>> {
     if let Some((rows, row)) = text.split_once(" ∘.+ ") {
         return sums_of(alloc, run_of(rows)?, run_of(row)?);
@@ -126,7 +126,7 @@ fn numbers_of(alloc: Global, count: usize, text: &str) -> Option<Vec<i64>> {
     repeated(alloc, count, list_of(alloc, text)?.as_slice())
 }
 
-/// The characters of an array of so many elements.
+/// The characters of an array of `count` elements.
 fn characters_of(alloc: Global, count: usize, text: &str) -> Option<Vec<char>> {
     let characters: Vec<char> = text.chars().collect(alloc).ok()?;
     let mut items = Vec::new(alloc);
@@ -164,7 +164,7 @@ pub(crate) fn array_of(alloc: Global, text: &str) -> Option<Array> {
     Some(Array::ints(shape, items))
 }
 
-/// The array that a text ends with, from behind its opening parenthesis on.
+/// The array that a text ends with, from after its opening parenthesis on.
 pub(crate) fn last_array(alloc: Global, text: &str) -> Option<Array> {
     array_of(alloc, text.strip_suffix(')')?)
 }
@@ -193,7 +193,7 @@ pub(crate) fn wanted_of(alloc: Global, text: &str) -> Option<Result<Array, OpFau
     }
 }
 
-/// The scalar function that a symbol stands for.
+/// The scalar function of a symbol.
 pub(crate) fn scalar_of(symbol: char) -> Option<Prim> {
     Some(match symbol {
         '+' => Prim::Plus,

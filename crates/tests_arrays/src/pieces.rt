@@ -2,7 +2,7 @@
 //! each.
 use apl_pool::{Cut, Every};
 
-/// Each piece but the last has this length, or a piece ends behind each place whose bit is set.
+/// Each piece but the last has this length, or a piece ends after each place whose bit is set.
 #[derive(Clone, Copy, Drop)]
 pub(crate) enum Pieces {
     Every(usize),

@@ -22,7 +22,7 @@ fn texts_of<'a>(alloc: Global, row: &'a str) -> Option<(String, &'a str)> {
     Some((marked, wanted.strip_prefix(' ').unwrap_or(wanted)))
 }
 
-/// Checks the rows of a table, and that there are so many.
+/// Checks the rows of a table, and how many there are.
 fn check(rt: &impl Abort, alloc: Global, table: &str, count: usize) -> Result<(), Fail> {
     let rows = rows_of(alloc, table)?;
     assert_eq!(rt; rows.len(), count);

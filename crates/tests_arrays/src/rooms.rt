@@ -97,7 +97,7 @@ fn fill_apart<T: Send, F: Task<T> + Sync, R: Threads + Sync>(
     )
 }
 
-/// What two threads were answered, and then the seat of both, and the marks, or the want of memory.
+/// What two threads were answered, and then the seat of both, and the marks; or out of memory.
 fn fill_by_two<T: Send, F: Task<T> + Sync, R: Threads + Sync>(
     rt: &R,
     alloc: Global,
@@ -123,7 +123,7 @@ fn fill_by_two<T: Send, F: Task<T> + Sync, R: Threads + Sync>(
     (row, Ok((even, odd, again, marks)))
 }
 
-/// Ten places, filled by two threads: those of the stopped piece before the place are written, and those behind it stay.
+/// Ten places, filled by two threads: those of the stopped piece before the place are written, and those after it stay.
 #[test]
 fn rooms_by_two(rt: HostRuntime) -> Result<(), Fail> {
     let alloc = rt.alloc();

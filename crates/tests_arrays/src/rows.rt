@@ -64,7 +64,8 @@ impl FoldedRows for Ones<'_> {
 /// A row or a place that no rows have.
 const NOWHERE: usize = MOST_PLACES;
 
-/// Rows of a function, how many places each has, the place of a fault, what comes in to each row, and the folds, or why there are none.
+/// Rows of a function: how many places each has, the place of a fault, and what comes in to each row. Then the folds, or why there are
+/// none.
 type Case = (
     Prim,
     usize,

@@ -88,7 +88,7 @@ fn consecutive(items: &[i64], is_from_last: bool) -> Option<Consecutive> {
     all
 }
 
-/// Whether items are so many, and each sum of consecutive ones is in the range or not, in both nestings.
+/// Whether there are `count` items, and each sum of consecutive ones is in the range or not, in both nestings.
 fn tells(items: &[i64], count: u32, is_lawful: bool) -> bool {
     let told = |all: Option<Consecutive>| match all {
         None => false,

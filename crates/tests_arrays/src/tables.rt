@@ -119,7 +119,7 @@ pub(crate) fn is_answer(answer: Result<Array, OpFault>, wanted: Result<Array, Op
     }
 }
 
-/// Checks the rows of a table on a pool, and that there are so many.
+/// Checks the rows of a table on a pool, and how many there are.
 pub(crate) fn check<R: Abort + Threads + Sync>(
     rt: &R,
     alloc: Global,

@@ -60,7 +60,7 @@ fn described(alloc: Global, line: &[u8]) -> Result<String, AllocError> {
     Ok(text)
 }
 
-/// Lines and their tokens. A constant is told by its elements and its rank.
+/// Lines and their tokens. A constant is written as its elements and its rank.
 const LINES: &str = r"
     : →
     :    →
@@ -79,7 +79,7 @@ const LINES: &str = r"
     :∆1∘⍙ → 0:∆1;2:Jot;3:⍙;
     ";
 
-/// Lines with functions, each of which is told by its glyph's name.
+/// Lines with functions, each of which is written as its glyph's name.
 const GLYPHS: &str = r"
     :2+3 4 5 → 0: 2 rank 0;1:Plus;2: 3 4 5 rank 1;
     :a×B-c → 0:a;1:Times;2:B;3:Minus;4:c;

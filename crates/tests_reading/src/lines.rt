@@ -1,4 +1,4 @@
-//! What lines read as. Carets, numerals and further commands stand with the sessions.
+//! What lines read as. Carets, numerals and further commands are with the sessions.
 use crate::tables::{Table, rows_of};
 use apl_syntax::{Command, Line, ReadStop, one_reading, read, some_reading};
 use std::alloc::{AllocError, Global};

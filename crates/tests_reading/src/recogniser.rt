@@ -1,6 +1,6 @@
 //! The grammar as rules over characters, one for each class of lexemes, and plain slow recognisers of them.
 
-/// What stands in a rule.
+/// What is in a rule.
 #[derive(Clone, Copy, PartialEq, Eq)]
 pub(super) enum Symbol {
     Token(char),
@@ -139,7 +139,7 @@ pub(super) fn ends_some(symbol: Symbol, characters: &[char], depth: u32) -> bool
     for rule in rules(symbol) {
         for place in 0..rule.len() {
             for end in 0..characters.len() + 1 {
-                // a symbol that ends itself with the same characters tells nothing new
+                // a symbol that ends itself with these characters tells nothing new
                 if (rule[place] != symbol || end < characters.len())
                     && derive(&rule[place + 1..], &characters[end..], 64)
                     && ends_some(rule[place], &characters[..end], depth - 1)

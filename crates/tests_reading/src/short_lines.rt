@@ -7,12 +7,12 @@ use std::ops::Range;
 use std::process::Abort;
 use std::test::Fail;
 
-/// One symbol for each class of tokens. A letter stands for a name, and a digit for a constant.
+/// One symbol for each class of tokens. A letter is a name, and a digit a constant.
 const CLASSES: [char; 19] = [
     '1', 'A', '+', '*', '~', '⍴', '⌽', ',', '↑', '/', '\\', '.', '∘', '←', '(', ')', '[', ']', ';',
 ];
 
-/// The list of so many classes with this number. Without its first class it has the number by 19.
+/// The list of `length` classes with this number. Without its first class it has the number by 19.
 fn list_of(alloc: Global, length: usize, number: usize) -> Result<Vec<char>, AllocError> {
     let mut classes = Vec::new(alloc);
     let mut rest = number;
@@ -23,8 +23,8 @@ fn list_of(alloc: Global, length: usize, number: usize) -> Result<Vec<char>, All
     Ok(classes)
 }
 
-/// A line of tokens of these classes, each with a blank behind it, and their columns. A constant is a text, since two
-/// numerals would be one constant.
+/// A line of tokens of these classes, each with a blank after it, and their columns. A constant is a text, since two numerals would be one
+/// constant.
 fn line_of(alloc: Global, classes: &[char]) -> Result<(String, Vec<usize>), AllocError> {
     let mut line = String::new(alloc);
     let mut columns = Vec::new(alloc);
@@ -67,8 +67,8 @@ fn read_by_rules(classes: &[char], columns: &[usize], fault: Option<usize>) -> A
     }
 }
 
-/// The first of the lines of so many tokens with these numbers that does not read as the rules say. The shortest faults of
-/// the lists are handed out, and those of the lists of one class less handed in.
+/// The first of the lines of `length` tokens with these numbers that does not read as the rules say. The shortest faults of the lists are
+/// handed out, and those of the lists of one class less handed in.
 fn first_misread(
     alloc: Global,
     length: usize,

@@ -21,7 +21,7 @@ fn countdown_is_due_at_its_call_alone(rt: HostRuntime) {
     }
 }
 
-/// A slice as a writer takes what there is room for, and then nothing.
+/// A slice as a writer takes as much as it has room for, and then nothing.
 #[test]
 fn write_of_nothing_is_a_failure(rt: HostRuntime) {
     let mut room = [0; 3];
@@ -71,7 +71,7 @@ fn memory_source_fails_at_its_call_alone(rt: HostRuntime) {
     assert!(rt; source.take(&mut room) == Ok(0));
 }
 
-/// Reads bytes or keeps those that are written, at most so many a call, and fails at one call. The calls are counted.
+/// Reads bytes or keeps those that are written, at most `most` a call, and fails at one call. The calls are counted.
 #[derive(Drop)]
 struct Flaky<'a, B> {
     bytes: B,
@@ -131,7 +131,7 @@ impl<'a> io::Write for Flaky<'a, Vec<u8>> {
     }
 }
 
-/// So many bytes are taken and put here.
+/// How many bytes are taken and put here.
 const MANY: usize = 20_000;
 
 /// A take is one read. The fault comes once, at the read that fails, and the bytes go on after it.
@@ -191,8 +191,8 @@ fn puts_to_a_writer_that_fails_once(rt: HostRuntime) -> Result<(), Fail> {
     Ok(())
 }
 
-/// A reader of lines of two bytes, and a writer of their answers, which are as long: how many bytes were read that are
-/// not written yet, and whether a line was read while there were some.
+/// A reader of lines of two bytes, and a writer of their answers, which are as long. It has how many bytes were read that are not written
+/// yet, and whether a line was read while there were some.
 #[derive(Drop)]
 struct Turns<'a> {
     lines: &'a [u8],

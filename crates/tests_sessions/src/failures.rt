@@ -23,7 +23,7 @@ fn written<R: Threads + Sync>(
     (outcome, sink)
 }
 
-/// A name without a value is told with the line as it came.
+/// A name without a value is reported with the line as it came.
 #[test]
 fn answers_lines_across_blocks(rt: HostRuntime) -> Result<(), Fail> {
     let alloc = rt.alloc();

@@ -110,7 +110,7 @@ impl Gate for Holding {
     }
 }
 
-/// A pass of so many workers over so many pieces of this length, two of which are held. Where it is known who has these, it says so.
+/// A pass over some pieces of one length, two of which are held. It says who has these, where that is known.
 #[derive(Clone, Copy)]
 struct Held {
     workers: u8,
@@ -243,8 +243,8 @@ const FUNCTIONS: &str = r"
 /// What the structural functions get: numbers of axis lengths, no elements, and one row of all elements of `A`.
 const ARGUMENTS: &str = "Z←T⍴''\nM←S⍴A\n";
 
-/// Structural functions of `A`, whose elements are all 1, of its count `N`, of the shape `S` of `M`, which is its elements as
-/// a row, and of `Z` without a row. Each has as many elements as `A`; here is what it is for two of them.
+/// Structural functions of `A`, whose elements are all 1, and of its count `N`. `M` is its elements as a row, of shape `S`, and `Z` has no
+/// row. Each result has as many elements as `A`; here is what it is for two of them.
 const STRUCTURES: &str = r"
     S⍴A → 1 1⏎
     N⍴3 → 3 3⏎
@@ -300,7 +300,7 @@ const STRUCTURES: &str = r"
     M[;]←1 →
     ";
 
-/// What the reductions get: so many items for each element of `A`, as rows and as columns.
+/// What the reductions get: some items for each element of `A`, as rows and as columns.
 const ITEMS: &str = "C←V⍴A\nD←W⍴A\n";
 
 /// Reductions and products of `A`, whose elements are all 1, by each function. Each has as many elements as `A`; here is what it
@@ -424,7 +424,8 @@ const REDUCTIONS: &str = r"
     R+.×C → 3 3⏎
     ";
 
-/// The functions whose folds are cut along the axis, of `F`, whose elements are all 1: one result; here is what it is for three items.
+/// The functions whose folds are cut along the axis, of `F`, whose elements are all 1. They have one result; here is what it is for three
+/// items.
 const CUT_FOLDS: &str = r"
     +/F → 3⏎
     +⌿F → 3⏎
@@ -548,7 +549,7 @@ fn meet_at_each<R: Threads + Sync>(
     Ok(())
 }
 
-/// The line that makes `A` so many numbers 1.
+/// The line that makes `A` a vector of `count` ones.
 fn ones(alloc: Global, count: usize) -> Result<String, AllocError> {
     let mut line = String::from_str(alloc, "A←'x'='")?;
     for _ in 0..count {
@@ -662,7 +663,7 @@ fn each_reduction_uses_the_pool(rt: HostRuntime) -> Result<(), Fail> {
     Ok(())
 }
 
-/// The line that makes `F` so many numbers 1, by a constant.
+/// The line that makes `F` a vector of `count` ones, by a constant.
 fn items(alloc: Global, count: usize) -> Result<String, AllocError> {
     let mut line = String::from_str(alloc, "F←")?;
     for _ in 0..count {

@@ -21,7 +21,7 @@ use structures::{
 };
 use tables::{CARETS, COMMANDS, LINES, NUMERALS, OPERANDS, SCALARS, TEXTS, UNLISTED, VALUES};
 
-/// Whether a session writes exactly this on a pool, by takes and puts of at most so many bytes.
+/// Whether a session writes exactly this on a pool, by takes and puts of at most `most` bytes.
 fn writes<R: Threads + Sync>(
     rt: &R,
     alloc: Global,

@@ -1,7 +1,7 @@
 //! Sessions, and what they write, as text.
 //!
 //! A table has sessions, with an empty line between two. Of a session each line that is typed has `:` before it, and each line that is
-//! written has `|`. The last one that is typed has `.`, where it has no end. Behind blanks at the end of a line stands `⏎`.
+//! written has `|`. The last one that is typed has `.`, if it has no end. After blanks at the end of a line is `⏎`.
 //!
 //! A table of lines has a row `LINE → TEXT` for each line that is typed, where `⏎` ends each line of the text that is written.
 
@@ -23,7 +23,7 @@ fn push_line(lines: &mut String, line: &str) -> Result<(), AllocError> {
     lines.push('\n')
 }
 
-/// The transcript that stands in lines one after the other.
+/// The transcript that is in lines one after the other.
 fn transcript_of(alloc: Global, lines: &str) -> Result<Transcript, Fail> {
     let mut session = String::new(alloc);
     let mut text = String::new(alloc);

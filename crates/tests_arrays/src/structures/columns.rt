@@ -249,7 +249,7 @@ pub(super) const FAULTS: &str = "\
     ÷/ (3 3: 1 1 1 ¯9223372036854775808 ¯1 1 1 5 0) → LIMIT ERROR
     ";
 
-/// The same at large sizes.
+/// As above, at large sizes.
 pub(super) const LARGE: &str = "\
     ÷⌿ (2 131072: 70000⍴1, ¯9223372036854775808, 60999⍴1, 5, 70071⍴1, ¯1, 60999⍴1, 0, 71⍴1) → LIMIT ERROR
     ÷⌿ (2 131072: 70000⍴1, 5, 60999⍴1, ¯9223372036854775808, 70071⍴1, 0, 60999⍴1, ¯1, 71⍴1) → DOMAIN ERROR

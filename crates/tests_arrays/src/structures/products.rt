@@ -1,6 +1,7 @@
 //! Outer and inner products, by how many rows, items and columns there are.
-/// Few and many rows, items and columns, of numbers known from their places: row `i` has `3 i + j` at item `j`, and column `k` has `j + 7 k`,
-/// or one of them has `j` alone. Of `n` items the sum of all `j` is `s = n (n - 1) / 2`, and that of their squares `q = n (n - 1) (2 n - 1) / 6`.
+/// Few and many rows, items and columns, of numbers known from their places. Row `i` has `3 i + j` at item `j`, and column `k` has `j + 7
+/// k`, or one of them has `j` alone. Of `n` items the sum of all `j` is `s = n (n - 1) / 2`, and that of their squares `q = n (n - 1) (2 n
+/// - 1) / 6`.
 /// So `+.×` gives `q + 3 i s` or `q + 7 k s`, `⌊.+` gives `3 i + 7 k`, at item 0, and `+.-` gives `n (3 i - 7 k)`.
 pub(super) const FEW: &str = "\
     ⍝ 1 row, 1 item, 1 column

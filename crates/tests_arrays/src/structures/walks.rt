@@ -1,5 +1,5 @@
-//! Results that are written line by line, at the seams: lines of 1, 7, 8 and 9 elements, axes of one index between others, axes that lie
-//! together and that do not, nine and fifteen axes. The values are read from index lists, element by element.
+//! Results that are written line by line, at the seams. There are lines of 1, 7, 8 and 9 elements, and axes of one index between others.
+//! Axes are together and apart, and there are nine and fifteen of them. The values are read from index lists, element by element.
 
 /// Axes that are permuted, and diagonals.
 pub(super) const TURNED: &str = "\
@@ -27,7 +27,7 @@ pub(super) const TURNED: &str = "\
     (15: 2 1 3 4 5 6 7 8 9 10 11 12 13 14 15) ⍉ (2 3 1 1 1 1 1 1 1 1 1 1 1 1 2: 1+⍳12) → (3 2 1 1 1 1 1 1 1 1 1 1 1 1 2: 1 2 7 8 3 4 9 10 5 6 11 12)
     ";
 
-/// What is taken and dropped, with fills before and behind.
+/// What is taken and dropped, with fills before and after.
 pub(super) const PARTS: &str = "\
     (2: 9 9) ↑ (7 7: 1+⍳49) → (9 9: 1 2 3 4 5 6 7 0 0 8 9 10 11 12 13 14 0 0 15 16 17 18 19 20 21 0 0 22 23 24 25 26 27 28 0 0 29 30 31 32 33 34 35 0 0 36 37 38 39 40 41 42 0 0 43 44 45 46 47 48 49 0 0 0 0 0 0 0 0 0 0 0 0 0 0 0 0 0 0 0 0)
     (2: ¯9 9) ↑ (7 8: 1+⍳56) → (9 9: 0 0 0 0 0 0 0 0 0 0 0 0 0 0 0 0 0 0 1 2 3 4 5 6 7 8 0 9 10 11 12 13 14 15 16 0 17 18 19 20 21 22 23 24 0 25 26 27 28 29 30 31 32 0 33 34 35 36 37 38 39 40 0 41 42 43 44 45 46 47 48 0 49 50 51 52 53 54 55 56 0)
