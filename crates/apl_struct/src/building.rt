@@ -15,7 +15,7 @@ ghost use Rattle.apl_struct.specs.Building.{shape_of_row, ravel_row, reshape_sou
 
 use crate::arguments::numbers_among;
 use crate::workers::Workers;
-use apl_answer::{Element, OpFault, array_of_elements, fill_array};
+use apl_answer::{Element, OpFault, fill_array};
 use apl_array::{Array, MOST_AXES, MOST_ELEMENTS, Origin, Shape, places_match_index_lists};
 use apl_pool::{Cut, Fault, Gate, Kernel, Pool};
 use apl_walk::{ByLines, Round};
@@ -85,8 +85,9 @@ pub fn ravel<R: Threads + Sync, C: Cut + Sync, G: Gate + Sync>(
 ) -> Result<Array, OpFault>
     ensures { Answers (ravel_row b.now) result }
 {
-    let shape = vector_shape(alloc, b.shape().count());
-    array_of_elements(rt, alloc, pool, shape, b)
+    let workers = Workers { rt, alloc, pool };
+    let count = b.shape().count();
+    workers.repeat(vector_shape(alloc, count), b)
 }
 
 impl<R: Threads + Sync, C: Cut + Sync, G: Gate + Sync> Workers<'_, R, C, G> {

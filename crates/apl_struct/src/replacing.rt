@@ -104,26 +104,26 @@ impl<R: Threads + Sync, C: Cut + Sync, G: Gate + Sync> Workers<'_, R, C, G> {
         values: &[T],
         last: &Map,
         outer: &[Map],
-        lines: usize,
+        count: usize,
         step: usize,
     ) -> Result<Array, OpFault>
         requires all { length elements.now ≡ count_of shape }
         requires some { 0 < count_of shape }
         requires few { length outer.now ≤ MOST_MAPS }
-        requires lines { lines ≡ extent_of outer.now }
-        requires most { extent_of (last.now ∷ outer.now) ≤ MOST_PLACES }
+        requires count { count ≡ extent_of (last.now ∷ outer.now) }
+        requires most { count ≤ MOST_PLACES }
         requires step { step ≤ 1 }
-        requires within { (place : ℕ) → place < extent_of (last.now ∷ outer.now) → IsReached (count_of shape) (walked (last.now ∷ outer.now) place) }
+        requires within { (place : ℕ) → place < count → IsReached (count_of shape) (walked (last.now ∷ outer.now) place) }
         ensures { (element : List ℕ → Elem) → ((place : ℕ) → place < count_of shape
             → value_numbered (map T.elem_of elements.now) (map T.elem_of values.now) (fill_of T.kind)
-            (last_number (λ p. reached (walked (last.now ∷ outer.now) p)) step place (extent_of (last.now ∷ outer.now))) place ≡ element (index_at shape place))
+            (last_number (λ p. reached (walked (last.now ∷ outer.now) p)) step place count) place ≡ element (index_at shape place))
             → IsAnswerOf (answer_of shape (λ index. Ok (element index)) T.kind) result }
     {
         let mut all = self.copied(elements)?;
         write_lines(
             last,
             outer,
-            lines,
+            count / last.extent(),
             step,
             values,
             T::fill(),
@@ -140,19 +140,19 @@ impl<R: Threads + Sync, C: Cut + Sync, G: Gate + Sync> Workers<'_, R, C, G> {
         b: &Array,
         last: &Map,
         outer: &[Map],
-        lines: usize,
+        count: usize,
         step: usize,
     ) -> Result<Array, OpFault>
         requires all { count_of a.now.shape ≡ count_of shape }
         requires some { 0 < count_of shape }
         requires few { length outer.now ≤ MOST_MAPS }
-        requires lines { lines ≡ extent_of outer.now }
-        requires most { extent_of (last.now ∷ outer.now) ≤ MOST_PLACES }
+        requires count { count ≡ extent_of (last.now ∷ outer.now) }
+        requires most { count ≤ MOST_PLACES }
         requires step { step ≤ 1 }
-        requires within { (place : ℕ) → place < extent_of (last.now ∷ outer.now) → IsReached (count_of shape) (walked (last.now ∷ outer.now) place) }
+        requires within { (place : ℕ) → place < count → IsReached (count_of shape) (walked (last.now ∷ outer.now) place) }
         requires kinds { a.now.kind ≡ b.now.kind }
         ensures { (element : List ℕ → Elem) → ((place : ℕ) → place < count_of shape
-            → element_numbered a.now b.now (last_number (λ p. reached (walked (last.now ∷ outer.now) p)) step place (extent_of (last.now ∷ outer.now))) place ≡ element (index_at shape place))
+            → element_numbered a.now b.now (last_number (λ p. reached (walked (last.now ∷ outer.now) p)) step place count) place ≡ element (index_at shape place))
             → IsAnswerOf (answer_of shape (λ index. Ok (element index)) a.now.kind) result }
     {
         // An array that was asked something is known to be lawful.
@@ -160,12 +160,12 @@ impl<R: Threads + Sync, C: Cut + Sync, G: Gate + Sync> Workers<'_, R, C, G> {
         if let Some(elements) = a.numbers()
             && let Some(values) = b.numbers()
         {
-            return self.replace_elements(shape, elements, values, last, outer, lines, step);
+            return self.replace_elements(shape, elements, values, last, outer, count, step);
         }
         if let Some(elements) = a.characters()
             && let Some(values) = b.characters()
         {
-            return self.replace_elements(shape, elements, values, last, outer, lines, step);
+            return self.replace_elements(shape, elements, values, last, outer, count, step);
         }
         unreachable!()
     }
@@ -234,10 +234,7 @@ impl<R: Threads + Sync, C: Cut + Sync, G: Gate + Sync> Workers<'_, R, C, G> {
         let maps = walk.into_maps()?;
         let step = value_step(b);
         match maps.as_slice() {
-            [last, outer @ ..] => {
-                let lines = count / last.extent();
-                self.replace_walk(shape, a, b, last, outer, lines, step)
-            }
+            [last, outer @ ..] => self.replace_walk(shape, a, b, last, outer, count, step),
             [] => unreachable!(),
         }
     }

@@ -26,6 +26,6 @@ returns g c =
     let P : List ℕ → Type 0 = λ s. IsAnswerOf (answer_of s (λ index. Ok (element_in b (reshape_source (size_of b) (place_of s index)))) b.kind) c.repeat.result in
     let repeated : P c.in_ok-shape.shape =
     c.repeat.ensures _ (λ place inside.
-    element_again b (count_of c.in_ok-shape.shape) place c.shape.ensures.lawful (rw (sym shapes) at fits) inside
+    element_again b (count_of c.in_ok-shape.shape) place c.shape-2.ensures.lawful (rw (sym shapes) at fits) inside
     ∙ ap (λ p. element_in b (reshape_source (size_of b) p)) (sym (c.places_match_index_lists.ensures.same_place c.in_ok-shape.shape place inside))) in
     answered row.checks (answer_of row.shape row.outcome row.kind) c.repeat.result (list, (c.in-Some.ensures.0, (natural, (lawful, (fits, tt))))) (subst P shapes repeated)

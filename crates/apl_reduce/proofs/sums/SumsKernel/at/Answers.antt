@@ -3,8 +3,8 @@ use Rattle.std.proofs.lemmas.Int.{to_z-of_z}
 use Rattle.apl_reduce.proofs.Adding.{inner_sum}
 use Rattle.apl_reduce.proofs.sums.SumsKernel.at.Goals as goal
 
-pub returns-then : goal.returns-then
-returns-then c =
+pub returns-then-self : goal.returns-then-self
+returns-then-self c =
     let sums = c.args.self.now in
     let range = c.range_is_decided.ensures in
     let read : to_z w64 (of_z w64 c.narrow_sum_at.result) ≡ c.narrow_sum_at.result = grind (arith, to_z-of_z) in

@@ -1,5 +1,6 @@
 use Rattle.std.proofs.Common.{◌≡◌, ℕ, List, Ok, Some, ◌<◌, ◌≤◌, ◌+◌, ◌*◌, drop, take, slice_index, slice_index_or, slice_set, length, map, pos, ap, sym, subst, ◌∙◌, arith, rules}
 use Rattle.std.specs.Prelude.{remove}
+use Rattle.std.proofs.Math.Nat.{le-mul_of_pos_right}
 use Rattle.apl_array.specs.Array.{element_at}
 use Rattle.apl_array.specs.Shape.{IsIndexOf, count_of, place_of, index_at}
 use Rattle.apl_answer.specs.Pointwise.{answer_of, IsAnswerOf}
@@ -19,6 +20,18 @@ returns-then-count-eq0 g c = λ element told.
     let P : List ℕ → Type 0 = λ s. IsAnswerOf (answer_of s (λ index. Ok (element index)) c.args.b.now.kind) c.empty.result in
     subst P shapes (c.empty.ensures element)
 
+pub invariant_of-rotate_lines : goal.invariant_of-rotate_lines
+invariant_of-rotate_lines g c =
+    let steps = c.steps_along-length in
+    let zs = c.args.rotations.now in
+    let by = c.as_slice-by.result.now in
+    let by_is : by ≡ map (rotation_of steps.result.length) zs = search rules in
+    record {
+      some = steps.ensures.length_some;
+      most = omega (arith, le-mul_of_pos_right steps.result.length steps.ensures.inner_some, steps.ensures.line_most, c.count.ensures.lawful.count);
+      below = λ line. rw by_is (rotation_at_line_most steps.result.length zs line);
+    }
+
 pub returns : goal.returns
 returns g c = λ element told.
     let b = c.args.b.now in
@@ -29,11 +42,12 @@ returns g c = λ element told.
     let replaced = c.replaced_index_has_place.ensures in
     let n = slice_index b.shape k in
     let inner = count_of (drop (k + 1) b.shape) in
-    let by = c.as_slice-by-2.result.now in
+    let by = c.as_slice-by.result.now in
     let steps = c.steps_along-length in
     let shapes : c.in_ok-shape.shape ≡ b.shape = search rules in
     let n_is : steps.result.length ≡ n = steps.ensures.length ∙ ap (λ s. slice_index s k) shapes in
-    let inner_is : steps.result.inner ≡ inner = steps.ensures.inner in
+    let argument : c.shape-3.result.now ≡ b.shape = search rules in
+    let inner_is : steps.result.inner ≡ inner = steps.ensures.inner ∙ ap (λ s. count_of (drop (k + 1) s)) argument in
     let by_is : by ≡ map (rotation_of n) zs = (let plain : by ≡ map (rotation_of steps.result.length) zs = search rules in plain) ∙ ap (λ m. map (rotation_of m) zs) n_is in
     let P : List ℕ → Type 0 = λ s. IsAnswerOf (answer_of s (λ index. Ok (element index)) b.kind) c.rotate_lines.result in
     subst P shapes
