@@ -2,6 +2,7 @@
 ghost use Rattle.std.specs.Prelude.{ℕ, ◌≤◌, length};
 ghost use Rattle.apl_pool.specs.declared.kernel.TheConstants.{MOST_PLACES};
 
+use crate::arithmetic::likely_value;
 use crate::elements::{dyadic_elements, likely_elements};
 use crate::function_types::Function;
 use crate::operands::Operand;
@@ -32,7 +33,7 @@ impl<F: Function> Results for NumberKernel<'_, F> {
 
     #[inline(always)]
     fn likely_at(&self, place: usize) -> (i64, bool) {
-        F::likely_monadic(self.numbers[place])
+        likely_value(self.result_at(place))
     }
 }
 
