@@ -33,15 +33,7 @@ pub trait Function {
     fn identity() -> Option<i64>
         ensures { result ≡ identity_of FUNCTION };
 
-    /// A number, and whether it is sure to be the result of the monadic function. It takes no memory.
-    #[inline(always)]
-    fn likely_monadic(right: i64) -> (i64, bool)
-        ensures { result.1 ≡ true → monadic_number FUNCTION right ≡ Ok result.0 }
-    {
-        likely_value(Self::apply_monadic(right))
-    }
-
-    /// A number, and whether it is sure to be the result of the dyadic function. It takes no memory.
+    /// A likely result of the dyadic function: a number, and whether it is sure to be the result. It takes no memory.
     #[inline(always)]
     fn likely(left: i64, right: i64) -> (i64, bool)
         ensures { result.1 ≡ true → dyadic_numbers FUNCTION left right ≡ Ok result.0 }
@@ -49,13 +41,13 @@ pub trait Function {
         likely_value(Self::apply(left, right))
     }
 
-    /// Whether the likely results of the monadic function are found without branches, so that a run of them is quick.
+    /// Whether the monadic function has no branches, so that a run of its results is quick.
     #[inline(always)]
     fn has_monadic_runs() -> bool {
         false
     }
 
-    /// Whether the likely results of the dyadic function are found without branches, so that a run of them is quick.
+    /// Whether the likely results have no branches, so that a run of them is quick.
     #[inline(always)]
     fn has_runs() -> bool {
         false

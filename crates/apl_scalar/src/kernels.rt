@@ -1,7 +1,8 @@
 //! What a scalar function gives at each place.
-ghost use Rattle.std.specs.Prelude.{ℕ, ◌≤◌, length};
+ghost use Rattle.std.specs.Prelude.{ℕ, ◌≤◌};
 ghost use Rattle.apl_pool.specs.declared.kernel.TheConstants.{MOST_PLACES};
 
+use crate::arithmetic::likely_value;
 use crate::elements::{dyadic_elements, likely_elements};
 use crate::function_types::Function;
 use crate::operands::Operand;
@@ -9,21 +10,20 @@ use crate::runs::{Results, write_results};
 use apl_pool::{Fault, Kernel};
 use std::marker::PhantomData;
 
-/// A monadic function of numbers.
-#[derive(Drop)]
-pub(crate) struct NumberKernel<'a, F> {
+/// The results of a monadic function of numbers.
+#[derive(Clone, Copy)]
+pub(crate) struct NumberResults<'a, F> {
     pub numbers: &'a [i64],
     pub function: PhantomData<F>,
-    ghost most: { length numbers.now ≤ MOST_PLACES },
 }
 
-impl<F: Function> Results for NumberKernel<'_, F> {
+impl<F: Function + Copy> Results for NumberResults<'_, F> {
     ghost use Rattle.std.specs.Prelude.{length, pos, slice_index_or};
     ghost use Rattle.apl_scalar.specs.Scalar.{monadic_number};
 
-    ghost served = { λ k. length k.numbers.now };
+    ghost served = { λ r. length r.numbers.now };
 
-    ghost outcome = { λ k place. monadic_number F.FUNCTION (slice_index_or k.numbers.now place (pos 0)) };
+    ghost outcome = { λ r place. monadic_number F.FUNCTION (slice_index_or r.numbers.now place (pos 0)) };
 
     #[inline(always)]
     fn result_at(&self, place: usize) -> Result<i64, Fault> {
@@ -32,57 +32,30 @@ impl<F: Function> Results for NumberKernel<'_, F> {
 
     #[inline(always)]
     fn likely_at(&self, place: usize) -> (i64, bool) {
-        F::likely_monadic(self.numbers[place])
-    }
-}
-
-impl<F: Function> Kernel for NumberKernel<'_, F> {
-    ghost use Rattle.std.specs.Prelude.{length, pos, slice_index_or};
-    ghost use Rattle.apl_scalar.specs.Scalar.{monadic_number};
-
-    type Out = i64;
-
-    ghost place_count = { λ k. length k.numbers.now };
-
-    ghost outcome = { λ k place. monadic_number F.FUNCTION (slice_index_or k.numbers.now place (pos 0)) };
-
-    fn count(&self) -> usize {
-        self.numbers.len()
+        likely_value(self.result_at(place))
     }
 
     #[inline(always)]
-    fn at(&self, place: usize) -> Result<i64, Fault> {
-        self.result_at(place)
-    }
-
-    #[inline(always)]
-    fn write_run(&self, from: usize, to: usize, room: &mut [i64]) -> usize {
-        if F::has_monadic_runs() {
-            write_results(self, from, to, room)
-        } else {
-            from
-        }
+    fn have_runs() -> bool {
+        F::has_monadic_runs()
     }
 }
 
-/// A dyadic function of two arguments.
-#[derive(Drop)]
-pub(crate) struct PairsKernel<L: Operand, R: Operand, F> {
+/// The results of a dyadic function of two arguments.
+#[derive(Clone, Copy)]
+pub(crate) struct PairResults<L, R, F> {
     pub left: L,
     pub right: R,
-    pub count: usize,
     pub function: PhantomData<F>,
-    ghost most: { count ≤ MOST_PLACES },
-    ghost left_serves: { count ≤ L.served left },
-    ghost right_serves: { count ≤ R.served right },
 }
 
-impl<L: Operand, R: Operand, F: Function> Results for PairsKernel<L, R, F> {
+impl<L: Operand, R: Operand, F: Function + Copy> Results for PairResults<L, R, F> {
+    ghost use Rattle.std.specs.Prelude.{min};
     ghost use Rattle.apl_scalar.specs.Scalar.{dyadic_of};
 
-    ghost served = { λ k. k.count };
+    ghost served = { λ r. min (L.served r.left) (R.served r.right) };
 
-    ghost outcome = { λ k place. dyadic_of F.FUNCTION (L.element k.left place) (R.element k.right place) };
+    ghost outcome = { λ r place. dyadic_of F.FUNCTION (L.element r.left place) (R.element r.right place) };
 
     #[inline(always)]
     fn result_at(&self, place: usize) -> Result<i64, Fault> {
@@ -93,16 +66,28 @@ impl<L: Operand, R: Operand, F: Function> Results for PairsKernel<L, R, F> {
     fn likely_at(&self, place: usize) -> (i64, bool) {
         likely_elements::<F>(self.left.at(place), self.right.at(place))
     }
+
+    #[inline(always)]
+    fn have_runs() -> bool {
+        F::has_runs()
+    }
 }
 
-impl<L: Operand, R: Operand, F: Function> Kernel for PairsKernel<L, R, F> {
-    ghost use Rattle.apl_scalar.specs.Scalar.{dyadic_of};
+/// The results at the first `count` places.
+#[derive(Drop)]
+pub(crate) struct ResultsKernel<P: Results> {
+    pub results: P,
+    pub count: usize,
+    ghost most: { count ≤ MOST_PLACES },
+    ghost served: { count ≤ P.served results },
+}
 
+impl<P: Results> Kernel for ResultsKernel<P> {
     type Out = i64;
 
     ghost place_count = { λ k. k.count };
 
-    ghost outcome = { λ k place. dyadic_of F.FUNCTION (L.element k.left place) (R.element k.right place) };
+    ghost outcome = { λ k place. P.outcome k.results place };
 
     fn count(&self) -> usize {
         self.count
@@ -110,13 +95,13 @@ impl<L: Operand, R: Operand, F: Function> Kernel for PairsKernel<L, R, F> {
 
     #[inline(always)]
     fn at(&self, place: usize) -> Result<i64, Fault> {
-        self.result_at(place)
+        self.results.result_at(place)
     }
 
     #[inline(always)]
     fn write_run(&self, from: usize, to: usize, room: &mut [i64]) -> usize {
-        if F::has_runs() {
-            write_results(self, from, to, room)
+        if P::have_runs() {
+            write_results(self.results, from, to, room)
         } else {
             from
         }

@@ -7,7 +7,7 @@ ghost use Rattle.apl_scalar.specs.Scalar.{monadic_number, dyadic_of};
 ghost use Rattle.apl_scalar.specs.Operands.{pair_at};
 
 use crate::function_types::{Equal, Function, NotEqual};
-use crate::kernels::{NumberKernel, PairsKernel};
+use crate::kernels::{NumberResults, PairResults, ResultsKernel};
 use crate::operands::{Operand, Pairs, Value, Whole};
 use crate::with_type;
 use apl_answer::{Element, fill_uniform};
@@ -17,7 +17,7 @@ use std::alloc::Global;
 use std::marker::PhantomData;
 use std::thread::Threads;
 
-fn fill_each<F: Function + Sync, R: Threads + Sync, C: Cut + Sync, G: Gate + Sync>(
+fn fill_each<F: Function + Copy + Sync, R: Threads + Sync, C: Cut + Sync, G: Gate + Sync>(
     rt: &R,
     alloc: Global,
     pool: &Pool<C, G>,
@@ -27,15 +27,19 @@ fn fill_each<F: Function + Sync, R: Threads + Sync, C: Cut + Sync, G: Gate + Syn
     ensures values { IfOk result (λ v. AreValues (λ place. monadic_number F.FUNCTION (slice_index_or numbers.now place (pos 0))) (length numbers.now) v.items) }
     ensures stop { IfErr result (IsStopOf (λ place. monadic_number F.FUNCTION (slice_index_or numbers.now place (pos 0))) (length numbers.now)) }
 {
-    let kernel = NumberKernel::<F> {
+    let results = NumberResults::<F> {
         numbers,
         function: PhantomData,
+    };
+    let kernel = ResultsKernel {
+        results,
+        count: numbers.len(),
     };
     pool.fill(rt, alloc, &kernel)
 }
 
 fn fill_operands<
-    F: Function + Sync,
+    F: Function + Copy + Sync,
     A: Operand + Sync,
     B: Operand + Sync,
     R: Threads + Sync,
@@ -55,18 +59,18 @@ fn fill_operands<
     ensures values { IfOk result (λ v. AreValues (λ place. dyadic_of F.FUNCTION (A.element left place) (B.element right place)) count v.items) }
     ensures stop { IfErr result (IsStopOf (λ place. dyadic_of F.FUNCTION (A.element left place) (B.element right place)) count) }
 {
-    let kernel = PairsKernel::<A, B, F> {
+    let results = PairResults::<A, B, F> {
         left,
         right,
-        count,
         function: PhantomData,
     };
+    let kernel = ResultsKernel { results, count };
     pool.fill(rt, alloc, &kernel)
 }
 
 /// A pass is compiled for each way in which the arguments may be extended.
 fn fill_pairs<
-    F: Function + Sync,
+    F: Function + Copy + Sync,
     T: Element + Sync,
     R: Threads + Sync,
     C: Cut + Sync,

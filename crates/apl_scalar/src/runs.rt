@@ -8,8 +8,8 @@ use apl_pool::Fault;
 /// The most places of a run.
 const LONGEST_RUN: usize = 1024;
 
-/// The results of a scalar function at places.
-pub(crate) trait Results {
+/// The results of a scalar function at places. They are passed by value, so that a loop that writes reads no pointer anew.
+pub(crate) trait Results: Copy {
     ghost use Rattle.std.specs.Prelude.{◌≡◌, ◌<◌, ℕ, ℤ, true, Result, Ok};
     ghost use Rattle.apl_pool.specs.declared.kernel.Fault.{Fault};
 
@@ -28,15 +28,18 @@ pub(crate) trait Results {
     fn likely_at(&self, place: usize) -> (i64, bool)
         requires { place < served self.now }
         ensures { result.1 ≡ true → outcome self.now place ≡ Ok result.0 };
+
+    /// Whether runs are quicker than results one by one.
+    fn have_runs() -> bool;
 }
 
 /// Writes the likely results into the room for the places from `from` on. It answers whether all are sure.
 #[inline(always)]
-fn write_likely<P: Results>(results: &P, from: usize, count: usize, room: &mut [i64]) -> bool
-    requires places { from + count ≤ P.served results.now }
+fn write_likely<P: Results>(results: P, from: usize, count: usize, room: &mut [i64]) -> bool
+    requires places { from + count ≤ P.served results }
     requires most { from + count ≤ MOST_PLACES }
     requires room { count ≤ length room.old }
-    ensures values { result ≡ true → AreWritten (P.outcome results.now) from (from + count) room.new }
+    ensures values { result ≡ true → AreWritten (P.outcome results) from (from + count) room.new }
     ensures len { length room.new ≡ length room.old }
 {
     let mut all_sure = true;
@@ -50,13 +53,13 @@ fn write_likely<P: Results>(results: &P, from: usize, count: usize, room: &mut [
 
 /// Writes results into the room for the places from `from` on, one by one. It answers the place of the first fault,
 /// or where the places end.
-fn write_before_fault<P: Results>(results: &P, from: usize, count: usize, room: &mut [i64]) -> usize
-    requires places { from + count ≤ P.served results.now }
+fn write_before_fault<P: Results>(results: P, from: usize, count: usize, room: &mut [i64]) -> usize
+    requires places { from + count ≤ P.served results }
     requires most { from + count ≤ MOST_PLACES }
     requires room { count ≤ length room.old }
     ensures order { from ≤ result }
     ensures within { result ≤ from + count }
-    ensures values { AreWritten (P.outcome results.now) from result room.new }
+    ensures values { AreWritten (P.outcome results) from result room.new }
     ensures len { length room.new ≡ length room.old }
 {
     for k in 0..count {
@@ -72,18 +75,18 @@ fn write_before_fault<P: Results>(results: &P, from: usize, count: usize, room: 
 /// fault, or where the run ends.
 #[inline(always)]
 pub(crate) fn write_results<P: Results>(
-    results: &P,
+    results: P,
     from: usize,
     to: usize,
     room: &mut [i64],
 ) -> usize
     requires order { from ≤ to }
-    requires places { to ≤ P.served results.now }
+    requires places { to ≤ P.served results }
     requires most { to ≤ MOST_PLACES }
     requires room { from + length room.old ≡ to }
     ensures order { from ≤ result }
     ensures within { result ≤ to }
-    ensures values { AreWritten (P.outcome results.now) from result room.new }
+    ensures values { AreWritten (P.outcome results) from result room.new }
     ensures len { length room.new ≡ length room.old }
 {
     let count = (to - from).min(LONGEST_RUN);
