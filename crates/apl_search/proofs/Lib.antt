@@ -4,6 +4,7 @@ pub mod Examples
 pub mod Numbers
 pub mod Vectors
 pub mod InOrder
+pub mod Packed
 pub mod SearchLimits
 pub mod FirstPlaces
 pub mod Searches
