@@ -1,13 +1,12 @@
 -- Each tree is answered from its own tokens.
 use Rattle.std.proofs.Common.{◌≡◌, ◌++◌, ◌∷◌, [], List, Some, refl, ◌∙◌, ap}
-use Rattle.std.specs.Prelude.{ℕ, Bool, true, false, IsTrue, ◌&&◌, Option, option_map, option_and_then}
+use Rattle.std.specs.Prelude.{ℕ, Bool, true, false, IsTrue, ◌&&◌, option_and_then}
 use Rattle.apl_tokens.specs.declared.token.TokenKind.TheVariants as kind
 use Rattle.apl_array.specs.declared.function.ScalarFunction.{ScalarFunction}
 use Rattle.apl_array.specs.Valences.{has_monadic, has_dyadic}
 use Rattle.apl_tokens.specs.declared.token.Glyph.TheVariants.{Scalar}
 use Rattle.apl_grammar.specs.declared.forms.DefaultAxis.TheVariants.{First, Last}
 use Rattle.apl_grammar.specs.declared.forms.MonadicFunction.TheVariants as of_one
-use Rattle.apl_grammar.specs.declared.forms.DyadicFunction.{DyadicFunction}
 use Rattle.apl_grammar.specs.declared.forms.DyadicFunction.TheVariants as of_two
 use Rattle.apl_grammar.specs.declared.forms.AxisFunction.{AxisFunction}
 use Rattle.apl_grammar.specs.declared.forms.AxisFunction.TheVariants.{Catenate, Rotate, Replicate, Expand}
@@ -19,7 +18,7 @@ use Rattle.apl_grammar.specs.declared.forms.DyadicForm.{DyadicForm}
 use Rattle.apl_grammar.specs.declared.forms.DyadicForm.TheVariants as two
 use Rattle.apl_grammar.specs.Functions.{operator_glyph, may_be_monadic, may_be_dyadic}
 use Rattle.apl_grammar.specs.Tree.{Expr, value, dyadic, monadic, assign, assign_at, Operand, constant, name, group, index, Slots, last, more, Slot, nothing, given, Axis, none, along, has_axis, IsTree, IsOperand, IsList, IsSlot, IsAxis, token_at, spells, spells_operand, spells_list, spells_slot, spells_axis, spells_monadic, spells_dyadic}
-use Rattle.apl_grammar.proofs.Partial.{Wanted, alone, applied, indexed, fill, Level, operand_wanted, expression, leading_dot, leading_arrow, leading_brackets, leading_slots, no_slots, slots, Frame, open_group, open_index, open_axis_or_index, open_indexed_assignment, as_dyadic, with_index, as_wanted, level_by, level_for, within, inner_level, monadic_level, at_operand, at_name, at_close, at_slice, at_close_bracket, at_function, at_dot, slot_of, sliced_by, at_semicolon, wanted_by, at_open_bracket, step, run_from, run_from-parts}
+use Rattle.apl_grammar.proofs.Partial.{Wanted, alone, applied, indexed, fill, Level, operand_wanted, expression, leading_dot, leading_arrow, leading_brackets, leading_slots, no_slots, slots, Frame, open_group, open_index, open_axis_or_index, open_indexed_assignment, as_dyadic, with_index, as_wanted, at_operand, at_name, at_close, at_slice, at_close_bracket, at_function, slot_of, sliced_by, at_semicolon, wanted_by, at_open_bracket, step, run_from, run_from-parts}
 
 both_true : (a b : Bool) → IsTrue (a && b) → IsTrue a × IsTrue b
 both_true true b h = (refl, h)

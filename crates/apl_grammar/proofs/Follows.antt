@@ -7,7 +7,6 @@ use Rattle.apl_tokens.specs.declared.token.TokenKind.{TokenKind}
 use Rattle.apl_tokens.specs.declared.token.TokenKind.TheVariants as kind
 use Rattle.apl_tokens.specs.declared.token.Glyph.{Glyph}
 use Rattle.apl_array.specs.declared.function.ScalarFunction.{ScalarFunction}
-use Rattle.apl_grammar.specs.declared.program.Brackets.{Brackets}
 use Rattle.apl_grammar.specs.declared.forms.DyadicFunction.TheVariants as of_two
 use Rattle.apl_grammar.specs.declared.forms.MonadicForm.{MonadicForm}
 use Rattle.apl_grammar.specs.declared.forms.DyadicForm.{DyadicForm}
@@ -20,7 +19,7 @@ use Rattle.apl_grammar.specs.declared.reader.Pending.{Pending}
 use Rattle.apl_grammar.specs.declared.reader.Pending.TheVariants as pending
 use Rattle.apl_grammar.specs.Functions.{dyadic_scalar, monadic_form, dyadic_form, dyadic_counterpart, reduced}
 use Rattle.apl_grammar.specs.Tree.{Expr, value, dyadic, monadic, assign, assign_at, Operand, constant, name, group, last, Slot, nothing, given, Axis, none, along, has_axis, brackets, indexed_name, axis_brackets, semicolons, operations, operand_operations, list_operations, slot_operations, axis_operations}
-use Rattle.apl_grammar.specs.Automaton.{Machine, machine, after_operand, with_dyadic, with_index, stack_for_operand, with_operand, with_name, expression_operations, with_function_pending, with_either, with_leading_function, with_monadic, with_function, with_leading_dot, with_dot, with_jot, with_arrow, closed_group, with_open_paren, with_close_paren, with_close_bracket, with_slot, is_empty_slot, with_next_slot, with_semicolon, closed_list, with_open_bracket, step, step_kind, run, when_nothing_pending, statement_operations}
+use Rattle.apl_grammar.specs.Automaton.{Machine, machine, after_operand, with_index, stack_for_operand, with_operand, with_name, expression_operations, with_function_pending, with_either, with_leading_function, with_monadic, with_function, with_leading_dot, with_dot, with_jot, with_arrow, closed_group, with_open_paren, with_close_paren, with_close_bracket, with_slot, is_empty_slot, with_next_slot, with_semicolon, closed_list, with_open_bracket, step, step_kind, run, when_nothing_pending, statement_operations}
 use Rattle.apl_grammar.proofs.Partial as partial
 use Rattle.apl_grammar.proofs.Partial.{Wanted, alone, applied as applied_to, indexed, fill, Level, operand_wanted, expression, leading_dot, leading_arrow, leading_brackets, leading_slots, Tail, no_slots, slots, Frame, open_group, open_index, open_axis_or_index, open_indexed_assignment, Config, join, applied_to as applied_by, as_dyadic, with_index as indexed_by, as_wanted, level_by, level_for, within, inner_level, monadic_level, at_operand, at_name, at_close, at_slice, at_close_bracket, at_function, dotted, at_dot, at_jot, at_arrow, at_open, slot_of, sliced_by, at_semicolon, wanted_by, at_open_bracket}
 use Rattle.apl_grammar.proofs.Sound.{no_slot_semicolon, no_slot_open}

@@ -1,6 +1,6 @@
 -- The automaton of the grammar, over partial trees. It reads tokens from the right.
 use Rattle.std.proofs.Common.{◌≡◌, ◌++◌, ◌∷◌, [], List, Option, Some, None, refl, sym, ◌∙◌, ap}
-use Rattle.std.specs.Prelude.{ℕ, Bool, true, false, option_map, option_and_then}
+use Rattle.std.specs.Prelude.{ℕ, option_map, option_and_then}
 use Rattle.apl_tokens.specs.declared.token.Token.{Token}
 use Rattle.apl_tokens.specs.declared.token.TokenKind.{TokenKind}
 use Rattle.apl_tokens.specs.declared.token.TokenKind.TheVariants as kind

@@ -1,6 +1,6 @@
 -- What was read is spelled by partial trees, and some tree ends with it.
 use Rattle.std.proofs.Common.{◌≡◌, ◌++◌, ◌∷◌, [], List, Option, Some, None, refl, sym, ◌∙◌, ap, subst, append_assoc}
-use Rattle.std.specs.Prelude.{ℕ, Bool, true, false, IsTrue, ◌&&◌, option_map, option_and_then, if◌then◌else◌}
+use Rattle.std.specs.Prelude.{ℕ, Bool, true, false, IsTrue, option_map, option_and_then, if◌then◌else◌}
 use Rattle.apl_array.specs.declared.function.ScalarFunction.{ScalarFunction}
 use Rattle.apl_array.specs.Valences.{has_monadic, has_dyadic}
 use Rattle.apl_tokens.specs.declared.token.Token.{Token}
@@ -17,7 +17,7 @@ use Rattle.apl_grammar.specs.declared.forms.MonadicForm.{MonadicForm}
 use Rattle.apl_grammar.specs.declared.forms.MonadicForm.TheVariants as one
 use Rattle.apl_grammar.specs.declared.forms.DyadicForm.{DyadicForm}
 use Rattle.apl_grammar.specs.declared.forms.DyadicForm.TheVariants.{Plain, Along, Inner, Outer}
-use Rattle.apl_grammar.specs.Functions.{monadic_glyph, reversal_glyph, dyadic_scalar, monadic_function, dyadic_function, unless_axis, monadic_form, dyadic_form, dyadic_counterpart, operator_of, reduced_by, reduced, may_be_monadic, may_be_dyadic}
+use Rattle.apl_grammar.specs.Functions.{monadic_glyph, reversal_glyph, dyadic_scalar, monadic_form, dyadic_form, dyadic_counterpart, operator_of, reduced_by, reduced, may_be_monadic, may_be_dyadic}
 use Rattle.apl_grammar.specs.Tree.{Expr, value, dyadic, monadic, assign, assign_at, Operand, constant, name, group, index, Slots, last, Slot, nothing, given, Axis, none, along, has_axis, IsTree, IsOperand, IsList, IsSlot, IsAxis, token_at, spells, spells_operand, spells_list, spells_slot, spells_axis, spells_monadic, spells_dyadic}
 use Rattle.apl_grammar.proofs.Partial.{Wanted, alone, applied, indexed, fill, Level, operand_wanted, expression, leading_dot, leading_arrow, leading_brackets, leading_slots, Tail, no_slots, slots, Frame, open_group, open_index, open_axis_or_index, open_indexed_assignment, Config, join, applied_to, as_dyadic, with_index, as_wanted, level_by, level_for, within, inner_level, monadic_level, at_operand, at_name, at_close, at_slice, at_close_bracket, at_function, dotted, at_dot, at_jot, at_arrow, at_open, slot_of, sliced_by, at_semicolon, wanted_by, at_open_bracket, step_kind, step, run}
 use Rattle.std.specs.Prelude.{IfSome}

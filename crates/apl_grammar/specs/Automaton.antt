@@ -1,5 +1,5 @@
 -- The reader's states over a list of tokens from the right. No contract of a public function cites this file.
-use Rattle.std.specs.Prelude.{◌≡◌, ℕ, Bool, true, false, ◌&&◌, List, [], ◌∷◌, ◌++◌, length, reverse, slice_set, Option, Some, None, is_some, option_map, option_and_then, if◌then◌else◌}
+use Rattle.std.specs.Prelude.{◌≡◌, ℕ, Bool, true, false, List, [], ◌∷◌, ◌++◌, length, reverse, slice_set, Option, Some, None, is_some, option_map, option_and_then}
 use Rattle.apl_tokens.specs.declared.token.Token.{Token}
 use Rattle.apl_tokens.specs.declared.token.TokenKind.{TokenKind}
 use Rattle.apl_tokens.specs.declared.token.TokenKind.TheVariants as kind
@@ -8,7 +8,7 @@ use Rattle.apl_grammar.specs.declared.program.Brackets.{Brackets}
 use Rattle.apl_grammar.specs.declared.forms.DyadicFunction.TheVariants.{Scalar}
 use Rattle.apl_grammar.specs.declared.forms.MonadicForm.{MonadicForm}
 use Rattle.apl_grammar.specs.declared.forms.DyadicForm.{DyadicForm}
-use Rattle.apl_grammar.specs.declared.forms.DyadicForm.TheVariants.{Plain, Along, Inner, Outer}
+use Rattle.apl_grammar.specs.declared.forms.DyadicForm.TheVariants.{Plain, Inner, Outer}
 use Rattle.apl_grammar.specs.declared.program.Operation.{Operation}
 use Rattle.apl_grammar.specs.declared.program.Operation.TheVariants as op
 use Rattle.apl_grammar.specs.declared.reader.UndecidedFunction.{UndecidedFunction}

@@ -1,10 +1,9 @@
 -- Numbers of digits, read from the left.
-use Rattle.std.proofs.Common.{◌≡◌, ◌∷◌, [], List, refl, sym, ◌∙◌, ap, subst, arith, length, take, drop, get_or, ◌+◌, ◌-◌, ◌*◌, ◌<◌, ◌≤◌, ℕ, zero, suc, Bool, true, false}
-use Rattle.std.specs.Prelude.{IsTrue}
+use Rattle.std.proofs.Common.{◌≡◌, ◌∷◌, [], List, refl, sym, ◌∙◌, ap, subst, arith, length, take, drop, get_or, ◌+◌, ◌-◌, ◌*◌, ◌<◌, ◌≤◌, ℕ, zero, suc, true, false}
 use Rattle.std.proofs.Math.Numerals.{add-one}
 use Rattle.apl_tokens.specs.Symbols.{is_digit}
 use Rattle.apl_tokens.specs.Fronts.{AllPass}
-use Rattle.apl_tokens.specs.Lexis.{number_of_digits, number_after, AreDigits}
+use Rattle.apl_tokens.specs.Lexis.{number_of_digits, number_after}
 use Rattle.apl_syntax.specs.Commands.{AreDigitsOf}
 
 number_grows : (n : ℕ) (ds : List ℕ) → n ≤ number_after n ds

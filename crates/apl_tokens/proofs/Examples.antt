@@ -4,7 +4,6 @@ use Rattle.apl_array.specs.declared.function.ScalarFunction.TheVariants.{Plus, T
 use Rattle.apl_array.specs.Array.{character_array}
 use Rattle.apl_tokens.specs.declared.token.Token.{Token}
 use Rattle.apl_tokens.specs.declared.token.Glyph.TheVariants.{Scalar, Rho, SlashBar}
-use Rattle.apl_tokens.specs.declared.token.TokenKind.{TokenKind}
 use Rattle.apl_tokens.specs.declared.token.TokenKind.TheVariants.{Constant, Name, Function, Arrow, Jot}
 use Rattle.apl_tokens.specs.Symbols.{is_letter, is_name_character, is_listed, symbol_kind}
 use Rattle.apl_tokens.specs.Lexis.{number_of_digits, negated, constant_shape, quoted, Lexes}
