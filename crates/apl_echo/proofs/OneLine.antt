@@ -7,7 +7,7 @@ use Rattle.apl_print.specs.Shown.{IsText}
 use Rattle.apl_tokens.specs.Fronts.{AllPass}
 use Rattle.apl_echo.specs.Lines.{is_no_line_feed}
 
--- what stands before the first line feed of a text
+-- what is before the first line feed of a text
 first_line : (line before after : List ℕ) → AllPass is_no_line_feed line → ended line ≡ before ++ line_feed ∷ after → (line ≡ before) × (after ≡ [])
 first_line [] [] after none e = (refl, sym cc)
 first_line [] (b ∷ before) after none e = absurd (omega (arith, ap length e, length-append before (line_feed ∷ after)))

@@ -1,4 +1,4 @@
--- Worked examples: the meaning of a tree in the opening workspace, or in one with a name. Each tree is told by the line that it is of.
+-- Worked examples: the meaning of a tree in the opening workspace, or in one with a name. A comment before each has its line.
 use Rattle.std.proofs.Common.{◌≡◌, ℕ, pos, negsuc, true, false, List, [], ◌∷◌, Some, None, length, map, codes, refl, ap}
 use Rattle.std.specs.FinMap.{get-empty}
 use Rattle.std.specs.Cmp.Lexicographic.{slice_cmp}
@@ -16,7 +16,7 @@ use Rattle.apl_grammar.specs.declared.forms.DyadicForm.TheVariants as two
 use Rattle.apl_grammar.specs.Tree.{value, dyadic, monadic, assign, assign_at, Operand, constant, name, group, index, last, given, none, along}
 use Rattle.apl_eval.specs.declared.error.EvalError.TheVariants.{Value, Index, Length, Domain, Limit}
 use Rattle.apl_eval.specs.Workspace.{WorkspaceValue, value_of, assigned, opening_workspace}
-use Rattle.apl_eval.specs.Functions.{monadic_result, dyadic_result, index_result, assign_at_result}
+use Rattle.apl_eval.specs.Functions.{reversed_along, monadic_result, dyadic_result, index_result, assign_at_result}
 use Rattle.apl_eval.specs.Meaning.{done, failed, then, outcome_at, name_result, dyadic_outcome, index_outcome, assign_at_outcome_of, meaning_of, is_assignment}
 use Rattle.apl_eval.proofs.NameLemmas.{get-insert_name}
 
@@ -99,7 +99,7 @@ partial_result_out_of_range = refl
 -- ⌽[9]1 2: at the function
 no_such_axis : meaning_of (monadic (one.Reverse 0 Last) (along 1 (value (number 2 9)) 3) (value (constant 4 (vector (1 ∷ 2 ∷ []))))) opening
     ≡ failed Index 0 opening
-unfolding monadic_result
+unfolding monadic_result reversed_along
 no_such_axis = refl
 
 -- B[1]: at the name

@@ -9,8 +9,8 @@ use Rattle.apl_array.specs.declared.axis.Origin.{Origin}
 use Rattle.apl_array.specs.Array.{ArrayValue}
 use Rattle.apl_array.specs.Limits.{IsWithinLimits}
 use Rattle.apl_tokens.specs.declared.token.Token.{Token}
-use Rattle.apl_tokens.specs.declared.token.Lexeme.TheVariants as lexeme
-use Rattle.apl_tokens.specs.Constants.{IsLexemeWithinLimits, HasConstantsWithinLimits}
+use Rattle.apl_tokens.specs.declared.token.TokenKind.TheVariants as kind
+use Rattle.apl_tokens.specs.Constants.{IsKindWithinLimits, HasConstantsWithinLimits}
 use Rattle.apl_grammar.specs.declared.forms.MonadicForm.{MonadicForm}
 use Rattle.apl_grammar.specs.declared.forms.DyadicForm.{DyadicForm}
 use Rattle.apl_grammar.specs.Tree.{Expr, value, dyadic, monadic, assign, assign_at, Operand, constant, name, group, index, Slots, last, more, Slot, nothing, given, Axis, none, along, token_at, spells, spells_monadic, spells_dyadic, spells_operand, spells_list, spells_slot, spells_axis}
@@ -80,7 +80,7 @@ Any v = Unit {0}
 -- ---- the tokens of the parts of a tree
 
 abbrev WithinLimits : Token → Type 0
-WithinLimits t = IsLexemeWithinLimits t.lexeme
+WithinLimits t = IsKindWithinLimits t.kind
 
 front : (ts us : List Token) → HasConstantsWithinLimits (ts ++ us) → HasConstantsWithinLimits ts
 front [] us h = All-nil WithinLimits
@@ -128,16 +128,16 @@ module _ (results : ResultsWithinLimits) where
         (λ right u b lawful. then_kept Any IsWithinLimits (meaning_of_axis a u) _ (axis_kept a u (front (spells_axis a) (spells e) behind_form) lawful)
         (λ axis v any lawful. outcome_kept (monadic_column f) (monadic_result v.origin f axis right) v (results.monadic v.origin f axis right b) lawful))
     expression_kept (assign c n r e) w h k =
-        let arrow = token_at r lexeme.Arrow in
-        let behind_arrow = next arrow (spells e) (next (token_at c (lexeme.Name n)) (arrow ∷ spells e) h) in
+        let arrow = token_at r kind.Arrow in
+        let behind_arrow = next arrow (spells e) (next (token_at c (kind.Name n)) (arrow ∷ spells e) h) in
         then_kept IsWithinLimits IsWithinLimits (meaning_of e w) _ (expression_kept e w behind_arrow k)
         (λ right u b lawful. (b, assigned_lawful n right u b lawful))
     expression_kept (assign_at c n l s r a e) w h k =
-        let arrow = token_at a lexeme.Arrow in
-        let right_bracket = token_at r lexeme.CloseBracket in
-        let left_bracket = token_at l lexeme.OpenBracket in
+        let arrow = token_at a kind.Arrow in
+        let right_bracket = token_at r kind.CloseBracket in
+        let left_bracket = token_at l kind.OpenBracket in
         let behind_list : List Token = right_bracket ∷ arrow ∷ spells e in
-        let inside = next left_bracket (spells_list s ++ behind_list) (next (token_at c (lexeme.Name n)) (left_bracket ∷ spells_list s ++ behind_list) h) in
+        let inside = next left_bracket (spells_list s ++ behind_list) (next (token_at c (kind.Name n)) (left_bracket ∷ spells_list s ++ behind_list) h) in
         let behind_arrow = next arrow (spells e) (next right_bracket (arrow ∷ spells e) (behind (spells_list s) behind_list inside)) in
         then_kept IsWithinLimits IsWithinLimits (meaning_of e w) _ (expression_kept e w behind_arrow k)
         (λ right u b lawful. then_kept Any IsWithinLimits (meaning_of_slots s u) _ (slots_kept s u (front (spells_list s) behind_list inside) lawful)
@@ -146,12 +146,12 @@ module _ (results : ResultsWithinLimits) where
         assign_at_kept (assign_at_result v.origin array slots right) c n a right v (results.assign_at v.origin array slots right (lawful.values n) b) b lawful))
 
     operand_kept : (o : Operand) (w : WorkspaceValue) → HasConstantsWithinLimits (spells_operand o) → IsLawful w → IsLawfulOutcome (meaning_of_operand o w)
-    operand_kept (constant column v) w h k = (All-head WithinLimits (token_at column (lexeme.Constant v)) [] h, k)
+    operand_kept (constant column v) w h k = (All-head WithinLimits (token_at column (kind.Constant v)) [] h, k)
     operand_kept (name column text) w h k = outcome_kept column (name_result (value_of text w)) w (name_kept (value_of text w) (k.values text)) k
-    operand_kept (group l e r) w h k = expression_kept e w (between (token_at l lexeme.OpenParen) (token_at r lexeme.CloseParen) (spells e) h) k
+    operand_kept (group l e r) w h k = expression_kept e w (between (token_at l kind.OpenParen) (token_at r kind.CloseParen) (spells e) h) k
     operand_kept (index o l s r) w h k =
-        let left_bracket = token_at l lexeme.OpenBracket in
-        let right_bracket = token_at r lexeme.CloseBracket in
+        let left_bracket = token_at l kind.OpenBracket in
+        let right_bracket = token_at r kind.CloseBracket in
         let list : List Token = left_bracket ∷ (spells_list s ++ right_bracket ∷ []) in
         then_kept Any IsWithinLimits (meaning_of_slots s w) _
         (slots_kept s w (between left_bracket right_bracket (spells_list s) (behind (spells_operand o) list h)) k)
@@ -161,7 +161,7 @@ module _ (results : ResultsWithinLimits) where
     slots_kept : (s : Slots) (w : WorkspaceValue) → HasConstantsWithinLimits (spells_list s) → IsLawful w → LeavesLawful Any (meaning_of_slots s w)
     slots_kept (last s) w h k = then_kept Any Any (meaning_of_slot s w) _ (slot_kept s w h k) (λ slot u any lawful. (tt, lawful))
     slots_kept (more s c ss) w h k =
-        let semicolon = token_at c lexeme.Semicolon in
+        let semicolon = token_at c kind.Semicolon in
         let others = next semicolon (spells_list ss) (behind (spells_slot s) (semicolon ∷ spells_list ss) h) in
         then_kept Any Any (meaning_of_slots ss w) _ (slots_kept ss w others k)
         (λ slots u any lawful. then_kept Any Any (meaning_of_slot s u) _ (slot_kept s u (front (spells_slot s) (semicolon ∷ spells_list ss) h) lawful)
@@ -175,7 +175,7 @@ module _ (results : ResultsWithinLimits) where
     axis_kept none w h k = (tt, k)
     axis_kept (along l e r) w h k =
         then_kept IsWithinLimits Any (meaning_of e w) _
-        (expression_kept e w (between (token_at l lexeme.OpenBracket) (token_at r lexeme.CloseBracket) (spells e) h) k)
+        (expression_kept e w (between (token_at l kind.OpenBracket) (token_at r kind.CloseBracket) (spells e) h) k)
         (λ v u b lawful. (tt, lawful))
 
   pub outcome_lawful : (tree : Expr) (w : WorkspaceValue) → HasConstantsWithinLimits (spells tree) → IsLawful w → IsLawfulOutcome (meaning_of tree w)

@@ -109,6 +109,7 @@ module _ (scalar : ScalarAnswersWithinLimits) (structural : StructuralAnswersWit
   monadic_plain_within origin monadic.GradeDown b h = within (rows.result_of (grade_down_row b origin)) (λ answer. found.grade_down b answer origin h)
 
   reversed_within : (axis : Axis) (b : ArrayValue) → IsWithinLimits b → IfOk (reversed_along axis b) IsWithinLimits
+  unfolding reversed_along
   reversed_within axis b h = within (rows.result_of (reverse_row b axis)) (λ answer. structural.reverse b answer axis h)
 
   reduced_within : (operator : Operator) (f : ScalarFunction) (axis : Axis) (b : ArrayValue) → IsWithinLimits b → IfOk (reduced_along operator f axis b) IsWithinLimits

@@ -130,7 +130,7 @@ module _ {Y Z S : Type 0} where
   pub names_in-reordered : (m n : HashMap (String Y) (Rc ArrayValue Z) S) → ((k : String Y) → hash_get string_eq n k ≡ hash_get string_eq m k) → names_in n ≡ names_in m
   names_in-reordered m n h = same_names _ _ (λ q. get-names_in n q ∙ ap (option_map value_in) (text_reordered m n h q) ∙ sym (get-names_in m q))
 
-  -- what the loop keeps that moves staged names in: those that are left lie over the names so far
+  -- what the loop keeps that moves staged names in: those that are left are over the names so far
   pub record Keeps (all : NameValues) (rest : List (String Y × Rc ArrayValue Z)) (names : HashMap (String Y) (Rc ArrayValue Z) S) : Type 0 where
     pub room : length rest ≤ spare names
     pub unique : IsDistinct string_eq (keys_of rest)

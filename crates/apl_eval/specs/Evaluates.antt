@@ -14,7 +14,7 @@ use Rattle.apl_eval.specs.Meaning.{done, failed, meaning_of, is_assignment}
 abbrev pub IsPrinted : ArrayValue → ℕ → List ℕ → Type 0
 IsPrinted v width bytes = (characters : List ℕ) × IsShown v width characters × (bytes ≡ encode_utf8_all characters)
 
--- a statement of this value shows nothing where it is an assignment, and else the value's text
+-- a statement of this value shows nothing if it is an assignment, and else the value's text
 abbrev pub IsShownAs : Expr → ArrayValue → ℕ → Shown → Type 0
 IsShownAs tree v width Silent = is_assignment tree ≡ true
 IsShownAs tree v width (Text text) = (is_assignment tree ≡ false) × IsPrinted v width (string_bytes text)

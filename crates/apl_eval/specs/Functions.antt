@@ -114,7 +114,7 @@ monadic_plain origin monadic.GradeUp b = result_by (grade_up_row b origin)
 monadic_plain origin monadic.GradeDown b = result_by (grade_down_row b origin)
 
 -- reversal along an axis
-abbrev pub reversed_along : Axis → (right : ArrayValue) → Result ArrayValue EvalError
+unfoldable pub reversed_along : Axis → (right : ArrayValue) → Result ArrayValue EvalError
 reversed_along axis b = result_by (reverse_row b axis)
 
 -- a reduction or a scan along an axis

@@ -32,7 +32,7 @@ abbrev pub outcome_at : (column : ℕ) → Result ArrayValue EvalError → Evalu
 outcome_at column (Ok v) w = done v w
 outcome_at column (Err error) w = failed error column w
 
--- the value of a name, and Value where it has none
+-- the value of a name, and Value if it has none
 abbrev pub name_result : Option ArrayValue → Result ArrayValue EvalError
 name_result (Some v) = Ok v
 name_result None = Err Value

@@ -1,4 +1,4 @@
--- Why a function has no value, beside want of memory. No contract of a public function cites this file.
+-- Why a function has no value, apart from lack of memory. No contract of a public function cites this file.
 use Rattle.std.specs.Prelude.{◌≡◌, Result, Ok, Err}
 use Rattle.apl_array.specs.Array.{ArrayValue}
 use Rattle.apl_answer.specs.declared.fault.OpFault.{OpFault}
@@ -12,7 +12,7 @@ abbrev pub refusal_of : OpFault → Refusal
 refusal_of fault.Memory = Memory
 refusal_of f = Error (error_of f)
 
--- the value or the error that there is; `Memory` says nothing of the tokens
+-- the same value, or the same error; `Memory` is no error of a function
 abbrev pub Answers : Result ArrayValue EvalError → Result ArrayValue Refusal → Type 0
 Answers wanted (Ok array) = wanted ≡ Ok array
 Answers wanted (Err (Error error)) = wanted ≡ Err error

@@ -36,13 +36,13 @@ abbrev pub with_value : List Item → (ArrayValue → List Item → State) → S
 with_value (Some v ∷ below) next = next v below
 with_value _ next = stuck
 
--- with the axis argument on top, if one stands there
+-- with the axis argument on top, if there is one
 abbrev pub with_axis : Option Brackets → List Item → (Option ArrayValue → List Item → State) → State
 with_axis None items next = next None items
 with_axis (Some brackets) (Some v ∷ below) next = next (Some v) below
 with_axis (Some brackets) _ next = stuck
 
--- with so many slots on top, the first of which is the topmost
+-- with this many slots on top, the first of which is the topmost
 abbrev pub with_slots : ℕ → List Item → (List Item → List Item → State) → State
 with_slots zero items next = next [] items
 with_slots (suc n) [] next = stuck
@@ -89,7 +89,7 @@ HasValueAbove P _ = ⊥
 abbrev pub HasValue : List Item → Type 0
 HasValue items = HasValueAbove (λ below. Unit {0}) items
 
--- an axis argument is on top, if one stands there, below which the items have a property
+-- an axis argument is on top, if there is one, below which the items have a property
 abbrev pub HasAxisAbove : (List Item → Type 0) → Option Brackets → List Item → Type 0
 HasAxisAbove P None items = P items
 HasAxisAbove P (Some brackets) items = HasValueAbove P items
@@ -97,7 +97,7 @@ HasAxisAbove P (Some brackets) items = HasValueAbove P items
 abbrev pub HasAxis : Option Brackets → List Item → Type 0
 HasAxis axis items = HasAxisAbove (λ below. Unit {0}) axis items
 
--- so many slots are on top, below which the items have a property
+-- this many slots are on top, below which the items have a property
 abbrev pub HasSlotsAbove : (List Item → Type 0) → ℕ → List Item → Type 0
 HasSlotsAbove P zero items = P items
 HasSlotsAbove P (suc n) [] = ⊥
@@ -112,13 +112,13 @@ under_axis (Some axis) items = Some axis ∷ items
 abbrev pub staged_in : NameValues → WorkspaceValue → WorkspaceValue
 staged_in staged w = with_names (overlaid staged w.names) w
 
--- The result is the outcome: its value, or its error and column. Of want of memory nothing is said.
+-- The result is the outcome: its value, or its error and column. Lack of memory meets any outcome.
 abbrev pub IsOutcome : {Z : Type 0} → Outcome ArrayValue → WorkspaceValue → Result (Rc ArrayValue Z) EvalStop → Type 0
 IsOutcome outcome w (Ok value) = outcome ≡ done value.value w
 IsOutcome outcome w (Err (Error error column)) = outcome ≡ failed error column w
 IsOutcome outcome w (Err Memory) = Unit {0}
 
--- The result is the state: these items wait, or it is the error and column. Of want of memory nothing is said.
+-- The result is the state: these items wait, or it is the error and column. Lack of memory meets any state.
 abbrev pub IsState : {T : Type 0} → State → List Item → WorkspaceValue → Result T EvalStop → Type 0
 IsState state items w (Ok value) = state ≡ waiting items w
 IsState state items w (Err (Error error column)) = state ≡ ended error column w

@@ -110,14 +110,14 @@ fn operator_axis(operator: Operator) -> Axis
 
 /// What a line is evaluated with: threads, the allocator and the pool, and the workspace before it.
 #[derive(Drop)]
-pub(crate) struct Machine<'a, R: Threads + Sync, C: Cut + Sync, G: Gate + Sync> {
+pub(crate) struct Context<'a, R: Threads + Sync, C: Cut + Sync, G: Gate + Sync> {
     pub(crate) rt: &'a R,
     pub(crate) alloc: Global,
     pub(crate) pool: &'a Pool<C, G>,
     pub(crate) workspace: &'a Workspace,
 }
 
-impl<'a, R: Threads + Sync, C: Cut + Sync, G: Gate + Sync> Machine<'a, R, C, G> {
+impl<'a, R: Threads + Sync, C: Cut + Sync, G: Gate + Sync> Context<'a, R, C, G> {
     /// The axis of this number.
     fn axis_at(&self, number: i64) -> Axis
         ensures { result ≡ At number self.now.workspace.now.origin }
@@ -247,7 +247,8 @@ impl<'a, R: Threads + Sync, C: Cut + Sync, G: Gate + Sync> Machine<'a, R, C, G> 
     ) -> Result<Array, Refusal>
         ensures { Answers (result_by (inner_row left.now right.now a.now b.now)) result }
     {
-        let (f, g) = (left.function(), right.function());
+        let f = left.function();
+        let g = right.function();
         result_of(apl_reduce::inner(self.rt, self.alloc, self.pool, f, g, a, b))
     }
 

@@ -1,4 +1,7 @@
 //! Workspaces, and statements evaluated in them.
+//!
+//! Below it: `apl_grammar` for programs, the crates of functions of arrays with their pool, and `apl_print` for texts.
+//! Begin with `specs/Meaning.antt`, which says what a statement means, and then `statement.rt`.
 #![tactic(auto)]
 
 mod error;

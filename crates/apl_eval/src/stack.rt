@@ -68,7 +68,7 @@ impl Stack {
         }
     }
 
-    /// Takes the axis argument on top, if one stands there.
+    /// Takes the axis argument on top, if there is one.
     pub(crate) fn pop_axis(&mut self, axis: Option<Brackets>) -> Option<Rc<Array>>
         requires { HasAxis axis self.old }
         ensures items { self.old ≡ under_axis (item_of result) self.new }

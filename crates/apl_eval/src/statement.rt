@@ -13,7 +13,7 @@ ghost use Rattle.apl_eval.specs.Refusals.{Answers};
 ghost use Rattle.apl_eval.specs.Steps.{step, stuck, onto, staged_in, HasValue, HasValueAbove, HasAxisAbove, HasSlotsAbove, IsOutcome, IsState};
 
 use super::error::EvalError;
-use super::functions::{Machine, Refusal, dyadic_column, monadic_column};
+use super::functions::{Context, Refusal, dyadic_column, monadic_column};
 use super::names::Names;
 use super::stack::{Stack, array_of};
 use super::workspace::Workspace;
@@ -143,60 +143,60 @@ fn put(stack: &mut Stack, value: Result<Rc<Array>, EvalStop>) -> Result<(), Eval
 
 /// Puts a function's result in the place of its arguments on the stack, of which the axis argument is on top.
 fn apply_monadic<R: Threads + Sync, C: Cut + Sync, G: Gate + Sync>(
-    machine: &Machine<'_, R, C, G>,
+    context: &Context<'_, R, C, G>,
     stack: &mut Stack,
     form: &MonadicForm,
     axis: &AxisBrackets,
 ) -> Result<(), EvalStop>
     requires { HasAxisAbove HasValue axis.now stack.old }
-    ensures { (w : WorkspaceValue) → w.origin ≡ machine.now.workspace.now.origin → IsState (step (op.Monadic form.now axis.now) stack.old w) stack.new w result }
+    ensures { (w : WorkspaceValue) → w.origin ≡ context.now.workspace.now.origin → IsState (step (op.Monadic form.now axis.now) stack.old w) stack.new w result }
 {
     let axis = stack.pop_axis(axis.brackets());
     let right = stack.pop_value();
     let axis = array_of(&axis);
-    let answer = machine.monadic(form, axis, &right);
+    let answer = context.monadic(form, axis, &right);
     put(
         stack,
-        outcome_at(machine.alloc, monadic_column(form), answer),
+        outcome_at(context.alloc, monadic_column(form), answer),
     )
 }
 
 /// Puts a function's result in the place of its arguments on the stack, of which the left one is on top, and the axis argument next.
 fn apply_dyadic<R: Threads + Sync, C: Cut + Sync, G: Gate + Sync>(
-    machine: &Machine<'_, R, C, G>,
+    context: &Context<'_, R, C, G>,
     stack: &mut Stack,
     form: &DyadicForm,
     axis: &AxisBrackets,
 ) -> Result<(), EvalStop>
     requires { HasValueAbove (HasAxisAbove HasValue axis.now) stack.old }
-    ensures { (w : WorkspaceValue) → w.origin ≡ machine.now.workspace.now.origin → IsState (step (op.Dyadic form.now axis.now) stack.old w) stack.new w result }
+    ensures { (w : WorkspaceValue) → w.origin ≡ context.now.workspace.now.origin → IsState (step (op.Dyadic form.now axis.now) stack.old w) stack.new w result }
 {
     let left = stack.pop_value();
     let axis = stack.pop_axis(axis.brackets());
     let right = stack.pop_value();
     let axis = array_of(&axis);
-    let answer = machine.dyadic(form, axis, &left, &right);
+    let answer = context.dyadic(form, axis, &left, &right);
     put(
         stack,
-        outcome_at(machine.alloc, dyadic_column(form), answer),
+        outcome_at(context.alloc, dyadic_column(form), answer),
     )
 }
 
 /// Puts the chosen elements of the array on top of the stack in the place of the array and of the slots below it.
 fn apply_index<R: Threads + Sync, C: Cut + Sync, G: Gate + Sync>(
-    machine: &Machine<'_, R, C, G>,
+    context: &Context<'_, R, C, G>,
     stack: &mut Stack,
     semicolons: &Columns,
     brackets: &Brackets,
 ) -> Result<(), EvalStop>
     requires { HasValueAbove (HasSlotsAbove (λ below. Unit {0}) (length semicolons.now + 1)) stack.old }
-    ensures { (w : WorkspaceValue) → w.origin ≡ machine.now.workspace.now.origin → IsState (step (op.Index semicolons.now brackets.now) stack.old w) stack.new w result }
+    ensures { (w : WorkspaceValue) → w.origin ≡ context.now.workspace.now.origin → IsState (step (op.Index semicolons.now brackets.now) stack.old w) stack.new w result }
 {
     let array = stack.pop_value();
-    let slots = stack.pop_slots(machine.alloc, semicolons)?;
-    let chosen = slots.arrays(machine.alloc)?;
-    let answer = machine.index(&array, chosen.as_slice());
-    put(stack, outcome_at(machine.alloc, brackets.left, answer))
+    let slots = stack.pop_slots(context.alloc, semicolons)?;
+    let chosen = slots.arrays(context.alloc)?;
+    let answer = context.index(&array, chosen.as_slice());
+    put(stack, outcome_at(context.alloc, brackets.left, answer))
 }
 
 /// The column of an indexed assignment's error.
@@ -211,23 +211,23 @@ fn assign_at_column(target: &IndexedName, error: EvalError) -> usize
 
 /// Gives a name its array with the value on the stack in the place of the chosen elements; the value stays on the stack.
 fn apply_assign_at<R: Threads + Sync, C: Cut + Sync, G: Gate + Sync>(
-    machine: &Machine<'_, R, C, G>,
+    context: &Context<'_, R, C, G>,
     staged: &mut Names,
     stack: &mut Stack,
     target: &IndexedName,
 ) -> Result<(), EvalStop>
     requires { HasSlotsAbove HasValue (length target.now.semicolons + 1) stack.old }
-    ensures { IsState (step (op.AssignAt target.now) stack.old (staged_in staged.old machine.now.workspace.now)) stack.new (staged_in staged.new machine.now.workspace.now) result }
+    ensures { IsState (step (op.AssignAt target.now) stack.old (staged_in staged.old context.now.workspace.now)) stack.new (staged_in staged.new context.now.workspace.now) result }
 {
-    let slots = stack.pop_slots(machine.alloc, &target.semicolons)?;
-    let chosen = slots.arrays(machine.alloc)?;
+    let slots = stack.pop_slots(context.alloc, &target.semicolons)?;
+    let chosen = slots.arrays(context.alloc)?;
     let name = target.name.as_str();
-    let array = array_named(machine.workspace, staged, name);
+    let array = array_named(context.workspace, staged, name);
     let value = stack.top_value();
-    match machine.assign_at(array, chosen.as_slice(), value) {
+    match context.assign_at(array, chosen.as_slice(), value) {
         Ok(changed) => {
-            let changed = Rc::new(machine.alloc, changed)?;
-            Ok(staged.insert(machine.alloc, name, changed)?)
+            let changed = Rc::new(context.alloc, changed)?;
+            Ok(staged.insert(context.alloc, name, changed)?)
         }
         Err(Refusal::Error(error)) => Err(EvalStop::Error {
             error,
@@ -239,50 +239,50 @@ fn apply_assign_at<R: Threads + Sync, C: Cut + Sync, G: Gate + Sync>(
 
 /// Carries out one operation. The line's assignments are staged, and read before the workspace's names.
 fn carry_out<R: Threads + Sync, C: Cut + Sync, G: Gate + Sync>(
-    machine: &Machine<'_, R, C, G>,
+    context: &Context<'_, R, C, G>,
     staged: &mut Names,
     stack: &mut Stack,
     operation: &Operation,
 ) -> Result<(), EvalStop>
-    requires { step operation.now stack.old (staged_in staged.old machine.now.workspace.now) ≢ stuck }
-    ensures { IsState (step operation.now stack.old (staged_in staged.old machine.now.workspace.now)) stack.new (staged_in staged.new machine.now.workspace.now) result }
+    requires { step operation.now stack.old (staged_in staged.old context.now.workspace.now) ≢ stuck }
+    ensures { IsState (step operation.now stack.old (staged_in staged.old context.now.workspace.now)) stack.new (staged_in staged.new context.now.workspace.now) result }
 {
     match operation {
-        Operation::Constant(_, constant) => put(stack, constant_value(machine.alloc, constant)),
+        Operation::Constant(_, constant) => put(stack, constant_value(context.alloc, constant)),
         Operation::Name(column, name) => {
             let name = name.as_str();
-            put(stack, name_value(machine.workspace, staged, *column, name))
+            put(stack, name_value(context.workspace, staged, *column, name))
         }
         Operation::Group(_) => Ok(()),
         Operation::EmptySlot => Ok(stack.push_empty_slot()?),
         Operation::Assign(_, name, _) => {
             let value = stack.top_value().clone()?;
-            staged.insert(machine.alloc, name.as_str(), value)?;
+            staged.insert(context.alloc, name.as_str(), value)?;
             Ok(())
         }
-        Operation::Dyadic(form, axis) => apply_dyadic(machine, stack, form, axis),
-        Operation::Monadic(form, axis) => apply_monadic(machine, stack, form, axis),
+        Operation::Dyadic(form, axis) => apply_dyadic(context, stack, form, axis),
+        Operation::Monadic(form, axis) => apply_monadic(context, stack, form, axis),
         Operation::Index(semicolons, brackets) => {
-            apply_index(machine, stack, semicolons, brackets)
+            apply_index(context, stack, semicolons, brackets)
         }
         Operation::AssignAt(target) => {
-            apply_assign_at(machine, staged, stack, target.indexed_name())
+            apply_assign_at(context, staged, stack, target.indexed_name())
         }
     }
 }
 
 /// The value of a program. The line's assignments are staged.
 fn run<R: Threads + Sync, C: Cut + Sync, G: Gate + Sync>(
-    machine: &Machine<'_, R, C, G>,
+    context: &Context<'_, R, C, G>,
     staged: &mut Names,
     program: &Program,
 ) -> Result<Rc<Array>, EvalStop>
     requires { staged.old ≡ empty }
-    ensures { (tree : Expr) → operations tree ≡ program.now → IsOutcome (meaning_of tree machine.now.workspace.now) (staged_in staged.new machine.now.workspace.now) result }
+    ensures { (tree : Expr) → operations tree ≡ program.now → IsOutcome (meaning_of tree context.now.workspace.now) (staged_in staged.new context.now.workspace.now) result }
 {
-    let mut stack = Stack::new(machine.alloc);
+    let mut stack = Stack::new(context.alloc);
     'operations: for operation in program.operations() {
-        match carry_out(machine, staged, &mut stack, operation) {
+        match carry_out(context, staged, &mut stack, operation) {
             Ok(()) => {}
             Err(stop) => return Err(stop),
         }
@@ -327,13 +327,13 @@ pub fn eval<R: Threads + Sync, C: Cut + Sync, G: Gate + Sync>(
     ensures { (tree : Expr) → operations tree ≡ program.now → Evaluates tree workspace.old workspace.new result }
 {
     let mut staged = Names::new(alloc);
-    let machine = Machine {
+    let context = Context {
         rt,
         alloc,
         pool,
         workspace,
     };
-    match run(&machine, &mut staged, program) {
+    match run(&context, &mut staged, program) {
         Ok(value) => {
             let shown = text_of(alloc, program, &value, workspace.width())?;
             workspace.keep(staged)?;

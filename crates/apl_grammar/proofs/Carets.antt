@@ -8,7 +8,7 @@ use Rattle.apl_grammar.specs.Caret.{IsViableSuffix, IsCaret}
 IsViableSuffix-end : (front ts : List Token) → IsViableSuffix (front ++ ts) → IsViableSuffix ts
 IsViableSuffix-end front ts (e, before, is, spelled) = (e, before ++ front, is, spelled ∙ sym (append_assoc before front ts))
 
--- what stands behind a list's first element
+-- what is after a list's first element
 tail_same : (t u : Token) (ts us : List Token) → t ∷ ts ≡ u ∷ us → ts ≡ us
 tail_same t u ts us e = cc
 

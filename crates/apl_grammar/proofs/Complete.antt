@@ -1,13 +1,12 @@
 -- Each tree is answered from its own tokens.
 use Rattle.std.proofs.Common.{◌≡◌, ◌++◌, ◌∷◌, [], List, Some, refl, ◌∙◌, ap}
-use Rattle.std.specs.Prelude.{ℕ, Bool, true, false, IsTrue, ◌&&◌, Option, option_map, option_and_then}
-use Rattle.apl_tokens.specs.declared.token.Lexeme.TheVariants as lexeme
+use Rattle.std.specs.Prelude.{ℕ, Bool, true, false, IsTrue, ◌&&◌, option_and_then}
+use Rattle.apl_tokens.specs.declared.token.TokenKind.TheVariants as kind
 use Rattle.apl_array.specs.declared.function.ScalarFunction.{ScalarFunction}
 use Rattle.apl_array.specs.Valences.{has_monadic, has_dyadic}
 use Rattle.apl_tokens.specs.declared.token.Glyph.TheVariants.{Scalar}
 use Rattle.apl_grammar.specs.declared.forms.DefaultAxis.TheVariants.{First, Last}
 use Rattle.apl_grammar.specs.declared.forms.MonadicFunction.TheVariants as of_one
-use Rattle.apl_grammar.specs.declared.forms.DyadicFunction.{DyadicFunction}
 use Rattle.apl_grammar.specs.declared.forms.DyadicFunction.TheVariants as of_two
 use Rattle.apl_grammar.specs.declared.forms.AxisFunction.{AxisFunction}
 use Rattle.apl_grammar.specs.declared.forms.AxisFunction.TheVariants.{Catenate, Rotate, Replicate, Expand}
@@ -19,7 +18,7 @@ use Rattle.apl_grammar.specs.declared.forms.DyadicForm.{DyadicForm}
 use Rattle.apl_grammar.specs.declared.forms.DyadicForm.TheVariants as two
 use Rattle.apl_grammar.specs.Functions.{operator_glyph, may_be_monadic, may_be_dyadic}
 use Rattle.apl_grammar.specs.Tree.{Expr, value, dyadic, monadic, assign, assign_at, Operand, constant, name, group, index, Slots, last, more, Slot, nothing, given, Axis, none, along, has_axis, IsTree, IsOperand, IsList, IsSlot, IsAxis, token_at, spells, spells_operand, spells_list, spells_slot, spells_axis, spells_monadic, spells_dyadic}
-use Rattle.apl_grammar.proofs.Partial.{Wanted, alone, applied, indexed, fill, Level, operand_wanted, expression, leading_dot, leading_arrow, leading_brackets, leading_slots, no_slots, slots, Frame, open_group, open_index, open_axis_or_index, open_indexed_assignment, as_dyadic, with_index, as_wanted, level_by, level_for, within, inner_level, monadic_level, at_operand, at_name, at_close, at_slice, at_close_bracket, at_function, at_dot, slot_of, sliced_by, at_semicolon, wanted_by, at_open_bracket, step, run_from, run_from-parts}
+use Rattle.apl_grammar.proofs.Partial.{Wanted, alone, applied, indexed, fill, Level, operand_wanted, expression, leading_dot, leading_arrow, leading_brackets, leading_slots, no_slots, slots, Frame, open_group, open_index, open_axis_or_index, open_indexed_assignment, as_dyadic, with_index, as_wanted, at_operand, at_name, at_close, at_slice, at_close_bracket, at_function, slot_of, sliced_by, at_semicolon, wanted_by, at_open_bracket, step, run_from, run_from-parts}
 
 both_true : (a b : Bool) → IsTrue (a && b) → IsTrue a × IsTrue b
 both_true true b h = (refl, h)
@@ -40,7 +39,7 @@ abbrev waiting_slash : Operator → AxisFunction
 waiting_slash (Reduction axis) = Replicate axis
 waiting_slash (Scan axis) = Expand axis
 
-slash_read : (fr : List Frame) (s : ℕ) (o : Operator) (a : Axis) (e : Expr) → run_from (fr, level_axis a e) (token_at s (lexeme.Function (operator_glyph o)) ∷ []) ≡ Some (fr, operand_wanted (applied (two.Along s (waiting_slash o)) a e))
+slash_read : (fr : List Frame) (s : ℕ) (o : Operator) (a : Axis) (e : Expr) → run_from (fr, level_axis a e) (token_at s (kind.Function (operator_glyph o)) ∷ []) ≡ Some (fr, operand_wanted (applied (two.Along s (waiting_slash o)) a e))
 slash_read fr s (Reduction First) none e = refl
 slash_read fr s (Reduction Last) none e = refl
 slash_read fr s (Scan First) none e = refl
@@ -64,11 +63,11 @@ scalar_wants c f e fr h true is = record { level = expression (monadic (one.Plai
 scalar_wants c f e fr h false is = record { level = operand_wanted (applied (two.Plain c (of_two.Scalar f)) none e); read = rw (is, h) refl; wanted = refl }
 
 dot_read : (fr : List Frame) (d c : ℕ) (f : ScalarFunction) (e : Expr) → IsTrue (has_dyadic f) → (b : Bool) → has_monadic f ≡ b
-    → run_from (fr, expression e) (token_at d lexeme.Dot ∷ token_at c (lexeme.Function (Scalar f)) ∷ []) ≡ Some (fr, leading_dot d c f e)
+    → run_from (fr, expression e) (token_at d kind.Dot ∷ token_at c (kind.Function (Scalar f)) ∷ []) ≡ Some (fr, leading_dot d c f e)
 dot_read fr d c f e h true is = rw (is, h) refl
 dot_read fr d c f e h false is = rw (is, h) refl
 
--- a function of two arguments and its axis, read behind an expression
+-- a function of two arguments and its axis, read before an expression
 wants : (f : DyadicForm) (a : Axis) (e : Expr) (fr : List Frame) → IsTrue (may_be_dyadic f (has_axis a)) → Wants f a e fr
 wants (two.Plain c (of_two.Scalar f)) none e fr h = scalar_wants c f e fr h (has_monadic f) refl
 wants (two.Plain c of_two.Reshape) none e fr h = record { level = expression (monadic (one.Plain c of_one.Shape) none e); read = refl; wanted = refl }
@@ -100,18 +99,18 @@ wants (two.Inner c f d k g) none e fr h =
     let both : IsTrue (has_dyadic f) × IsTrue (has_dyadic g) = both_true (has_dyadic f) (has_dyadic g) h in
     record {
       level = operand_wanted (applied (two.Inner c f d k g) none e);
-      read = ap (option_and_then (step (token_at c (lexeme.Function (Scalar f))))) (dot_read fr d k g e both.1 (has_monadic g) refl) ∙ rw both.0 refl;
+      read = ap (option_and_then (step (token_at c (kind.Function (Scalar f))))) (dot_read fr d k g e both.1 (has_monadic g) refl) ∙ rw both.0 refl;
       wanted = refl;
     }
 wants (two.Outer j d c g) none e fr h = record {
   level = operand_wanted (applied (two.Outer j d c g) none e);
-  read = ap (option_and_then (step (token_at j lexeme.Jot))) (dot_read fr d c g e h (has_monadic g) refl);
+  read = ap (option_and_then (step (token_at j kind.Jot))) (dot_read fr d c g e h (has_monadic g) refl);
   wanted = refl;
 }
 wants (two.Inner c f d k g) (along l x r) e fr h = absurd cc
 wants (two.Outer j d c g) (along l x r) e fr h = absurd cc
 
--- a function of one argument and its axis, read behind an expression
+-- a function of one argument and its axis, read before an expression
 monadic_read : (f : MonadicForm) (a : Axis) (e : Expr) (fr : List Frame) → IsTrue (may_be_monadic f (has_axis a)) → run_from (fr, level_axis a e) (spells_monadic f) ≡ Some (fr, expression (monadic f a e))
 monadic_read (one.Plain c (of_one.Scalar f)) none e fr h = rw h refl
 monadic_read (one.Plain c of_one.Shape) none e fr h = refl
@@ -126,7 +125,7 @@ monadic_read (one.Reverse c Last) none e fr h = refl
 monadic_read (one.Reverse c First) (along l x r) e fr h = refl
 monadic_read (one.Reverse c Last) (along l x r) e fr h = refl
 monadic_read (one.Reduce c f s o) a e fr h =
-    ap (option_and_then (step (token_at c (lexeme.Function (Scalar f))))) (slash_read fr s o a e) ∙ reduced_read fr c f s o a e h
+    ap (option_and_then (step (token_at c (kind.Function (Scalar f))))) (slash_read fr s o a e) ∙ reduced_read fr c f s o a e h
 
 name_read : (fr : List Frame) (c : ℕ) (n : List ℕ) (l : Level) (w : Wanted) → as_wanted l ≡ Some w → at_name fr c n l ≡ Some (fr, expression (fill w (name c n)))
 name_read fr c n (operand_wanted v) w h = ap (at_operand fr (name c n)) h
@@ -210,13 +209,13 @@ mutual
       (monadic_read f a e fr h.0)
   run_from-spells (assign c n r e) h fr = rw (run_from-spells e h fr) refl
   run_from-spells (assign_at c n l s d r e) h fr =
-      ap (λ k. option_and_then (step (token_at c (lexeme.Name n))) (option_and_then (step (token_at l lexeme.OpenBracket)) k))
-      (run_from-parts (fr, operand_wanted alone) (open_indexed_assignment d no_slots r e ∷ fr, operand_wanted alone) (frame_of (open_indexed_assignment d no_slots r e) (λ k ss. open_indexed_assignment d (slots k ss) r e) s ∷ fr, level_slot (first_slot s)) (spells_list s) (token_at d lexeme.CloseBracket ∷ token_at r lexeme.Arrow ∷ spells e)
-      (ap (λ k. option_and_then (step (token_at d lexeme.CloseBracket)) (option_and_then (step (token_at r lexeme.Arrow)) k)) (run_from-spells e h.1 fr))
+      ap (λ k. option_and_then (step (token_at c (kind.Name n))) (option_and_then (step (token_at l kind.OpenBracket)) k))
+      (run_from-parts (fr, operand_wanted alone) (open_indexed_assignment d no_slots r e ∷ fr, operand_wanted alone) (frame_of (open_indexed_assignment d no_slots r e) (λ k ss. open_indexed_assignment d (slots k ss) r e) s ∷ fr, level_slot (first_slot s)) (spells_list s) (token_at d kind.CloseBracket ∷ token_at r kind.Arrow ∷ spells e)
+      (ap (λ k. option_and_then (step (token_at d kind.CloseBracket)) (option_and_then (step (token_at r kind.Arrow)) k)) (run_from-spells e h.1 fr))
       (run_from-list s h.0 fr (open_indexed_assignment d no_slots r e) (λ k ss. open_indexed_assignment d (slots k ss) r e) (λ k t. refl) (λ k j t ss. refl)))
       ∙ stored_closes s
     where
-      stored_closes : (s : Slots) → option_and_then (step (token_at c (lexeme.Name n))) (at_open_bracket l (frame_of (open_indexed_assignment d no_slots r e) (λ k ss. open_indexed_assignment d (slots k ss) r e) s ∷ fr) (slot_of (level_slot (first_slot s)))) ≡ Some (fr, expression (assign_at c n l s d r e))
+      stored_closes : (s : Slots) → option_and_then (step (token_at c (kind.Name n))) (at_open_bracket l (frame_of (open_indexed_assignment d no_slots r e) (λ k ss. open_indexed_assignment d (slots k ss) r e) s ∷ fr) (slot_of (level_slot (first_slot s)))) ≡ Some (fr, expression (assign_at c n l s d r e))
       stored_closes (last nothing) = refl
       stored_closes (last (given x)) = refl
       stored_closes (more nothing k ss) = refl
@@ -226,22 +225,22 @@ mutual
   run_from-operand (constant c v) h fr l w at_l = ap (at_operand fr (constant c v)) at_l
   run_from-operand (name c n) h fr l w at_l = name_read fr c n l w at_l
   run_from-operand (group b e c) h fr l w at_l =
-      ap (option_and_then (step (token_at b lexeme.OpenParen)))
-      (run_from-parts (fr, l) (open_group c w ∷ fr, operand_wanted alone) (open_group c w ∷ fr, expression e) (spells e) (token_at c lexeme.CloseParen ∷ []) (ap (at_close fr c) at_l) (run_from-spells e h (open_group c w ∷ fr)))
+      ap (option_and_then (step (token_at b kind.OpenParen)))
+      (run_from-parts (fr, l) (open_group c w ∷ fr, operand_wanted alone) (open_group c w ∷ fr, expression e) (spells e) (token_at c kind.CloseParen ∷ []) (ap (at_close fr c) at_l) (run_from-spells e h (open_group c w ∷ fr)))
   run_from-operand (index x b s c) h fr l w at_l =
       let k = brackets fr l c w at_l in
       let closed = k.closes b s in
-      run_from-parts (fr, l) (fr, closed.0) (fr, expression (fill w (index x b s c))) (spells_operand x) (token_at b lexeme.OpenBracket ∷ (spells_list s ++ token_at c lexeme.CloseBracket ∷ []))
-      (ap (option_and_then (step (token_at b lexeme.OpenBracket)))
-      (run_from-parts (fr, l) (k.frame ∷ fr, operand_wanted alone) (frame_of k.frame k.behind s ∷ fr, level_slot (first_slot s)) (spells_list s) (token_at c lexeme.CloseBracket ∷ []) k.opens (run_from-list s h.1 fr k.frame k.behind k.first k.next))
+      run_from-parts (fr, l) (fr, closed.0) (fr, expression (fill w (index x b s c))) (spells_operand x) (token_at b kind.OpenBracket ∷ (spells_list s ++ token_at c kind.CloseBracket ∷ []))
+      (ap (option_and_then (step (token_at b kind.OpenBracket)))
+      (run_from-parts (fr, l) (k.frame ∷ fr, operand_wanted alone) (frame_of k.frame k.behind s ∷ fr, level_slot (first_slot s)) (spells_list s) (token_at c kind.CloseBracket ∷ []) k.opens (run_from-list s h.1 fr k.frame k.behind k.first k.next))
       ∙ ap (at_open_bracket b (frame_of k.frame k.behind s ∷ fr)) (slot_of_level (first_slot s)) ∙ closed.1)
       (run_from-operand x h.0 fr closed.0 (indexed w b s c) closed.2)
 
   pub run_from-list : (s : Slots) → IsList s → (fr : List Frame) (f : Frame) (g : ℕ → Slots → Frame) → ((k : ℕ) (t : Slot) → at_semicolon k (f ∷ fr) (Some t) ≡ Some (g k (last t) ∷ fr, operand_wanted alone)) → ((k j : ℕ) (t : Slot) (ss : Slots) → at_semicolon k (g j ss ∷ fr) (Some t) ≡ Some (g k (more t j ss) ∷ fr, operand_wanted alone)) → run_from (f ∷ fr, operand_wanted alone) (spells_list s) ≡ Some (frame_of f g s ∷ fr, level_slot (first_slot s))
   run_from-list (last s) h fr f g first next = run_from-slot s h (f ∷ fr)
   run_from-list (more s c ss) h fr f g first next =
-      run_from-parts (f ∷ fr, operand_wanted alone) (g c ss ∷ fr, operand_wanted alone) (g c ss ∷ fr, level_slot s) (spells_slot s) (token_at c lexeme.Semicolon ∷ spells_list ss)
-      (ap (option_and_then (step (token_at c lexeme.Semicolon))) (run_from-list ss h.1 fr f g first next)
+      run_from-parts (f ∷ fr, operand_wanted alone) (g c ss ∷ fr, operand_wanted alone) (g c ss ∷ fr, level_slot s) (spells_slot s) (token_at c kind.Semicolon ∷ spells_list ss)
+      (ap (option_and_then (step (token_at c kind.Semicolon))) (run_from-list ss h.1 fr f g first next)
       ∙ ap (at_semicolon c (frame_of f g ss ∷ fr)) (slot_of_level (first_slot ss)) ∙ behind ss)
       (run_from-slot s h.0 (g c ss ∷ fr))
     where
@@ -256,5 +255,5 @@ mutual
   pub run_from-axis : (a : Axis) → IsAxis a → (fr : List Frame) (e : Expr) → run_from (fr, expression e) (spells_axis a) ≡ Some (fr, level_axis a e)
   run_from-axis none h fr e = refl
   run_from-axis (along b x c) h fr e =
-      ap (option_and_then (step (token_at b lexeme.OpenBracket)))
-      (run_from-parts (fr, expression e) (open_axis_or_index c e ∷ fr, operand_wanted alone) (open_axis_or_index c e ∷ fr, expression x) (spells x) (token_at c lexeme.CloseBracket ∷ []) refl (run_from-spells x h (open_axis_or_index c e ∷ fr)))
+      ap (option_and_then (step (token_at b kind.OpenBracket)))
+      (run_from-parts (fr, expression e) (open_axis_or_index c e ∷ fr, operand_wanted alone) (open_axis_or_index c e ∷ fr, expression x) (spells x) (token_at c kind.CloseBracket ∷ []) refl (run_from-spells x h (open_axis_or_index c e ∷ fr)))

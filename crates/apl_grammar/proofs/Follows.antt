@@ -3,11 +3,10 @@ use Rattle.std.proofs.Common.{◌≡◌, ◌++◌, ◌∷◌, [], List, Option, 
 use Rattle.std.specs.Prelude.{ℕ, Bool, true, false, option_map, option_and_then}
 use Rattle.std.proofs.lemmas.List.{append-nil}
 use Rattle.apl_tokens.specs.declared.token.Token.{Token}
-use Rattle.apl_tokens.specs.declared.token.Lexeme.{Lexeme}
-use Rattle.apl_tokens.specs.declared.token.Lexeme.TheVariants as lexeme
+use Rattle.apl_tokens.specs.declared.token.TokenKind.{TokenKind}
+use Rattle.apl_tokens.specs.declared.token.TokenKind.TheVariants as kind
 use Rattle.apl_tokens.specs.declared.token.Glyph.{Glyph}
 use Rattle.apl_array.specs.declared.function.ScalarFunction.{ScalarFunction}
-use Rattle.apl_grammar.specs.declared.program.Brackets.{Brackets}
 use Rattle.apl_grammar.specs.declared.forms.DyadicFunction.TheVariants as of_two
 use Rattle.apl_grammar.specs.declared.forms.MonadicForm.{MonadicForm}
 use Rattle.apl_grammar.specs.declared.forms.DyadicForm.{DyadicForm}
@@ -20,7 +19,7 @@ use Rattle.apl_grammar.specs.declared.reader.Pending.{Pending}
 use Rattle.apl_grammar.specs.declared.reader.Pending.TheVariants as pending
 use Rattle.apl_grammar.specs.Functions.{dyadic_scalar, monadic_form, dyadic_form, dyadic_counterpart, reduced}
 use Rattle.apl_grammar.specs.Tree.{Expr, value, dyadic, monadic, assign, assign_at, Operand, constant, name, group, last, Slot, nothing, given, Axis, none, along, has_axis, brackets, indexed_name, axis_brackets, semicolons, operations, operand_operations, list_operations, slot_operations, axis_operations}
-use Rattle.apl_grammar.specs.Automaton.{Machine, machine, after_operand, with_dyadic, with_index, stack_for_operand, with_operand, with_name, expression_operations, with_function_pending, with_either, with_leading_function, with_monadic, with_function, with_leading_dot, with_dot, with_jot, with_arrow, closed_group, with_open_paren, with_close_paren, with_close_bracket, with_slot, is_empty_slot, with_next_slot, with_semicolon, closed_list, with_open_bracket, step, step_lexeme, run, when_nothing_pending, statement_operations}
+use Rattle.apl_grammar.specs.Automaton.{Machine, machine, after_operand, with_index, stack_for_operand, with_operand, with_name, expression_operations, with_function_pending, with_either, with_leading_function, with_monadic, with_function, with_leading_dot, with_dot, with_jot, with_arrow, closed_group, with_open_paren, with_close_paren, with_close_bracket, with_slot, is_empty_slot, with_next_slot, with_semicolon, closed_list, with_open_bracket, step, step_kind, run, when_nothing_pending, statement_operations}
 use Rattle.apl_grammar.proofs.Partial as partial
 use Rattle.apl_grammar.proofs.Partial.{Wanted, alone, applied as applied_to, indexed, fill, Level, operand_wanted, expression, leading_dot, leading_arrow, leading_brackets, leading_slots, Tail, no_slots, slots, Frame, open_group, open_index, open_axis_or_index, open_indexed_assignment, Config, join, applied_to as applied_by, as_dyadic, with_index as indexed_by, as_wanted, level_by, level_for, within, inner_level, monadic_level, at_operand, at_name, at_close, at_slice, at_close_bracket, at_function, dotted, at_dot, at_jot, at_arrow, at_open, slot_of, sliced_by, at_semicolon, wanted_by, at_open_bracket}
 use Rattle.apl_grammar.proofs.Sound.{no_slot_semicolon, no_slot_open}
@@ -370,23 +369,23 @@ open_bracket_follows b fr (leading_arrow r e) ps os h = rw no_slot_open tt
 open_bracket_follows b fr (leading_brackets l x r e) ps os h = rw no_slot_open tt
 open_bracket_follows b fr (leading_slots l s d r e) ps os h = rw no_slot_open tt
 
-lexeme_follows : (c : ℕ) (x : Lexeme) (fr : List Frame) (l : Level) (ps : List ℕ) (os : List (Option Operation)) → EmitsLevel fr l ps os → Follows (partial.step_lexeme c x fr l) (step_lexeme os (level_stack fr l ps) (level_state l ps) c x)
-lexeme_follows c (lexeme.Constant v) fr l ps os h = operand_follows fr l ps os (constant c v) (op.Constant c v) refl h
-lexeme_follows c (lexeme.Name n) fr l ps os h = name_follows c n fr l ps os h
-lexeme_follows c (lexeme.Function g) fr l ps os h = function_follows c g fr l ps os h
-lexeme_follows c lexeme.Dot fr l ps os h = dot_follows c fr l ps os h
-lexeme_follows c lexeme.Jot fr l ps os h = jot_follows c fr l ps os h
-lexeme_follows c lexeme.Arrow fr l ps os h = arrow_follows c fr l ps os h
-lexeme_follows c lexeme.OpenParen fr l ps os h = open_follows c fr l ps os h
-lexeme_follows c lexeme.CloseParen fr l ps os h = close_follows c fr l ps os h
-lexeme_follows c lexeme.OpenBracket fr l ps os h = open_bracket_follows c fr l ps os h
-lexeme_follows c lexeme.CloseBracket fr l ps os h = close_bracket_follows c fr l ps os h
-lexeme_follows c lexeme.Semicolon fr l ps os h = semicolon_follows c fr l ps os h
+kind_follows : (c : ℕ) (x : TokenKind) (fr : List Frame) (l : Level) (ps : List ℕ) (os : List (Option Operation)) → EmitsLevel fr l ps os → Follows (partial.step_kind c x fr l) (step_kind os (level_stack fr l ps) (level_state l ps) c x)
+kind_follows c (kind.Constant v) fr l ps os h = operand_follows fr l ps os (constant c v) (op.Constant c v) refl h
+kind_follows c (kind.Name n) fr l ps os h = name_follows c n fr l ps os h
+kind_follows c (kind.Function g) fr l ps os h = function_follows c g fr l ps os h
+kind_follows c kind.Dot fr l ps os h = dot_follows c fr l ps os h
+kind_follows c kind.Jot fr l ps os h = jot_follows c fr l ps os h
+kind_follows c kind.Arrow fr l ps os h = arrow_follows c fr l ps os h
+kind_follows c kind.OpenParen fr l ps os h = open_follows c fr l ps os h
+kind_follows c kind.CloseParen fr l ps os h = close_follows c fr l ps os h
+kind_follows c kind.OpenBracket fr l ps os h = open_bracket_follows c fr l ps os h
+kind_follows c kind.CloseBracket fr l ps os h = close_bracket_follows c fr l ps os h
+kind_follows c kind.Semicolon fr l ps os h = semicolon_follows c fr l ps os h
 
 pub step_follows : (t : Token) (k : Config) (m : Machine) → Represents k m → Follows (partial.step t k) (step t m)
 step_follows t k m h =
-    let moved : step_lexeme m.operations (level_stack k.0 k.1 h.places) (level_state k.1 h.places) t.column t.lexeme ≡ step t m = rw (h.stack, h.state) refl in
-    subst (λ (x : Option Machine). Follows (partial.step t k) x) moved (lexeme_follows t.column t.lexeme k.0 k.1 h.places m.operations h.emits)
+    let moved : step_kind m.operations (level_stack k.0 k.1 h.places) (level_state k.1 h.places) t.column t.kind ≡ step t m = rw (h.stack, h.state) refl in
+    subst (λ (x : Option Machine). Follows (partial.step t k) x) moved (kind_follows t.column t.kind k.0 k.1 h.places m.operations h.emits)
 
 pub run_follows : (ts : List Token) → Follows (partial.run ts) (run ts)
 run_follows [] = record { places = []; emits = refl; stack = refl; state = refl }

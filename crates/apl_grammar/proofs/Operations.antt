@@ -41,7 +41,7 @@ abbrev below : List Item → List Item
 below [] = []
 below (x ∷ xs) = xs
 
--- the list of slots with these columns of semicolons, from left to right, and what stands below its slots
+-- the list of slots with these columns of semicolons, from left to right, and what is below its slots
 abbrev slots_in : List ℕ → List Item → Slots
 slots_in [] xs = last (slot_in (top xs))
 slots_in (c ∷ cs) xs = more (slot_in (top xs)) c (slots_in cs (below xs))

@@ -1,9 +1,9 @@
 -- The automaton of the grammar, over partial trees. It reads tokens from the right.
 use Rattle.std.proofs.Common.{◌≡◌, ◌++◌, ◌∷◌, [], List, Option, Some, None, refl, sym, ◌∙◌, ap}
-use Rattle.std.specs.Prelude.{ℕ, Bool, true, false, option_map, option_and_then}
+use Rattle.std.specs.Prelude.{ℕ, option_map, option_and_then}
 use Rattle.apl_tokens.specs.declared.token.Token.{Token}
-use Rattle.apl_tokens.specs.declared.token.Lexeme.{Lexeme}
-use Rattle.apl_tokens.specs.declared.token.Lexeme.TheVariants as lexeme
+use Rattle.apl_tokens.specs.declared.token.TokenKind.{TokenKind}
+use Rattle.apl_tokens.specs.declared.token.TokenKind.TheVariants as kind
 use Rattle.apl_tokens.specs.declared.token.Glyph.{Glyph}
 use Rattle.apl_array.specs.declared.function.ScalarFunction.{ScalarFunction}
 use Rattle.apl_grammar.specs.declared.forms.DyadicFunction.TheVariants.{Scalar}
@@ -33,12 +33,12 @@ pub data Level : Type 0 where
   leading_brackets : (left : ℕ) → Expr → (right : ℕ) → Expr → Level  -- [ expr ] expr, an axis or an index
   leading_slots : (left : ℕ) → Slots → (right arrow : ℕ) → Expr → Level  -- [ list ] ← expr
 
--- the slots behind the last semicolon read
+-- the slots after the last semicolon read
 pub data Tail : Type 0 where
   no_slots : Tail
   slots : (semicolon : ℕ) → Slots → Tail
 
--- an open bracket, and what stands on its right
+-- an open bracket, and what is on its right
 pub data Frame : Type 0 where
   open_group : (right : ℕ) → Wanted → Frame
   open_index : (right : ℕ) → Tail → Wanted → Frame
@@ -167,21 +167,21 @@ at_open_bracket l (open_axis_or_index c e ∷ fr) (Some nothing) = wanted_by fr 
 at_open_bracket l (open_indexed_assignment c tail r e ∷ fr) (Some s) = Some (fr, leading_slots l (join tail s) c r e)
 at_open_bracket l _ _ = None
 
-abbrev pub step_lexeme : ℕ → Lexeme → List Frame → Level → Option Config
-step_lexeme c (lexeme.Constant v) fr l = at_operand fr (constant c v) (as_wanted l)
-step_lexeme c (lexeme.Name n) fr l = at_name fr c n l
-step_lexeme c (lexeme.Function g) fr l = at_function fr c g l
-step_lexeme c lexeme.Dot fr l = at_dot fr c l
-step_lexeme c lexeme.Jot fr l = at_jot fr c l
-step_lexeme c lexeme.Arrow fr l = at_arrow fr c l
-step_lexeme c lexeme.OpenParen fr l = at_open c fr l
-step_lexeme c lexeme.CloseParen fr l = at_close fr c (as_wanted l)
-step_lexeme c lexeme.OpenBracket fr l = at_open_bracket c fr (slot_of l)
-step_lexeme c lexeme.CloseBracket fr l = at_close_bracket fr c l
-step_lexeme c lexeme.Semicolon fr l = at_semicolon c fr (slot_of l)
+abbrev pub step_kind : ℕ → TokenKind → List Frame → Level → Option Config
+step_kind c (kind.Constant v) fr l = at_operand fr (constant c v) (as_wanted l)
+step_kind c (kind.Name n) fr l = at_name fr c n l
+step_kind c (kind.Function g) fr l = at_function fr c g l
+step_kind c kind.Dot fr l = at_dot fr c l
+step_kind c kind.Jot fr l = at_jot fr c l
+step_kind c kind.Arrow fr l = at_arrow fr c l
+step_kind c kind.OpenParen fr l = at_open c fr l
+step_kind c kind.CloseParen fr l = at_close fr c (as_wanted l)
+step_kind c kind.OpenBracket fr l = at_open_bracket c fr (slot_of l)
+step_kind c kind.CloseBracket fr l = at_close_bracket fr c l
+step_kind c kind.Semicolon fr l = at_semicolon c fr (slot_of l)
 
 abbrev pub step : Token → Config → Option Config
-step t k = step_lexeme t.column t.lexeme k.0 k.1
+step t k = step_kind t.column t.kind k.0 k.1
 
 abbrev pub run_from : Config → List Token → Option Config
 run_from k [] = Some k

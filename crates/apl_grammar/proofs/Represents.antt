@@ -1,10 +1,8 @@
 -- How the reader's machine represents partial trees: by the operations that it has emitted, its stack and its state.
 use Rattle.std.proofs.Common.{◌≡◌, ◌++◌, ◌∷◌, [], List, Option, Some, None, refl, sym, ◌∙◌, ap, subst, append_assoc, length}
-use Rattle.std.specs.Prelude.{ℕ, Bool, true, false, slice_set}
+use Rattle.std.specs.Prelude.{ℕ, slice_set}
 use Rattle.std.proofs.lemmas.List.{append-nil}
 use Rattle.std.proofs.Math.Seq.{set-append_seam}
-use Rattle.apl_grammar.specs.declared.forms.MonadicForm.{MonadicForm}
-use Rattle.apl_grammar.specs.declared.forms.DyadicForm.{DyadicForm}
 use Rattle.apl_grammar.specs.declared.program.Operation.{Operation}
 use Rattle.apl_grammar.specs.declared.program.Operation.TheVariants as op
 use Rattle.apl_grammar.specs.declared.reader.UndecidedFunction.{UndecidedFunction}
@@ -12,7 +10,7 @@ use Rattle.apl_grammar.specs.declared.reader.State.{State}
 use Rattle.apl_grammar.specs.declared.reader.State.TheVariants as state
 use Rattle.apl_grammar.specs.declared.reader.Pending.{Pending}
 use Rattle.apl_grammar.specs.declared.reader.Pending.TheVariants as pending
-use Rattle.apl_grammar.specs.Tree.{Expr, value, dyadic, monadic, assign, assign_at, Operand, index, Axis, has_axis, brackets, axis_brackets, semicolons, operations, operand_operations, list_operations, axis_operations}
+use Rattle.apl_grammar.specs.Tree.{Expr, value, dyadic, monadic, assign, assign_at, Operand, index, brackets, axis_brackets, semicolons, operations, operand_operations, list_operations, axis_operations}
 use Rattle.apl_grammar.specs.Automaton.{Machine, machine, without_empty_places, after_operand, with_monadic, expression_operations}
 use Rattle.apl_grammar.proofs.Partial.{Wanted, alone, applied as applied_to, indexed, fill, Level, operand_wanted, expression, leading_dot, leading_arrow, leading_brackets, leading_slots, Tail, no_slots, slots, Frame, open_group, open_index, open_axis_or_index, open_indexed_assignment, Config}
 use Rattle.apl_grammar.proofs.Emitted.{emitted-append}

@@ -2,7 +2,7 @@
 use Rattle.std.proofs.Common.{◌≡◌, ◌++◌, ◌∷◌, [], List, Option, Some, None, refl, sym, ◌∙◌, ap, subst, append_assoc, inl, inr}
 use Rattle.std.specs.Prelude.{ℕ, option_and_then}
 use Rattle.apl_tokens.specs.declared.token.Token.{Token}
-use Rattle.apl_tokens.specs.declared.token.Lexeme.TheVariants as lexeme
+use Rattle.apl_tokens.specs.declared.token.TokenKind.TheVariants as kind
 use Rattle.apl_grammar.specs.declared.forms.AxisFunction.TheVariants.{Catenate}
 use Rattle.apl_grammar.specs.declared.forms.DyadicForm.TheVariants.{Along, Inner}
 use Rattle.apl_grammar.specs.Tree.{Expr, dyadic, assign, assign_at, Operand, name, group, index, given, none, along, IsTree, token_at, spells}
@@ -29,14 +29,14 @@ some_operand = name 0 some_name
 
 level_ends : (l : Level) → IsLevel l → Ends (spelled_level l)
 unfolding some_operand
-level_ends (operand_wanted w) h = record { tree = fill w some_operand; front = token_at 0 (lexeme.Name some_name) ∷ []; fits = fill_tree w some_operand tt h; same = fill-spells w some_operand }
+level_ends (operand_wanted w) h = record { tree = fill w some_operand; front = token_at 0 (kind.Name some_name) ∷ []; fits = fill_tree w some_operand tt h; same = fill-spells w some_operand }
 level_ends (expression e) h = record { tree = e; front = []; fits = h; same = refl }
-level_ends (leading_dot d c g e) h = record { tree = dyadic some_operand (Inner 0 Plus d c g) none e; front = token_at 0 (lexeme.Name some_name) ∷ token_at 0 (lexeme.Function (Scalar Plus)) ∷ []; fits = (tt, h.0, tt, h.1); same = refl }
-level_ends (leading_arrow r e) h = record { tree = assign 0 some_name r e; front = token_at 0 (lexeme.Name some_name) ∷ []; fits = h; same = refl }
-level_ends (leading_brackets l x r e) h = record { tree = dyadic some_operand (Along 0 Catenate) (along l x r) e; front = token_at 0 (lexeme.Name some_name) ∷ token_at 0 (lexeme.Function Comma) ∷ []; fits = (tt, refl, h.0, h.1); same = simp append_assoc }
-level_ends (leading_slots l s d r e) h = record { tree = assign_at 0 some_name l s d r e; front = token_at 0 (lexeme.Name some_name) ∷ []; fits = h; same = refl }
+level_ends (leading_dot d c g e) h = record { tree = dyadic some_operand (Inner 0 Plus d c g) none e; front = token_at 0 (kind.Name some_name) ∷ token_at 0 (kind.Function (Scalar Plus)) ∷ []; fits = (tt, h.0, tt, h.1); same = refl }
+level_ends (leading_arrow r e) h = record { tree = assign 0 some_name r e; front = token_at 0 (kind.Name some_name) ∷ []; fits = h; same = refl }
+level_ends (leading_brackets l x r e) h = record { tree = dyadic some_operand (Along 0 Catenate) (along l x r) e; front = token_at 0 (kind.Name some_name) ∷ token_at 0 (kind.Function Comma) ∷ []; fits = (tt, refl, h.0, h.1); same = simp append_assoc }
+level_ends (leading_slots l s d r e) h = record { tree = assign_at 0 some_name l s d r e; front = token_at 0 (kind.Name some_name) ∷ []; fits = h; same = refl }
 
--- an operand for what is wanted, in front of which other tokens stand
+-- an operand for what is wanted, with other tokens in front of it
 record Closed (front ts : List Token) : Type 0 where
   tree : Expr
   fits : IsTree tree
@@ -46,7 +46,7 @@ record Closed (front ts : List Token) : Type 0 where
 frame_closed : (f : Frame) (fr : List Frame) (e : Expr) → AreFrames (f ∷ fr) → IsTree e → (front : List Token) × (tree : Expr) × IsTree tree × AreFrames fr × (spells tree ++ spelled_frames fr ≡ front ++ (spells e ++ spelled_frames (f ∷ fr)))
 unfolding some_operand
 frame_closed (open_group r w) fr e hf he = (
-  token_at 0 lexeme.OpenParen ∷ [],
+  token_at 0 kind.OpenParen ∷ [],
   fill w (group 0 e r),
   fill_tree w (group 0 e r) he hf.0,
   hf.1,
@@ -54,20 +54,20 @@ frame_closed (open_group r w) fr e hf he = (
 )
 frame_closed (open_index r t w) fr e hf he =
     let x : Operand = index some_operand 0 (join t (given e)) r in (
-      token_at 0 (lexeme.Name some_name) ∷ token_at 0 lexeme.OpenBracket ∷ [],
+      token_at 0 (kind.Name some_name) ∷ token_at 0 kind.OpenBracket ∷ [],
       fill w x,
       fill_tree w x (tt, join_list t (given e) hf.0 he) hf.1,
       hf.2,
-      ap (λ y. y ++ spelled_frames fr) (fill-spells w x) ∙ ap (λ y. (token_at 0 (lexeme.Name some_name) ∷ token_at 0 lexeme.OpenBracket ∷ (y ++ token_at r lexeme.CloseBracket ∷ []) ++ spelled_wanted w) ++ spelled_frames fr) (join-spells t (given e)) ∙ simp append_assoc,
+      ap (λ y. y ++ spelled_frames fr) (fill-spells w x) ∙ ap (λ y. (token_at 0 (kind.Name some_name) ∷ token_at 0 kind.OpenBracket ∷ (y ++ token_at r kind.CloseBracket ∷ []) ++ spelled_wanted w) ++ spelled_frames fr) (join-spells t (given e)) ∙ simp append_assoc,
     )
 frame_closed (open_axis_or_index r e') fr e hf he =
-    (token_at 0 (lexeme.Name some_name) ∷ token_at 0 (lexeme.Function Comma) ∷ token_at 0 lexeme.OpenBracket ∷ [], dyadic some_operand (Along 0 Catenate) (along 0 e r) e', (tt, refl, he, hf.0), hf.1, simp append_assoc)
+    (token_at 0 (kind.Name some_name) ∷ token_at 0 (kind.Function Comma) ∷ token_at 0 kind.OpenBracket ∷ [], dyadic some_operand (Along 0 Catenate) (along 0 e r) e', (tt, refl, he, hf.0), hf.1, simp append_assoc)
 frame_closed (open_indexed_assignment r t a e') fr e hf he = (
-  token_at 0 (lexeme.Name some_name) ∷ token_at 0 lexeme.OpenBracket ∷ [],
+  token_at 0 (kind.Name some_name) ∷ token_at 0 kind.OpenBracket ∷ [],
   assign_at 0 some_name 0 (join t (given e)) r a e',
   (join_list t (given e) hf.0 he, hf.1),
   hf.2,
-  ap (λ y. (token_at 0 (lexeme.Name some_name) ∷ token_at 0 lexeme.OpenBracket ∷ (y ++ token_at r lexeme.CloseBracket ∷ token_at a lexeme.Arrow ∷ spells e')) ++ spelled_frames fr) (join-spells t (given e)) ∙ simp append_assoc,
+  ap (λ y. (token_at 0 (kind.Name some_name) ∷ token_at 0 kind.OpenBracket ∷ (y ++ token_at r kind.CloseBracket ∷ token_at a kind.Arrow ∷ spells e')) ++ spelled_frames fr) (join-spells t (given e)) ∙ simp append_assoc,
 )
 
 frames_end : (fr : List Frame) (e : Expr) → AreFrames fr → IsTree e → Ends (spells e ++ spelled_frames fr)

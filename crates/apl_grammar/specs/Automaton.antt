@@ -1,14 +1,14 @@
 -- The reader's states over a list of tokens from the right. No contract of a public function cites this file.
-use Rattle.std.specs.Prelude.{◌≡◌, ℕ, Bool, true, false, ◌&&◌, List, [], ◌∷◌, ◌++◌, length, reverse, slice_set, Option, Some, None, is_some, option_map, option_and_then, if◌then◌else◌}
+use Rattle.std.specs.Prelude.{◌≡◌, ℕ, Bool, true, false, List, [], ◌∷◌, ◌++◌, length, reverse, slice_set, Option, Some, None, is_some, option_map, option_and_then}
 use Rattle.apl_tokens.specs.declared.token.Token.{Token}
-use Rattle.apl_tokens.specs.declared.token.Lexeme.{Lexeme}
-use Rattle.apl_tokens.specs.declared.token.Lexeme.TheVariants as lexeme
+use Rattle.apl_tokens.specs.declared.token.TokenKind.{TokenKind}
+use Rattle.apl_tokens.specs.declared.token.TokenKind.TheVariants as kind
 use Rattle.apl_tokens.specs.declared.token.Glyph.{Glyph}
 use Rattle.apl_grammar.specs.declared.program.Brackets.{Brackets}
 use Rattle.apl_grammar.specs.declared.forms.DyadicFunction.TheVariants.{Scalar}
 use Rattle.apl_grammar.specs.declared.forms.MonadicForm.{MonadicForm}
 use Rattle.apl_grammar.specs.declared.forms.DyadicForm.{DyadicForm}
-use Rattle.apl_grammar.specs.declared.forms.DyadicForm.TheVariants.{Plain, Along, Inner, Outer}
+use Rattle.apl_grammar.specs.declared.forms.DyadicForm.TheVariants.{Plain, Inner, Outer}
 use Rattle.apl_grammar.specs.declared.program.Operation.{Operation}
 use Rattle.apl_grammar.specs.declared.program.Operation.TheVariants as op
 use Rattle.apl_grammar.specs.declared.reader.UndecidedFunction.{UndecidedFunction}
@@ -171,21 +171,21 @@ closed_list empty l os es = None
 abbrev pub with_open_bracket : List (Option Operation) → List Pending → State → ℕ → Option Machine
 with_open_bracket os es s l = option_and_then (λ os. closed_list (is_empty_slot s) l os es) (with_slot os s)
 
-abbrev pub step_lexeme : List (Option Operation) → List Pending → State → ℕ → Lexeme → Option Machine
-step_lexeme os es s c (lexeme.Constant v) = with_operand os es s (op.Constant c v)
-step_lexeme os es s c (lexeme.Name n) = with_name os es s c n
-step_lexeme os es s c (lexeme.Function g) = with_function os es s c g
-step_lexeme os es s c lexeme.Dot = with_dot os es s c
-step_lexeme os es s c lexeme.Jot = with_jot os es s c
-step_lexeme os es s c lexeme.Arrow = with_arrow os es s c
-step_lexeme os es s c lexeme.OpenParen = with_open_paren os es s c
-step_lexeme os es s c lexeme.CloseParen = with_close_paren os es s c
-step_lexeme os es s c lexeme.OpenBracket = with_open_bracket os es s c
-step_lexeme os es s c lexeme.CloseBracket = with_close_bracket os es s c
-step_lexeme os es s c lexeme.Semicolon = with_semicolon os es s c
+abbrev pub step_kind : List (Option Operation) → List Pending → State → ℕ → TokenKind → Option Machine
+step_kind os es s c (kind.Constant v) = with_operand os es s (op.Constant c v)
+step_kind os es s c (kind.Name n) = with_name os es s c n
+step_kind os es s c (kind.Function g) = with_function os es s c g
+step_kind os es s c kind.Dot = with_dot os es s c
+step_kind os es s c kind.Jot = with_jot os es s c
+step_kind os es s c kind.Arrow = with_arrow os es s c
+step_kind os es s c kind.OpenParen = with_open_paren os es s c
+step_kind os es s c kind.CloseParen = with_close_paren os es s c
+step_kind os es s c kind.OpenBracket = with_open_bracket os es s c
+step_kind os es s c kind.CloseBracket = with_close_bracket os es s c
+step_kind os es s c kind.Semicolon = with_semicolon os es s c
 
 abbrev pub step : Token → Machine → Option Machine
-step t m = step_lexeme m.operations m.stack m.state t.column t.lexeme
+step t m = step_kind m.operations m.stack m.state t.column t.kind
 
 -- all tokens, the last one first
 abbrev pub run : List Token → Option Machine

@@ -2,8 +2,8 @@
 use Rattle.std.specs.Prelude.{◌≡◌, ℕ, Bool, IsTrue, List, [], ◌∷◌, ◌++◌, Option, Some, None, is_some}
 use Rattle.apl_array.specs.Array.{ArrayValue}
 use Rattle.apl_tokens.specs.declared.token.Token.{Token}
-use Rattle.apl_tokens.specs.declared.token.Lexeme.{Lexeme}
-use Rattle.apl_tokens.specs.declared.token.Lexeme.TheVariants as lexeme
+use Rattle.apl_tokens.specs.declared.token.TokenKind.{TokenKind}
+use Rattle.apl_tokens.specs.declared.token.TokenKind.TheVariants as kind
 use Rattle.apl_tokens.specs.declared.token.Glyph.TheVariants.{Scalar}
 use Rattle.apl_grammar.specs.declared.forms.MonadicForm.{MonadicForm}
 use Rattle.apl_grammar.specs.declared.forms.MonadicForm.TheVariants as one
@@ -92,21 +92,21 @@ abbrev mutual
   IsAxis (along o e c) = IsTree e
 
 -- a token at this column
-abbrev pub token_at : ℕ → Lexeme → Token
-token_at c l = record { lexeme = l; column = c }
+abbrev pub token_at : ℕ → TokenKind → Token
+token_at c l = record { kind = l; column = c }
 
 -- the tokens of a function of one argument
 abbrev pub spells_monadic : MonadicForm → List Token
-spells_monadic (one.Plain c f) = token_at c (lexeme.Function (monadic_glyph f)) ∷ []
-spells_monadic (one.Reverse c axis) = token_at c (lexeme.Function (reversal_glyph axis)) ∷ []
-spells_monadic (one.Reduce c f s operator) = token_at c (lexeme.Function (Scalar f)) ∷ token_at s (lexeme.Function (operator_glyph operator)) ∷ []
+spells_monadic (one.Plain c f) = token_at c (kind.Function (monadic_glyph f)) ∷ []
+spells_monadic (one.Reverse c axis) = token_at c (kind.Function (reversal_glyph axis)) ∷ []
+spells_monadic (one.Reduce c f s operator) = token_at c (kind.Function (Scalar f)) ∷ token_at s (kind.Function (operator_glyph operator)) ∷ []
 
 -- the tokens of a function of two arguments
 abbrev pub spells_dyadic : DyadicForm → List Token
-spells_dyadic (two.Plain c f) = token_at c (lexeme.Function (dyadic_glyph f)) ∷ []
-spells_dyadic (two.Along c f) = token_at c (lexeme.Function (axis_glyph f)) ∷ []
-spells_dyadic (two.Inner c f d e g) = token_at c (lexeme.Function (Scalar f)) ∷ token_at d lexeme.Dot ∷ token_at e (lexeme.Function (Scalar g)) ∷ []
-spells_dyadic (two.Outer j d c g) = token_at j lexeme.Jot ∷ token_at d lexeme.Dot ∷ token_at c (lexeme.Function (Scalar g)) ∷ []
+spells_dyadic (two.Plain c f) = token_at c (kind.Function (dyadic_glyph f)) ∷ []
+spells_dyadic (two.Along c f) = token_at c (kind.Function (axis_glyph f)) ∷ []
+spells_dyadic (two.Inner c f d e g) = token_at c (kind.Function (Scalar f)) ∷ token_at d kind.Dot ∷ token_at e (kind.Function (Scalar g)) ∷ []
+spells_dyadic (two.Outer j d c g) = token_at j kind.Jot ∷ token_at d kind.Dot ∷ token_at c (kind.Function (Scalar g)) ∷ []
 
 -- the tokens of a tree, in order
 abbrev mutual
@@ -114,18 +114,18 @@ abbrev mutual
   spells (value o) = spells_operand o
   spells (dyadic o f a e) = spells_operand o ++ (spells_dyadic f ++ (spells_axis a ++ spells e))
   spells (monadic f a e) = spells_monadic f ++ (spells_axis a ++ spells e)
-  spells (assign c n r e) = token_at c (lexeme.Name n) ∷ token_at r lexeme.Arrow ∷ spells e
-  spells (assign_at c n o s d r e) = token_at c (lexeme.Name n) ∷ token_at o lexeme.OpenBracket ∷ spells_list s ++ token_at d lexeme.CloseBracket ∷ token_at r lexeme.Arrow ∷ spells e
+  spells (assign c n r e) = token_at c (kind.Name n) ∷ token_at r kind.Arrow ∷ spells e
+  spells (assign_at c n o s d r e) = token_at c (kind.Name n) ∷ token_at o kind.OpenBracket ∷ spells_list s ++ token_at d kind.CloseBracket ∷ token_at r kind.Arrow ∷ spells e
 
   pub spells_operand : Operand → List Token
-  spells_operand (constant c v) = token_at c (lexeme.Constant v) ∷ []
-  spells_operand (name c n) = token_at c (lexeme.Name n) ∷ []
-  spells_operand (group o e c) = token_at o lexeme.OpenParen ∷ spells e ++ token_at c lexeme.CloseParen ∷ []
-  spells_operand (index x o s c) = spells_operand x ++ (token_at o lexeme.OpenBracket ∷ (spells_list s ++ token_at c lexeme.CloseBracket ∷ []))
+  spells_operand (constant c v) = token_at c (kind.Constant v) ∷ []
+  spells_operand (name c n) = token_at c (kind.Name n) ∷ []
+  spells_operand (group o e c) = token_at o kind.OpenParen ∷ spells e ++ token_at c kind.CloseParen ∷ []
+  spells_operand (index x o s c) = spells_operand x ++ (token_at o kind.OpenBracket ∷ (spells_list s ++ token_at c kind.CloseBracket ∷ []))
 
   pub spells_list : Slots → List Token
   spells_list (last s) = spells_slot s
-  spells_list (more s c ss) = spells_slot s ++ token_at c lexeme.Semicolon ∷ spells_list ss
+  spells_list (more s c ss) = spells_slot s ++ token_at c kind.Semicolon ∷ spells_list ss
 
   pub spells_slot : Slot → List Token
   spells_slot nothing = []
@@ -133,7 +133,7 @@ abbrev mutual
 
   pub spells_axis : Axis → List Token
   spells_axis none = []
-  spells_axis (along o e c) = token_at o lexeme.OpenBracket ∷ spells e ++ token_at c lexeme.CloseBracket ∷ []
+  spells_axis (along o e c) = token_at o kind.OpenBracket ∷ spells e ++ token_at c kind.CloseBracket ∷ []
 
 -- the columns of a list's semicolons, from right to left
 abbrev pub semicolons : Slots → List ℕ

@@ -10,7 +10,7 @@ use super::functions::{dyadic_counterpart, dyadic_form, dyadic_scalar, monadic_f
 use super::places::Places;
 use super::program::{AxisBrackets, BoxedIndexedName, Brackets, Columns, IndexedName, Operation};
 use super::statement::GrammarStop;
-use apl_tokens::{Glyph, Lexeme, Name, Token};
+use apl_tokens::{Glyph, Name, Token, TokenKind};
 use std::alloc::{AllocError, AllocFailed, Global};
 use std::marker::Model;
 use std::mem;
@@ -607,18 +607,21 @@ impl Reader {
     {
         let state = mem::replace(&mut self.state, State::OperandWanted);
         let column = token.column;
-        match token.lexeme {
-            Lexeme::Constant(value) => self.take_operand(state, Operation::Constant(column, value)),
-            Lexeme::Name(name) => self.take_name(state, column, name),
-            Lexeme::Function(glyph) => self.take_function(state, column, glyph),
-            Lexeme::Dot => self.take_dot(state, column),
-            Lexeme::Jot => self.take_jot(state, column),
-            Lexeme::Arrow => self.take_arrow(state, column),
-            Lexeme::OpenParen => self.take_open_paren(state, column),
-            Lexeme::CloseParen => self.take_close_paren(state, column),
-            Lexeme::OpenBracket => self.take_open_bracket(state, column),
-            Lexeme::CloseBracket => self.take_close_bracket(state, column),
-            Lexeme::Semicolon => self.take_semicolon(state, column),
+        match token.kind {
+            TokenKind::Constant(value) => self.take_operand(
+                state,
+                Operation::Constant(column, value),
+            ),
+            TokenKind::Name(name) => self.take_name(state, column, name),
+            TokenKind::Function(glyph) => self.take_function(state, column, glyph),
+            TokenKind::Dot => self.take_dot(state, column),
+            TokenKind::Jot => self.take_jot(state, column),
+            TokenKind::Arrow => self.take_arrow(state, column),
+            TokenKind::OpenParen => self.take_open_paren(state, column),
+            TokenKind::CloseParen => self.take_close_paren(state, column),
+            TokenKind::OpenBracket => self.take_open_bracket(state, column),
+            TokenKind::CloseBracket => self.take_close_bracket(state, column),
+            TokenKind::Semicolon => self.take_semicolon(state, column),
         }
     }
 

@@ -1,5 +1,5 @@
 -- Worked examples of commands, and of lines with what they read as.
-use Rattle.std.proofs.Common.{◌≡◌, ℕ, List, [], ◌∷◌, ◌++◌, length, codes, refl, sym, ap, ◌∙◌, arith, lit≤, append-nil, length-append}
+use Rattle.std.proofs.Common.{◌≡◌, ℕ, List, [], ◌∷◌, length, codes, refl, sym, ap, ◌∙◌, arith, lit≤, append-nil, length-append}
 use Rattle.std.specs.Prelude.{true, false, encode_utf8, encode_utf8_all}
 use Rattle.std.proofs.lemmas.Str.{length-encode, len_utf8_bounds}
 use Rattle.apl_array.specs.declared.axis.Origin.TheVariants.{Zero}

@@ -1,10 +1,9 @@
 -- Numbers of digits, read from the left.
-use Rattle.std.proofs.Common.{◌≡◌, ◌∷◌, [], List, refl, sym, ◌∙◌, ap, subst, arith, length, take, drop, get_or, ◌+◌, ◌-◌, ◌*◌, ◌<◌, ◌≤◌, ℕ, zero, suc, Bool, true, false}
-use Rattle.std.specs.Prelude.{IsTrue}
+use Rattle.std.proofs.Common.{◌≡◌, ◌∷◌, [], List, refl, sym, ◌∙◌, ap, subst, arith, length, take, drop, get_or, ◌+◌, ◌-◌, ◌*◌, ◌<◌, ◌≤◌, ℕ, zero, suc, true, false}
 use Rattle.std.proofs.Math.Numerals.{add-one}
 use Rattle.apl_tokens.specs.Symbols.{is_digit}
 use Rattle.apl_tokens.specs.Fronts.{AllPass}
-use Rattle.apl_tokens.specs.Lexis.{number_of_digits, number_after, AreDigits}
+use Rattle.apl_tokens.specs.Lexis.{number_of_digits, number_after}
 use Rattle.apl_syntax.specs.Commands.{AreDigitsOf}
 
 number_grows : (n : ℕ) (ds : List ℕ) → n ≤ number_after n ds
@@ -20,7 +19,7 @@ beyond digits n i x most h so_far here past m is = subst (λ (k : ℕ). most < k
     go (d ∷ ds) zero h here = let past_it : most < 10 * n + (d - 48) = subst (λ (z : ℕ). most < 10 * n + (z - 48)) here past in omega (arith, number_grows (10 * n + (d - 48)) ds)
     go (d ∷ ds) (suc i) h here = go ds i (omega arith) here
 
--- another symbol stands among the digits
+-- another symbol is among the digits
 pub no_digits : (digits : List ℕ) (i x : ℕ) → i < length digits → x ≡ get_or digits i x → is_digit x ≡ false → (m : ℕ) → AreDigitsOf m digits → ⊥
 no_digits [] i x h here not m is = is.0
 no_digits (d ∷ ds) i x h here not m is = go (d ∷ ds) i h here is.0

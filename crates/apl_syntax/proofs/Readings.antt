@@ -8,7 +8,7 @@ use Rattle.apl_grammar.specs.declared.forms.MonadicForm.{MonadicForm}
 use Rattle.apl_grammar.specs.declared.forms.MonadicForm.TheVariants as one
 use Rattle.apl_grammar.specs.declared.forms.DyadicForm.{DyadicForm}
 use Rattle.apl_grammar.specs.declared.forms.DyadicForm.TheVariants as two
-use Rattle.apl_grammar.specs.Tree.{Expr, Operand, Axis, value, dyadic, monadic, assign, assign_at, constant, name, group, index, IsTree, spells, spells_operand, spells_monadic, spells_dyadic, spells_axis}
+use Rattle.apl_grammar.specs.Tree.{Expr, Operand, value, dyadic, monadic, assign, assign_at, constant, name, group, index, IsTree, spells, spells_operand, spells_monadic, spells_dyadic, spells_axis}
 use Rattle.apl_grammar.specs.Caret.{IsCaret, HasNoTree}
 use Rattle.apl_syntax.specs.declared.lines.Command.{Command}
 use Rattle.apl_syntax.specs.Commands.{IsCommandLine, IsCommand}

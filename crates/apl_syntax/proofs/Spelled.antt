@@ -1,6 +1,6 @@
 -- A word and its argument have one command.
-use Rattle.std.proofs.Common.{◌≡◌, ◌⊎◌, ◌++◌, ◌∷◌, [], List, refl, sym, ◌∙◌, ap, subst, inl, inr, arith, ◌+◌, ◌<◌, ◌≤◌, ℕ, zero, suc, Bool, true, false}
-use Rattle.std.specs.Prelude.{IsTrue, codes, nat_le}
+use Rattle.std.proofs.Common.{◌≡◌, ◌⊎◌, ◌∷◌, [], List, refl, sym, ◌∙◌, ap, subst, inl, inr, arith, ◌<◌, ◌≤◌, ℕ, zero, suc, Bool, true, false}
+use Rattle.std.specs.Prelude.{codes, nat_le}
 use Rattle.std.specs.Str.{bytes_eq}
 use Rattle.std.proofs.lemmas.Slice.Eq.{bytes_eq-Decides}
 use Rattle.std.proofs.lemmas.Bool.Decides.{nat_tests}
@@ -12,7 +12,7 @@ use Rattle.apl_array.specs.declared.axis.Origin.{Origin}
 use Rattle.apl_array.specs.declared.axis.Origin.TheVariants.{Zero, One}
 use Rattle.apl_syntax.specs.declared.lines.Command.{Command}
 use Rattle.apl_syntax.specs.declared.lines.Command.TheVariants as command
-use Rattle.apl_syntax.specs.Commands.{least_width, most_width, HasCommandText, IsCommandLine, HasWordAndArgument, AreDigitsOf, IsSpelled, IsCommandOf, IsCommand}
+use Rattle.apl_syntax.specs.Commands.{least_width, most_width, IsCommandLine, HasWordAndArgument, AreDigitsOf, IsSpelled, IsCommandOf, IsCommand}
 use Rattle.apl_syntax.proofs.Words.{one_word, one_text, some_word}
 
 apart : (word a b : List ℕ) → bytes_eq a b ≡ false → word ≡ a → word ≡ b → ⊥

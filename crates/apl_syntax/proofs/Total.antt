@@ -7,7 +7,7 @@ use Rattle.apl_tokens.specs.Lexis.{Lexes, HasLexicalFault, HasLimitFault}
 use Rattle.apl_grammar.specs.Tree.{Expr, IsTree, spells}
 use Rattle.apl_grammar.specs.Caret.{IsCaret, HasNoTree}
 use Rattle.apl_syntax.specs.Commands.{IsCommandLine}
-use Rattle.apl_syntax.specs.Reading.{Reading, character, command, blank, statement, syntax, limit, IsReading, IsListed, IsTokensReading}
+use Rattle.apl_syntax.specs.Reading.{Reading, character, command, blank, statement, syntax, limit, IsReading, IsListed}
 use Rattle.apl_syntax.proofs.Words.{command_line}
 use Rattle.apl_syntax.proofs.Spelled.{some_command}
 

@@ -59,7 +59,7 @@ ends_tail : (x : ℕ) (xs : List ℕ) → EndsWithNoBlank (x ∷ xs) → EndsWit
 ends_tail x [] h = tt
 ends_tail x (y ∷ ys) h = h
 
--- what stands before the blanks at the end is one
+-- what is before the blanks at the end is one
 one_end : (xs rs ys ss : List ℕ) → EndsWithNoBlank xs → AllPass is_blank rs → EndsWithNoBlank ys → AllPass is_blank ss → xs ++ rs ≡ ys ++ ss → xs ≡ ys
 one_end [] rs [] ss h blank k other e = refl
 one_end [] rs (y ∷ ys) ss h blank k other e = absurd (not_all y ys (all_front is_blank (y ∷ ys) ss (subst (AllPass is_blank) e blank)) k)
@@ -93,7 +93,7 @@ front_of p (x ∷ xs) = by_test (p x) refl (front_of p xs)
     by_test true e f = record { front = x ∷ f.front; rest = f.rest; split = ap (λ (y : List ℕ). x ∷ y) f.split; pass = (e, f.pass); longest = f.longest }
     by_test false e f = record { front = []; rest = x ∷ xs; split = refl; pass = tt; longest = e }
 
--- what stands before the blanks at the end
+-- what is before the blanks at the end
 record Trimmed (xs : List ℕ) : Type 0 where
   front : List ℕ
   after : List ℕ

@@ -4,42 +4,41 @@ use Rattle.apl_array.specs.declared.function.ScalarFunction.TheVariants.{Plus, T
 use Rattle.apl_array.specs.Array.{character_array}
 use Rattle.apl_tokens.specs.declared.token.Token.{Token}
 use Rattle.apl_tokens.specs.declared.token.Glyph.TheVariants.{Scalar, Rho, SlashBar}
-use Rattle.apl_tokens.specs.declared.token.Lexeme.{Lexeme}
-use Rattle.apl_tokens.specs.declared.token.Lexeme.TheVariants.{Constant, Name, Function, Arrow, Jot}
-use Rattle.apl_tokens.specs.Symbols.{is_letter, is_name_character, is_listed, symbol_lexeme}
+use Rattle.apl_tokens.specs.declared.token.TokenKind.TheVariants.{Constant, Name, Function, Arrow, Jot}
+use Rattle.apl_tokens.specs.Symbols.{is_letter, is_name_character, is_listed, symbol_kind}
 use Rattle.apl_tokens.specs.Lexis.{number_of_digits, negated, constant_shape, quoted, Lexes}
 
 -- ---- symbols
 
 -- ×
-times_is_a_function : symbol_lexeme 0xD7 ≡ Some (Function (Scalar Times))
+times_is_a_function : symbol_kind 0xD7 ≡ Some (Function (Scalar Times))
 times_is_a_function = refl
 
 -- ∧
-caret_is_and : symbol_lexeme 0x2227 ≡ Some (Function (Scalar And))
+caret_is_and : symbol_kind 0x2227 ≡ Some (Function (Scalar And))
 caret_is_and = refl
 
 -- ⍴
-rho_is_a_function : symbol_lexeme 0x2374 ≡ Some (Function Rho)
+rho_is_a_function : symbol_kind 0x2374 ≡ Some (Function Rho)
 rho_is_a_function = refl
 
 -- ⌿
-slash_bar_is_a_function : symbol_lexeme 0x233F ≡ Some (Function SlashBar)
+slash_bar_is_a_function : symbol_kind 0x233F ≡ Some (Function SlashBar)
 slash_bar_is_a_function = refl
 
 -- ←
-arrow : symbol_lexeme 0x2190 ≡ Some Arrow
+arrow : symbol_kind 0x2190 ≡ Some Arrow
 arrow = refl
 
 -- ∘
-jot : symbol_lexeme 0x2218 ≡ Some Jot
+jot : symbol_kind 0x2218 ≡ Some Jot
 jot = refl
 
 -- @ is listed, and no token
 at_sign_is_listed : is_listed 64 ≡ true
 at_sign_is_listed = refl
 
-at_sign_is_no_token : symbol_lexeme 64 ≡ None
+at_sign_is_no_token : symbol_kind 64 ≡ None
 at_sign_is_no_token = refl
 
 -- é is not listed, and the tab is not
@@ -95,13 +94,13 @@ one_quote = refl
 -- ---- tokens with their columns
 
 abbrev name_B : Token
-name_B = record { lexeme = Name (codes "B"); column = 3 }
+name_B = record { kind = Name (codes "B"); column = 3 }
 
 abbrev name_A1 : Token
-name_A1 = record { lexeme = Name (codes "A1"); column = 0 }
+name_A1 = record { kind = Name (codes "A1"); column = 0 }
 
 abbrev plus : Token
-plus = record { lexeme = Function (Scalar Plus); column = 2 }
+plus = record { kind = Function (Scalar Plus); column = 2 }
 
 -- A1+B ⍝C: a name is as long as it can be, and a comment is the end
 names_and_a_comment : Lexes (codes "A1+B " ++ 0x235D ∷ codes "C") (name_A1 ∷ plus ∷ name_B ∷ [])
@@ -141,7 +140,7 @@ names_and_a_comment = (
 )
 
 -- 'IT''S': one token, of four characters
-text : Lexes (codes "'IT''S'") (record { lexeme = Constant (character_array (4 ∷ []) (codes "IT'S")); column = 0 } ∷ [])
+text : Lexes (codes "'IT''S'") (record { kind = Constant (character_array (4 ∷ []) (codes "IT'S")); column = 0 } ∷ [])
 text = (
   7,
   [],

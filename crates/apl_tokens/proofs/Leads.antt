@@ -1,12 +1,12 @@
--- The first character decides what kind of token stands there.
+-- The first character decides what kind of token it begins.
 use Rattle.std.proofs.Common.{◌≡◌, ◌++◌, ◌∷◌, [], List, Option, Some, None, refl, sym, ◌∙◌, ap, subst, arith, inl, inr, ◌⊎◌, ℕ, Bool, true, false, eqb→eq}
 use Rattle.std.specs.Prelude.{IsTrue, ℤ, ◌==◌, ◌||◌, ◌&&◌, if◌then◌else◌}
 use Rattle.std.specs.Bool.{passes}
 use Rattle.std.proofs.lemmas.Bool.Decides.{nat_tests}
-use Rattle.apl_tokens.specs.declared.token.Lexeme.{Lexeme}
-use Rattle.apl_tokens.specs.declared.token.Lexeme.TheVariants.{Constant, Name}
-use Rattle.apl_tokens.specs.Symbols.{is_digit, is_letter, is_blank, is_quote, quote, character_of, symbol_lexeme, symbol_lexemes, lexeme_in, lexeme_or}
-use Rattle.apl_tokens.proofs.OneSymbol.{lexeme_found}
+use Rattle.apl_tokens.specs.declared.token.TokenKind.{TokenKind}
+use Rattle.apl_tokens.specs.declared.token.TokenKind.TheVariants.{Constant, Name}
+use Rattle.apl_tokens.specs.Symbols.{is_digit, is_letter, is_blank, is_quote, quote, character_of, symbol_kind, symbol_kinds, kind_in, kind_or}
+use Rattle.apl_tokens.proofs.OneSymbol.{kind_found}
 use Rattle.apl_tokens.specs.Lexis.{BeginsWithNo, IsNumeral, plain, negative, Numeral, AreNumerals, IsSymbol, IsToken, IsEnd, BeginsWithNoToken, IsBeyondLimit}
 
 pub data Lead : Type 0 where
@@ -16,7 +16,7 @@ pub data Lead : Type 0 where
   sign : Lead
   nothing : Lead
 
-abbrev pub lead_by : Bool → Bool → Bool → Option Lexeme → Lead
+abbrev pub lead_by : Bool → Bool → Bool → Option TokenKind → Lead
 lead_by true d q k = letter
 lead_by false true q k = figure
 lead_by false false true k = quotation
@@ -24,7 +24,7 @@ lead_by false false false (Some k) = sign
 lead_by false false false None = nothing
 
 abbrev pub lead : ℕ → Lead
-lead c = lead_by (is_letter c) (is_digit c || (c == 175)) (is_quote c) (symbol_lexeme c)
+lead c = lead_by (is_letter c) (is_digit c || (c == 175)) (is_quote c) (symbol_kind c)
 
 digit_lead : (c : ℕ) → IsTrue (is_digit c) → lead c ≡ figure
 digit_lead c h =
@@ -42,7 +42,7 @@ sign_from quotation e = absurd cc
 sign_from sign e = refl
 sign_from nothing e = absurd cc
 
-abbrev is_symbol : Lexeme → Bool
+abbrev is_symbol : TokenKind → Bool
 is_symbol (Constant v) = false
 is_symbol (Name n) = false
 is_symbol k = true
@@ -52,41 +52,41 @@ has_sign (Some c) = is_sign (lead c)
 has_sign None = true
 
 -- each is a symbol, whose character is a sign
-abbrev are_signs : List Lexeme → Bool
+abbrev are_signs : List TokenKind → Bool
 are_signs [] = true
-are_signs (lexeme ∷ lexemes) = has_sign (character_of lexeme) && (is_symbol lexeme && are_signs lexemes)
+are_signs (kind ∷ kinds) = has_sign (character_of kind) && (is_symbol kind && are_signs kinds)
 
 pub both : (a b : Bool) → (a && b) ≡ true → (a ≡ true) × (b ≡ true)
 both true b e = (refl, e)
 both false b e = absurd cc
 
-signs_lead : (lexemes : List Lexeme) (c : ℕ) (k : Lexeme) → are_signs lexemes ≡ true → lexeme_in lexemes c ≡ Some k → (lead c ≡ sign) × (is_symbol k ≡ true)
+signs_lead : (kinds : List TokenKind) (c : ℕ) (k : TokenKind) → are_signs kinds ≡ true → kind_in kinds c ≡ Some k → (lead c ≡ sign) × (is_symbol k ≡ true)
 signs_lead [] c k h e = absurd cc
-signs_lead (lexeme ∷ lexemes) c k h e =
-    let (first, rest) = both (has_sign (character_of lexeme)) (is_symbol lexeme && are_signs lexemes) h in
-    let (second, others) = both (is_symbol lexeme) (are_signs lexemes) rest in
-    by_character (character_of lexeme) first second (signs_lead lexemes c k others) e
+signs_lead (kind ∷ kinds) c k h e =
+    let (first, rest) = both (has_sign (character_of kind)) (is_symbol kind && are_signs kinds) h in
+    let (second, others) = both (is_symbol kind) (are_signs kinds) rest in
+    by_character (character_of kind) first second (signs_lead kinds c k others) e
   where
-    by_test : (d : ℕ) (b : Bool) → (c == d) ≡ b → is_sign (lead d) ≡ true → is_symbol lexeme ≡ true → (lexeme_in lexemes c ≡ Some k → (lead c ≡ sign) × (is_symbol k ≡ true)) → (if b then Some lexeme else lexeme_in lexemes c) ≡ Some k → (lead c ≡ sign) × (is_symbol k ≡ true)
+    by_test : (d : ℕ) (b : Bool) → (c == d) ≡ b → is_sign (lead d) ≡ true → is_symbol kind ≡ true → (kind_in kinds c ≡ Some k → (lead c ≡ sign) × (is_symbol k ≡ true)) → (if b then Some kind else kind_in kinds c) ≡ Some k → (lead c ≡ sign) × (is_symbol k ≡ true)
     by_test d true t first second below e =
-        let same : lexeme ≡ k = cc in
+        let same : kind ≡ k = cc in
         (ap lead (eqb→eq c d (passes (c == d) t)) ∙ sign_from (lead d) first, ap is_symbol (sym same) ∙ second)
     by_test d false t first second below e = below e
 
-    by_character : (o : Option ℕ) → has_sign o ≡ true → is_symbol lexeme ≡ true → (lexeme_in lexemes c ≡ Some k → (lead c ≡ sign) × (is_symbol k ≡ true)) → lexeme_or o lexeme (lexeme_in lexemes c) c ≡ Some k → (lead c ≡ sign) × (is_symbol k ≡ true)
+    by_character : (o : Option ℕ) → has_sign o ≡ true → is_symbol kind ≡ true → (kind_in kinds c ≡ Some k → (lead c ≡ sign) × (is_symbol k ≡ true)) → kind_or o kind (kind_in kinds c) c ≡ Some k → (lead c ≡ sign) × (is_symbol k ≡ true)
     by_character (Some d) first second below e = by_test d (c == d) refl first second below e
     by_character None first second below e = below e
 
-pub sign_of : (c : ℕ) (k : Lexeme) → symbol_lexeme c ≡ Some k → (lead c ≡ sign) × (is_symbol k ≡ true)
-sign_of c k e = signs_lead symbol_lexemes c k refl e
+pub sign_of : (c : ℕ) (k : TokenKind) → symbol_kind c ≡ Some k → (lead c ≡ sign) × (is_symbol k ≡ true)
+sign_of c k e = signs_lead symbol_kinds c k refl e
 
-pub symbol_is_token : (text after : List ℕ) (k : Lexeme) → is_symbol k ≡ true → IsSymbol text k → IsToken text after k
+pub symbol_is_token : (text after : List ℕ) (k : TokenKind) → is_symbol k ≡ true → IsSymbol text k → IsToken text after k
 symbol_is_token text after (Constant v) symbol h = absurd cc
 symbol_is_token text after (Name n) symbol h = absurd cc
 symbol_is_token text after k symbol h = h
 
 -- a token's lead
-abbrev pub lead_of : (text after : List ℕ) (k : Lexeme) → IsToken text after k → Lead
+abbrev pub lead_of : (text after : List ℕ) (k : TokenKind) → IsToken text after k → Lead
 lead_of text after (Constant v) (inl h) = figure
 lead_of text after (Constant v) (inr h) = quotation
 lead_of text after (Name n) h = letter
@@ -114,17 +114,17 @@ numerals_begin p t (n ∷ m ∷ ns) (f, g, r, split, is, place, blank, more) = b
 pub quote_begins : (t tail : List ℕ) → t ≡ quote ∷ tail → Begins t quotation
 quote_begins t tail e = record { head = quote; tail = tail; split = e; is = refl }
 
-symbol_begins : (text : List ℕ) (k : Lexeme) → IsSymbol text k → Begins text sign
-symbol_begins text k s = record { head = s.character; tail = []; split = s.split; is = (sign_of s.character k (lexeme_found k s.character s.is)).0 }
+symbol_begins : (text : List ℕ) (k : TokenKind) → IsSymbol text k → Begins text sign
+symbol_begins text k s = record { head = s.character; tail = []; split = s.split; is = (sign_of s.character k (kind_found k s.character s.is)).0 }
 
-pub token_begins : (text after : List ℕ) (k : Lexeme) → (h : IsToken text after k) → Begins text (lead_of text after k h)
+pub token_begins : (text after : List ℕ) (k : TokenKind) → (h : IsToken text after k) → Begins text (lead_of text after k h)
 token_begins text after (Constant v) (inl h) = numerals_begin 0 text h.numerals h.spelled
 token_begins text after (Constant v) (inr h) = record { head = quote; tail = _; split = h.spelled; is = refl }
 token_begins text after (Name n) h = record { head = h.first; tail = h.others; split = h.split; is = rw h.letter refl }
 token_begins text after k h = symbol_begins text k h
 
 -- a token that a sign leads is a symbol
-pub is_by_sign : (text after : List ℕ) (k : Lexeme) → (h : IsToken text after k) → lead_of text after k h ≡ sign → IsSymbol text k
+pub is_by_sign : (text after : List ℕ) (k : TokenKind) → (h : IsToken text after k) → lead_of text after k h ≡ sign → IsSymbol text k
 is_by_sign text after (Constant v) (inl h) l = absurd cc
 is_by_sign text after (Constant v) (inr h) l = absurd cc
 is_by_sign text after (Name n) h l = absurd cc
@@ -137,13 +137,13 @@ one_lead x y a b l m h i e =
     let heads : h.head ≡ i.head = cc in
     sym h.is ∙ ap lead heads ∙ i.is
 
-pub some_lead : (text after : List ℕ) (k : Lexeme) → (h : IsToken text after k) → nothing ≡ lead_of text after k h → ⊥
+pub some_lead : (text after : List ℕ) (k : TokenKind) → (h : IsToken text after k) → nothing ≡ lead_of text after k h → ⊥
 some_lead text after (Constant v) (inl h) l = absurd cc
 some_lead text after (Constant v) (inr h) l = absurd cc
 some_lead text after (Name n) h l = absurd cc
 some_lead text after k h l = absurd cc
 
-pub begins_no_blank : (x a y : List ℕ) (k : Lexeme) → (h : IsToken x a k) → BeginsWithNo is_blank (x ++ y)
+pub begins_no_blank : (x a y : List ℕ) (k : TokenKind) → (h : IsToken x a k) → BeginsWithNo is_blank (x ++ y)
 begins_no_blank x a y k h =
     let b = token_begins x a k h in
     subst (λ (t : List ℕ). BeginsWithNo is_blank (t ++ y)) (sym b.split) (by_test b.head (is_blank b.head) refl b.is)

@@ -2,7 +2,7 @@
 use Rattle.std.proofs.Common.{◌≡◌, ◌++◌, ◌∷◌, [], List, refl, sym, ◌∙◌, ap, subst, arith, length, take, drop, ◌+◌, ◌<◌, ◌≤◌, ℕ, length-take, length-drop}
 use Rattle.std.proofs.lemmas.List.{take-append-drop, drop-drop}
 use Rattle.apl_tokens.specs.declared.token.Token.{Token}
-use Rattle.apl_tokens.specs.declared.token.Lexeme.{Lexeme}
+use Rattle.apl_tokens.specs.declared.token.TokenKind.{TokenKind}
 use Rattle.apl_tokens.specs.declared.lexer.LexicalStop.{LexicalStop}
 use Rattle.apl_tokens.specs.declared.lexer.LexicalStop.TheVariants.{Syntax, Limit, Memory}
 use Rattle.std.specs.Prelude.{◌==◌}
@@ -14,10 +14,10 @@ use Rattle.apl_tokens.specs.Lexis.{BeginsWithNo, IsToken, LexesUpTo, IsEnd, Lexe
 use Rattle.apl_tokens.specs.Stops.{IsLexicalStopOf}
 use Rattle.apl_tokens.specs.Scans.{IsTokenAt, IsStopAt}
 
-abbrev token_at : ℕ → Lexeme → Token
-token_at column lexeme = record { lexeme = lexeme; column = column }
+abbrev token_at : ℕ → TokenKind → Token
+token_at column kind = record { kind = kind; column = column }
 
-LexesUpTo-more : (c : ℕ) (s : List ℕ) (ts : List Token) (d : ℕ) (rest text gap after : List ℕ) (k : Lexeme) → LexesUpTo c s ts d rest → rest ≡ text ++ (gap ++ after) → IsToken text (gap ++ after) k → AllPass is_blank gap → BeginsWithNo is_blank after → LexesUpTo c s (ts ++ token_at d k ∷ []) (d + (length text + length gap)) after
+LexesUpTo-more : (c : ℕ) (s : List ℕ) (ts : List Token) (d : ℕ) (rest text gap after : List ℕ) (k : TokenKind) → LexesUpTo c s ts d rest → rest ≡ text ++ (gap ++ after) → IsToken text (gap ++ after) k → AllPass is_blank gap → BeginsWithNo is_blank after → LexesUpTo c s (ts ++ token_at d k ∷ []) (d + (length text + length gap)) after
 LexesUpTo-more c s [] d rest text gap after k (g, split, blank, none, at) e token blanks ends =
     (g, text, gap ++ after, split ∙ ap (λ x. g ++ x) e, blank, at, token, (gap, refl, blanks, ends, omega arith))
 LexesUpTo-more c s (t ∷ ts) d rest text gap after k (g, x, a, split, blank, col, is, more) e token blanks ends =
@@ -27,7 +27,7 @@ pub LexesUpTo-start : (cs : List ℕ) (ts : List Token) (n : ℕ) → ts ≡ [] 
 LexesUpTo-start cs ts n none within blank ends =
     subst (λ us. LexesUpTo 0 cs us n (drop n cs)) (sym none) (take n cs, sym (take-append-drop n cs), blank, ends, omega (arith, within, length-take n cs))
 
-pub LexesUpTo-next : (cs : List ℕ) (ts us : List Token) (column len n : ℕ) (text rest : List ℕ) (k : Lexeme) → text ≡ drop column cs → rest ≡ drop (column + len) cs → us ≡ ts ++ token_at column k ∷ [] → LexesUpTo 0 cs ts column (drop column cs) → IsTokenAt text len k → n ≤ length rest → AllPass is_blank (take n rest) → BeginsWithNo is_blank (drop n rest) → LexesUpTo 0 cs us (column + len + n) (drop (column + len + n) cs)
+pub LexesUpTo-next : (cs : List ℕ) (ts us : List Token) (column len n : ℕ) (text rest : List ℕ) (k : TokenKind) → text ≡ drop column cs → rest ≡ drop (column + len) cs → us ≡ ts ++ token_at column k ∷ [] → LexesUpTo 0 cs ts column (drop column cs) → IsTokenAt text len k → n ≤ length rest → AllPass is_blank (take n rest) → BeginsWithNo is_blank (drop n rest) → LexesUpTo 0 cs us (column + len + n) (drop (column + len + n) cs)
 LexesUpTo-next cs ts us column len n text rest k here past added before token within blank ends =
     let behind : drop len text ≡ rest = ap (drop len) here ∙ drop-drop len column cs ∙ sym past in
     let split : drop column cs ≡ take len text ++ (take n rest ++ drop n rest) = sym here ∙ sym (take-append-drop len text) ∙ ap (λ x. take len text ++ x) (behind ∙ sym (take-append-drop n rest)) in

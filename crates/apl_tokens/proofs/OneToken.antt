@@ -11,10 +11,10 @@ use Rattle.std.proofs.lemmas.List.{take-append-drop, append-nil, length-map, dro
 use Rattle.apl_tokens.proofs.Rows.{row_init}
 use Rattle.apl_tokens.proofs.Quotes.{no_quotation, doubled-append}
 use Rattle.apl_array.specs.Array.{number_array, character_array}
-use Rattle.apl_tokens.specs.declared.token.Lexeme.{Lexeme}
-use Rattle.apl_tokens.specs.declared.token.Lexeme.TheVariants.{Constant, Name}
-use Rattle.apl_tokens.specs.Symbols.{is_letter, is_name_character, quote, is_quote, symbol_lexeme}
-use Rattle.apl_tokens.proofs.OneSymbol.{character_found, lexeme_found}
+use Rattle.apl_tokens.specs.declared.token.TokenKind.{TokenKind}
+use Rattle.apl_tokens.specs.declared.token.TokenKind.TheVariants.{Constant, Name}
+use Rattle.apl_tokens.specs.Symbols.{is_letter, is_name_character, quote, is_quote, symbol_kind}
+use Rattle.apl_tokens.proofs.OneSymbol.{character_found, kind_found}
 use Rattle.apl_tokens.specs.Fronts.{AllPass}
 use Rattle.apl_array.specs.Shape.{most_elements}
 use Rattle.apl_tokens.specs.Lexis.{BeginsWithNo, IsNumeral, Numeral, AreNumerals, HasNoNextNumeral, EndsNumerals, constant_shape, doubled, IsSymbol, BeginsWithNoToken, IsBeyondLimit}
@@ -117,12 +117,12 @@ name_token (d ∷ cs) c (suc n) name some at lettered within front longest is = 
 }
 
 -- symbols
-pub symbol_token : (text : List ℕ) (c : ℕ) (k : Lexeme) → 0 < length text → c ≡ get_or text 0 c → symbol_lexeme c ≡ Some k → IsTokenAt text 1 k
+pub symbol_token : (text : List ℕ) (c : ℕ) (k : TokenKind) → 0 < length text → c ≡ get_or text 0 c → symbol_kind c ≡ Some k → IsTokenAt text 1 k
 symbol_token [] c k some at is = absurd (omega arith)
 symbol_token (d ∷ cs) c k some at is = record {
   within = omega arith;
   some = omega arith;
-  is = symbol_is_token (d ∷ []) cs k (sign_of c k is).1 (record { character = d; split = refl; is = character_found d k (ap symbol_lexeme (sym at) ∙ is) });
+  is = symbol_is_token (d ∷ []) cs k (sign_of c k is).1 (record { character = d; split = refl; is = character_found d k (ap symbol_kind (sym at) ∙ is) });
 }
 
 -- text constants
@@ -145,7 +145,7 @@ text_beyond text rest cs len e q many = inr (record {
 })
 
 -- nothing
-pub no_token : (text : List ℕ) (c : ℕ) → 0 < length text → c ≡ get_or text 0 c → is_letter c ≡ false → is_quote c ≡ false → HasNoNumeral text → symbol_lexeme c ≡ None → BeginsWithNoToken text
+pub no_token : (text : List ℕ) (c : ℕ) → 0 < length text → c ≡ get_or text 0 c → is_letter c ≡ false → is_quote c ≡ false → HasNoNumeral text → symbol_kind c ≡ None → BeginsWithNoToken text
 no_token [] c some at lettered quoted numeral symbol x a k e h = absurd (omega arith)
 no_token (d ∷ cs) c some at lettered quoted numeral symbol x a (Constant v) e (inl h) = no_numerals (d ∷ cs) x a h.numerals numeral e h.spelled
 no_token (d ∷ cs) c some at lettered quoted numeral symbol x a (Constant v) e (inr h) =
@@ -160,13 +160,13 @@ no_token (d ∷ cs) c some at lettered quoted numeral symbol x a (Name n) e h =
     let good : is_letter h.first ≡ true = h.letter in
     absurd cc
 no_token (d ∷ cs) c some at lettered quoted numeral symbol x a k e h =
-    no_symbol d cs x a k (ap symbol_lexeme (sym at) ∙ symbol) e h
+    no_symbol d cs x a k (ap symbol_kind (sym at) ∙ symbol) e h
   where
-    no_symbol : (d : ℕ) (cs x a : List ℕ) (k : Lexeme) → symbol_lexeme d ≡ None → d ∷ cs ≡ x ++ a → IsSymbol x k → ⊥
+    no_symbol : (d : ℕ) (cs x a : List ℕ) (k : TokenKind) → symbol_kind d ≡ None → d ∷ cs ≡ x ++ a → IsSymbol x k → ⊥
     no_symbol d cs x a k symbol e h =
         let whole : d ∷ cs ≡ h.character ∷ a = e ∙ ap (λ y. y ++ a) h.split in
         let head : d ≡ h.character = cc in
-        let found : symbol_lexeme d ≡ Some k = ap symbol_lexeme head ∙ lexeme_found k h.character h.is in
+        let found : symbol_kind d ≡ Some k = ap symbol_kind head ∙ kind_found k h.character h.is in
         absurd cc
 
 pub no_limit : (text : List ℕ) (c : ℕ) → c ≡ get_or text 0 c → is_quote c ≡ false → HasNoNumeral text → (place : ℕ) → IsBeyondLimit text place → ⊥
@@ -204,7 +204,7 @@ open_limit text rest opens none place (inr h) =
     let tail : rest ≡ (doubled h.characters ++ quote ∷ []) ++ h.after = cc in
     none h.characters h.after h.ends (tail ∙ append_assoc (doubled h.characters) (quote ∷ []) h.after)
 
--- behind an opening quote
+-- after an opening quote
 pub spelled_by_one : (text : List ℕ) (c : ℕ) → 0 < length text → c ≡ get_or text 0 c → is_quote c ≡ false → IsSpelling text 1
 spelled_by_one [] c some at not = absurd (omega arith)
 spelled_by_one (d ∷ cs) c some at not =

@@ -45,7 +45,7 @@ checked_step ns vs us b d place z number h k e = subst (λ (p : List ℤ × Opti
     by_case None None h k = beyond_new ns (place, z) h.0 k
     by_case None (Some v) h k = (in_range_more ns (place, z) h.0 k.1, ap (λ zs. zs ++ v ∷ []) h.1 ∙ ap (λ y. numbers ns ++ y ∷ []) k.0 ∙ sym (numbers-more ns (place, z)))
 
--- the place out of range lies within the text so far
+-- the place out of range is within the text so far
 inside_step : (vs us : List ℤ) (b d : Option ℕ) (place len more : ℕ) (number : Option ℤ) → IfSome b (λ p. p ≤ len) → place ≤ more → len ≤ more → with_number vs b place number ≡ (us, d) → IfSome d (λ p. p ≤ more)
 inside_step vs us b d place len more number h new grows e = subst (λ (p : List ℤ × Option ℕ). IfSome p.1 (λ p. p ≤ more)) e (by_case b number h)
   where

@@ -7,9 +7,9 @@ use Rattle.std.proofs.lemmas.Int.{ints, by_lt_z}
 use Rattle.apl_array.specs.Array.{number_array, character_array}
 use Rattle.apl_array.specs.Range.{IsInRange, least_number, greatest_number}
 use Rattle.apl_tokens.specs.declared.token.Token.{Token}
-use Rattle.apl_tokens.specs.declared.token.Lexeme.{Lexeme}
-use Rattle.apl_tokens.specs.declared.token.Lexeme.TheVariants.{Constant, Name}
-use Rattle.apl_tokens.specs.Symbols.{is_digit, is_letter, is_name_character, is_blank, quote, is_quote, comment_mark, symbol_lexeme}
+use Rattle.apl_tokens.specs.declared.token.TokenKind.{TokenKind}
+use Rattle.apl_tokens.specs.declared.token.TokenKind.TheVariants.{Constant, Name}
+use Rattle.apl_tokens.specs.Symbols.{is_digit, is_letter, is_name_character, is_blank, quote, is_quote, comment_mark, symbol_kind}
 use Rattle.apl_tokens.proofs.OneSymbol.{character_found}
 use Rattle.apl_tokens.specs.Fronts.{AllPass}
 use Rattle.apl_array.specs.Shape.{most_elements}
@@ -119,7 +119,7 @@ numerals_here (suc n) p s h m = by_blanks (cut is_blank m.rest) (λ q small more
               ends = more.ends;
             }
 
--- the quotation behind an opening quote
+-- the quotation after an opening quote
 quotation_here : (s : List ℕ) → ((cs a : List ℕ) × (s ≡ doubled cs ++ (quote ∷ a)) × BeginsWithNo is_quote a) ⊎ ((cs : List ℕ) × (s ≡ doubled cs))
 quotation_here [] = inr ([], refl)
 quotation_here (c ∷ []) = by_test (is_quote c) refl
@@ -174,7 +174,7 @@ all_in_range (n ∷ ns) = by_first (in_range n.1) (all_in_range ns)
 
 -- a token, a constant beyond a limit, or nothing
 data Here (s : List ℕ) : Type 0 where
-  fits : (x a : List ℕ) (k : Lexeme) → s ≡ x ++ a → IsToken x a k → Here s
+  fits : (x a : List ℕ) (k : TokenKind) → s ≡ x ++ a → IsToken x a k → Here s
   limit : (place : ℕ) → IsBeyondLimit s place → Here s
   none : BeginsWithNoToken s → ((place : ℕ) → IsBeyondLimit s place → ⊥) → Here s
 
@@ -205,13 +205,13 @@ token_here : (s : List ℕ) → Here s
 token_here [] = none (no_token_at_end [] tt) (λ place. no_limit_at_end [] place tt)
 token_here (c ∷ cs) = by_letter (is_letter c) refl
   where
-    by_symbol : is_letter c ≡ false → is_quote c ≡ false → HasNoNumeral (c ∷ cs) → (k : Option Lexeme) → symbol_lexeme c ≡ k → Here (c ∷ cs)
+    by_symbol : is_letter c ≡ false → is_quote c ≡ false → HasNoNumeral (c ∷ cs) → (k : Option TokenKind) → symbol_kind c ≡ k → Here (c ∷ cs)
     by_symbol letter quoted numeral (Some k) e = fits (c ∷ []) cs k refl (symbol_is_token (c ∷ []) cs k (sign_of c k e).1 (record { character = c; split = refl; is = character_found c k e }))
     by_symbol letter quoted numeral None e = none (no_token (c ∷ cs) c (omega arith) refl letter quoted numeral e) (no_limit (c ∷ cs) c refl quoted numeral)
 
     by_numeral : is_letter c ≡ false → is_quote c ≡ false → NumeralHere (c ∷ cs) ⊎ HasNoNumeral (c ∷ cs) → Here (c ∷ cs)
     by_numeral letter quoted (inl h) = numbers_token (c ∷ cs) (numerals_here (length (c ∷ cs)) 0 (c ∷ cs) (omega arith) h)
-    by_numeral letter quoted (inr numeral) = by_symbol letter quoted numeral (symbol_lexeme c) refl
+    by_numeral letter quoted (inr numeral) = by_symbol letter quoted numeral (symbol_kind c) refl
 
     by_quote : (b : Bool) → is_letter c ≡ false → is_quote c ≡ b → Here (c ∷ cs)
     by_quote true letter e = text_token (c ∷ cs) cs (ap (λ x. x ∷ cs) (eqb→eq c quote (passes (is_quote c) e))) (quotation_here cs)
@@ -243,7 +243,7 @@ is_end (c ∷ cs) = by_test (c == comment_mark) refl
     by_test true e = inl (eqb→eq c comment_mark (passes (c == comment_mark) e))
     by_test false e = inr (λ is. let bad : (comment_mark == comment_mark) ≡ false = ap (λ x. x == comment_mark) (sym is) ∙ e in absurd cc)
 
-some_token : (x a : List ℕ) (k : Lexeme) → IsToken x a k → length a < length (x ++ a)
+some_token : (x a : List ℕ) (k : TokenKind) → IsToken x a k → length a < length (x ++ a)
 some_token x a k h =
     let b = token_begins x a k h in
     let len : length x ≡ length (b.head ∷ b.tail) = ap length b.split in
@@ -264,7 +264,7 @@ reading (suc n) c s h = by_rest (λ d a small. reading n d a small) (cut is_blan
         let small : length a ≤ n = omega (arith, h, ap length b.split, length-append b.front b.rest, ap length split, some_token x a k is) in
         let r = recurse (c + length b.front + length x) a small in
         record {
-          tokens = record { lexeme = k; column = c + length b.front } ∷ r.tokens;
+          tokens = record { kind = k; column = c + length b.front } ∷ r.tokens;
           column = r.column;
           rest = r.rest;
           before = (b.front, x, a, b.split ∙ ap (λ y. b.front ++ y) split, b.pass, refl, is, r.before);

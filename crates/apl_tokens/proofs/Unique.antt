@@ -4,10 +4,10 @@ use Rattle.std.specs.Prelude.{IsTrue, ℤ, pos, map, encode_utf8_all}
 use Rattle.std.specs.Bool.{passes}
 use Rattle.apl_array.specs.Array.{ArrayValue, number_array, character_array}
 use Rattle.apl_tokens.specs.declared.token.Token.{Token}
-use Rattle.apl_tokens.specs.declared.token.Lexeme.{Lexeme}
-use Rattle.apl_tokens.specs.declared.token.Lexeme.TheVariants.{Constant, Name}
-use Rattle.apl_tokens.specs.Symbols.{is_digit, is_letter, is_name_character, is_blank, quote, is_quote, symbol_lexeme}
-use Rattle.apl_tokens.proofs.OneSymbol.{lexeme_found}
+use Rattle.apl_tokens.specs.declared.token.TokenKind.{TokenKind}
+use Rattle.apl_tokens.specs.declared.token.TokenKind.TheVariants.{Constant, Name}
+use Rattle.apl_tokens.specs.Symbols.{is_digit, is_letter, is_name_character, is_blank, quote, is_quote, symbol_kind}
+use Rattle.apl_tokens.proofs.OneSymbol.{kind_found}
 use Rattle.apl_tokens.specs.Fronts.{AllPass}
 use Rattle.apl_array.specs.Shape.{most_elements}
 use Rattle.apl_tokens.specs.Lexis.{BeginsWithNo, number_of_digits, AreDigits, IsNumeral, plain, negative, negated, AreBlanks, Numeral, AreNumerals, EndsNumerals, HasNoNextNumeral, AreInRange, constant_shape, IsNumberConstant, doubled, quoted, IsTextConstant, IsName, IsSymbol, IsToken, LexesUpTo, IsEnd, Lexes, BeginsWithNoToken, FirstOutOfRange, here, later, IsNumberBeyondLimit, IsTextBeyondLimit, IsBeyondLimit, HasLexicalFault, HasLimitFault}
@@ -69,7 +69,7 @@ row_begins p t (n ∷ []) r h = numeral_begins t r n.1 h.0
 row_begins p t (n ∷ m ∷ ns) r (first, gap, rest, split, is, place, blank, more) =
     subst (BeginsWithNo is_blank) (sym (ap (λ x. x ++ r) split ∙ append_assoc first (gap ++ rest) r)) (numeral_begins first ((gap ++ rest) ++ r) n.1 is)
 
--- the first numeral of a row, which goes on behind it
+-- the first numeral of a row, which goes on after it
 row_first : (p : ℕ) (t : List ℕ) (n m : Numeral) (ns : List Numeral) → AreNumerals p t (n ∷ m ∷ ns) → (f x : List ℕ) (z : ℤ) → IsNumeral f z → BeginsWithNo is_digit x → (a : List ℕ) → f ++ x ≡ t ++ a → HasNoNextNumeral x → ⊥
 row_first p t n m ns (first, gap, rest, split, is, place, blank, more) f x z hf hx a e ends =
     let whole : f ++ x ≡ first ++ (gap ++ (rest ++ a)) = e ∙ ap (λ y. y ++ a) split ∙ simp append_assoc in
@@ -111,12 +111,12 @@ one_row p t u a b (n ∷ l ∷ ns) (m ∷ j ∷ ms) (f, g, r, split, is, place, 
     heads : (n m : Numeral) (ns ms : List Numeral) → n.0 ≡ m.0 → n.1 ≡ m.1 → ns ≡ ms → ◌≡◌ {A = List Numeral} (n ∷ ns) (m ∷ ms)
     heads n m ns ms x y z = rw (x, y, z) refl
 
-one_symbol : (x y a b : List ℕ) (j k : Lexeme) → IsSymbol x j → IsSymbol y k → x ++ a ≡ y ++ b → (x ≡ y) × (a ≡ b) × (j ≡ k)
+one_symbol : (x y a b : List ℕ) (j k : TokenKind) → IsSymbol x j → IsSymbol y k → x ++ a ≡ y ++ b → (x ≡ y) × (a ≡ b) × (j ≡ k)
 one_symbol x y a b j k h i e =
     let whole : h.character ∷ a ≡ i.character ∷ b = ap (λ t. t ++ a) (sym h.split) ∙ e ∙ ap (λ t. t ++ b) i.split in
     let heads : h.character ≡ i.character = cc in
     let texts : x ≡ y = h.split ∙ ap (λ c. c ∷ []) heads ∙ sym i.split in
-    let kinds : ◌≡◌ {A = Option Lexeme} (Some j) (Some k) = sym (lexeme_found j h.character h.is) ∙ ap symbol_lexeme heads ∙ lexeme_found k i.character i.is in
+    let kinds : ◌≡◌ {A = Option TokenKind} (Some j) (Some k) = sym (kind_found j h.character h.is) ∙ ap symbol_kind heads ∙ kind_found k i.character i.is in
     (texts, cc, cc)
 
 letters_pass : (c : ℕ) → IsTrue (is_letter c) → IsTrue (is_name_character c)
@@ -144,24 +144,24 @@ one_text x y a b v w h i e =
     let same = one_quoted h.characters i.characters a b h.ends i.ends (ap (λ t. t ++ a) (sym h.spelled) ∙ e ∙ ap (λ t. t ++ b) i.spelled) in
     (h.spelled ∙ ap quoted same.0 ∙ sym i.spelled, same.1, h.is ∙ ap (λ (cs : List ℕ). character_array (constant_shape cs) cs) same.0 ∙ sym i.is)
 
-one_token : (x y a b : List ℕ) (j k : Lexeme) → (h : IsToken x a j) → (i : IsToken y b k) → lead_of x a j h ≡ lead_of y b k i → x ++ a ≡ y ++ b → (x ≡ y) × (a ≡ b) × (j ≡ k)
+one_token : (x y a b : List ℕ) (j k : TokenKind) → (h : IsToken x a j) → (i : IsToken y b k) → lead_of x a j h ≡ lead_of y b k i → x ++ a ≡ y ++ b → (x ≡ y) × (a ≡ b) × (j ≡ k)
 one_token x y a b (Constant v) k (inl h) i l e = of_number k i l
   where
-    of_number : (k : Lexeme) → (i : IsToken y b k) → figure ≡ lead_of y b k i → (x ≡ y) × (a ≡ b) × (Constant v ≡ k)
+    of_number : (k : TokenKind) → (i : IsToken y b k) → figure ≡ lead_of y b k i → (x ≡ y) × (a ≡ b) × (Constant v ≡ k)
     of_number (Constant w) (inl i) l = let same = one_number x y a b v w h i e in (same.0, same.1, ap Constant same.2)
     of_number (Constant w) (inr i) l = absurd cc
     of_number (Name n) i l = absurd cc
     of_number k i l = absurd cc
 one_token x y a b (Constant v) k (inr h) i l e = of_text k i l
   where
-    of_text : (k : Lexeme) → (i : IsToken y b k) → quotation ≡ lead_of y b k i → (x ≡ y) × (a ≡ b) × (Constant v ≡ k)
+    of_text : (k : TokenKind) → (i : IsToken y b k) → quotation ≡ lead_of y b k i → (x ≡ y) × (a ≡ b) × (Constant v ≡ k)
     of_text (Constant w) (inl i) l = absurd cc
     of_text (Constant w) (inr i) l = let same = one_text x y a b v w h i e in (same.0, same.1, ap Constant same.2)
     of_text (Name n) i l = absurd cc
     of_text k i l = absurd cc
 one_token x y a b (Name m) k h i l e = of_name k i l
   where
-    of_name : (k : Lexeme) → (i : IsToken y b k) → letter ≡ lead_of y b k i → (x ≡ y) × (a ≡ b) × (Name m ≡ k)
+    of_name : (k : TokenKind) → (i : IsToken y b k) → letter ≡ lead_of y b k i → (x ≡ y) × (a ≡ b) × (Name m ≡ k)
     of_name (Constant w) (inl i) l = absurd cc
     of_name (Constant w) (inr i) l = absurd cc
     of_name (Name n) i l = let same = one_name x y a b m n h i e in (same.0, same.1, ap Name same.2)
@@ -174,14 +174,14 @@ one_lexing c d e s r q [] [] (gap, split, blank, last, at) (gap', split', blank'
     let same = longest is_blank gap gap' r q blank blank' last last' (sym split ∙ split') in
     (refl, at ∙ ap (λ x. c + length x) same.0 ∙ sym at', same.1)
 one_lexing c d e s r q [] (u ∷ us) (gap, split, blank, last, at) (g, x, a, parts, blanks, col, is, more) hr hq =
-    let same = longest is_blank gap g r (x ++ a) blank blanks last (begins_no_blank x a a u.lexeme is) (sym split ∙ parts) in
-    absurd (hr x a u.lexeme same.1 is)
+    let same = longest is_blank gap g r (x ++ a) blank blanks last (begins_no_blank x a a u.kind is) (sym split ∙ parts) in
+    absurd (hr x a u.kind same.1 is)
 one_lexing c d e s r q (t ∷ ts) [] (g, x, a, parts, blanks, col, is, more) (gap, split, blank, last, at) hr hq =
-    let same = longest is_blank gap g q (x ++ a) blank blanks last (begins_no_blank x a a t.lexeme is) (sym split ∙ parts) in
-    absurd (hq x a t.lexeme same.1 is)
+    let same = longest is_blank gap g q (x ++ a) blank blanks last (begins_no_blank x a a t.kind is) (sym split ∙ parts) in
+    absurd (hq x a t.kind same.1 is)
 one_lexing c d e s r q (t ∷ ts) (u ∷ us) (g, x, a, parts, blanks, col, is, more) (g', x', a', parts', blanks', col', is', more') hr hq =
-    let gaps = longest is_blank g g' (x ++ a) (x' ++ a') blanks blanks' (begins_no_blank x a a t.lexeme is) (begins_no_blank x' a' a' u.lexeme is') (sym parts ∙ parts') in
-    let same = one_token x x' a a' t.lexeme u.lexeme is is' (one_lead x x' a a' (lead_of x a t.lexeme is) (lead_of x' a' u.lexeme is') (token_begins x a t.lexeme is) (token_begins x' a' u.lexeme is') gaps.1) gaps.1 in
+    let gaps = longest is_blank g g' (x ++ a) (x' ++ a') blanks blanks' (begins_no_blank x a a t.kind is) (begins_no_blank x' a' a' u.kind is') (sym parts ∙ parts') in
+    let same = one_token x x' a a' t.kind u.kind is is' (one_lead x x' a a' (lead_of x a t.kind is) (lead_of x' a' u.kind is') (token_begins x a t.kind is) (token_begins x' a' u.kind is') gaps.1) gaps.1 in
     let columns : t.column ≡ u.column = col ∙ ap (λ y. c + length y) gaps.0 ∙ sym col' in
     let place : u.column + length x' ≡ t.column + length x = places t.column u.column x x' columns same.0 in
     let rest = one_lexing (t.column + length x) d e a r q ts us more (subst (λ (y : List ℕ). LexesUpTo (t.column + length x) y us e q) (sym same.1) (subst (λ (n : ℕ). LexesUpTo n a' us e q) place more')) hr hq in
@@ -190,7 +190,7 @@ one_lexing c d e s r q (t ∷ ts) (u ∷ us) (g, x, a, parts, blanks, col, is, m
     places : (m n : ℕ) (x y : List ℕ) → m ≡ n → x ≡ y → n + length y ≡ m + length x
     places m n x y p q = rw (p, q) refl
 
-    tokens : (t u : Token) (ts us : List Token) → t.lexeme ≡ u.lexeme → t.column ≡ u.column → ts ≡ us → ◌≡◌ {A = List Token} (t ∷ ts) (u ∷ us)
+    tokens : (t u : Token) (ts us : List Token) → t.kind ≡ u.kind → t.column ≡ u.column → ts ≡ us → ◌≡◌ {A = List Token} (t ∷ ts) (u ∷ us)
     tokens t u ts us p q r = rw (p, q, r) refl
 
 not_all_in_range : (ns : List Numeral) (place : ℕ) → FirstOutOfRange ns place → AreInRange ns → ⊥

@@ -9,10 +9,10 @@ use Rattle.apl_array.specs.Array.{ArrayValue, number_array, character_array}
 use Rattle.apl_array.specs.Range.{IsElementInRange}
 use Rattle.apl_array.specs.Limits.{IsWithinLimits}
 use Rattle.apl_tokens.specs.declared.token.Token.{Token}
-use Rattle.apl_tokens.specs.declared.token.Lexeme.{Lexeme}
-use Rattle.apl_tokens.specs.declared.token.Lexeme.TheVariants as lexeme
+use Rattle.apl_tokens.specs.declared.token.TokenKind.{TokenKind}
+use Rattle.apl_tokens.specs.declared.token.TokenKind.TheVariants as kind
 use Rattle.apl_tokens.specs.Lexis.{Numeral, AreInRange, constant_shape, IsConstant, IsToken, LexesUpTo, Lexes}
-use Rattle.apl_tokens.specs.Constants.{IsLexemeWithinLimits, HasConstantsWithinLimits}
+use Rattle.apl_tokens.specs.Constants.{IsKindWithinLimits, HasConstantsWithinLimits}
 
 vector_lawful : (n : ℕ) → n ≤ most_elements → IsShape (n ∷ [])
 vector_lawful n most = record {
@@ -57,23 +57,23 @@ constant_in : (text after : List ℕ) (value : ArrayValue) → IsConstant text a
 constant_in text after value (inl number) = subst IsWithinLimits (sym number.is) (number_constant number.numerals number.in_range number.few)
 constant_in text after value (inr quotation) = subst IsWithinLimits (sym quotation.is) (text_constant quotation.characters quotation.few)
 
-token_in : (text after : List ℕ) (l : Lexeme) → IsToken text after l → IsLexemeWithinLimits l
-token_in text after (lexeme.Constant value) is = constant_in text after value is
-token_in text after (lexeme.Name name) is = tt
-token_in text after (lexeme.Function glyph) is = tt
-token_in text after lexeme.Dot is = tt
-token_in text after lexeme.Jot is = tt
-token_in text after lexeme.Arrow is = tt
-token_in text after lexeme.OpenParen is = tt
-token_in text after lexeme.CloseParen is = tt
-token_in text after lexeme.OpenBracket is = tt
-token_in text after lexeme.CloseBracket is = tt
-token_in text after lexeme.Semicolon is = tt
+token_in : (text after : List ℕ) (l : TokenKind) → IsToken text after l → IsKindWithinLimits l
+token_in text after (kind.Constant value) is = constant_in text after value is
+token_in text after (kind.Name name) is = tt
+token_in text after (kind.Function glyph) is = tt
+token_in text after kind.Dot is = tt
+token_in text after kind.Jot is = tt
+token_in text after kind.Arrow is = tt
+token_in text after kind.OpenParen is = tt
+token_in text after kind.CloseParen is = tt
+token_in text after kind.OpenBracket is = tt
+token_in text after kind.CloseBracket is = tt
+token_in text after kind.Semicolon is = tt
 
 tokens_in : (c : ℕ) (characters : List ℕ) (ts : List Token) (d : ℕ) (rest : List ℕ) → LexesUpTo c characters ts d rest → HasConstantsWithinLimits ts
-tokens_in c characters [] d rest lexed = All-nil (λ (t : Token). IsLexemeWithinLimits t.lexeme)
+tokens_in c characters [] d rest lexed = All-nil (λ (t : Token). IsKindWithinLimits t.kind)
 tokens_in c characters (t ∷ ts) d rest (gap, text, after, split, blank, column, is, more) =
-    All-cons (λ (t : Token). IsLexemeWithinLimits t.lexeme) t ts (token_in text after t.lexeme is) (tokens_in (t.column + length text) after ts d rest more)
+    All-cons (λ (t : Token). IsKindWithinLimits t.kind) t ts (token_in text after t.kind is) (tokens_in (t.column + length text) after ts d rest more)
 
 pub lexed_in : (characters : List ℕ) (tokens : List Token) → Lexes characters tokens → HasConstantsWithinLimits tokens
 lexed_in characters tokens (d, rest, lexed, end) = tokens_in 0 characters tokens d rest lexed

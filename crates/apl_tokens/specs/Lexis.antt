@@ -4,8 +4,8 @@ use Rattle.apl_array.specs.Range.{IsInRange}
 use Rattle.apl_array.specs.Shape.{most_elements}
 use Rattle.apl_array.specs.Array.{ArrayValue, number_array, character_array}
 use Rattle.apl_tokens.specs.declared.token.Token.{Token}
-use Rattle.apl_tokens.specs.declared.token.Lexeme.{Lexeme}
-use Rattle.apl_tokens.specs.declared.token.Lexeme.TheVariants.{Constant, Name}
+use Rattle.apl_tokens.specs.declared.token.TokenKind.{TokenKind}
+use Rattle.apl_tokens.specs.declared.token.TokenKind.TheVariants.{Constant, Name}
 use Rattle.apl_tokens.specs.Symbols.{is_digit, is_letter, is_name_character, is_blank, high_minus, quote, is_quote, comment_mark, character_of}
 use Rattle.apl_tokens.specs.Fronts.{AllPass}
 
@@ -115,16 +115,16 @@ pub record IsName (text after name : List ℕ) : Type 0 where
   pub is : name ≡ encode_utf8_all text
 
 -- one symbol that is a token by itself
-pub record IsSymbol (text : List ℕ) (lexeme : Lexeme) : Type 0 where
+pub record IsSymbol (text : List ℕ) (kind : TokenKind) : Type 0 where
   pub character : ℕ
   pub split : text ≡ character ∷ []
-  pub is : character_of lexeme ≡ Some character
+  pub is : character_of kind ≡ Some character
 
 -- the text is a token, as long as can be before what comes after it
-abbrev pub IsToken : List ℕ → List ℕ → Lexeme → Type 0
+abbrev pub IsToken : List ℕ → List ℕ → TokenKind → Type 0
 IsToken text after (Constant value) = IsConstant text after value
 IsToken text after (Name name) = IsName text after name
-IsToken text after lexeme = IsSymbol text lexeme
+IsToken text after kind = IsSymbol text kind
 
 -- The tokens are the front of the characters, whose first is at column c. The rest is what follows them and the
 -- blanks after them, at column d.
@@ -133,7 +133,7 @@ LexesUpTo c characters [] d rest =
     (gap : List ℕ) × (characters ≡ gap ++ rest) × AllPass is_blank gap × BeginsWithNo is_blank rest × (d ≡ c + length gap)
 LexesUpTo c characters (t ∷ ts) d rest =
     (gap text after : List ℕ) × (characters ≡ gap ++ (text ++ after)) × AllPass is_blank gap × (t.column ≡ c + length gap)
-    × IsToken text after t.lexeme × LexesUpTo (t.column + length text) after ts d rest
+    × IsToken text after t.kind × LexesUpTo (t.column + length text) after ts d rest
 
 -- nothing is left, or a comment
 abbrev pub IsEnd : List ℕ → Type 0
@@ -146,7 +146,7 @@ Lexes characters tokens = (d : ℕ) × (rest : List ℕ) × LexesUpTo 0 characte
 
 -- no token is here
 abbrev pub BeginsWithNoToken : List ℕ → Type 0
-BeginsWithNoToken rest = (text after : List ℕ) (lexeme : Lexeme) → rest ≡ text ++ after → IsToken text after lexeme → ⊥
+BeginsWithNoToken rest = (text after : List ℕ) (kind : TokenKind) → rest ≡ text ++ after → IsToken text after kind → ⊥
 
 -- the first numeral out of range begins at this place
 pub data FirstOutOfRange : List Numeral → ℕ → Type 0 where

@@ -1,7 +1,7 @@
 -- What the lexer's own functions say of the front of a text. No contract of a public function cites this file.
 use Rattle.std.specs.Prelude.{◌≡◌, ◌⊎◌, ◌+◌, ◌<◌, ◌≤◌, ℕ, ℤ, Bool, IsTrue, List, [], ◌∷◌, ◌++◌, Option, Some, None, IfSome, length, take, drop, map, slice_index, encode_utf8, encode_utf8_all}
 use Rattle.apl_array.specs.Range.{IsInRange}
-use Rattle.apl_tokens.specs.declared.token.Lexeme.{Lexeme}
+use Rattle.apl_tokens.specs.declared.token.TokenKind.{TokenKind}
 use Rattle.apl_tokens.specs.declared.lexer.CharacterClass.{CharacterClass}
 use Rattle.apl_tokens.specs.declared.lexer.CharacterClass.TheVariants as class
 use Rattle.apl_tokens.specs.declared.lexer.NextNumeral.{NextNumeral}
@@ -105,10 +105,10 @@ BeginsWithQuote [] = ⊥
 BeginsWithQuote (c ∷ cs) = c ≡ quote
 
 -- a token of this length is at the front of the text
-pub record IsTokenAt (text : List ℕ) (len : ℕ) (lexeme : Lexeme) : Type 0 where
+pub record IsTokenAt (text : List ℕ) (len : ℕ) (kind : TokenKind) : Type 0 where
   pub within : len ≤ length text
   pub some : 0 < len
-  pub is : IsToken (take len text) (drop len text) lexeme
+  pub is : IsToken (take len text) (drop len text) kind
 
 -- no token is at the front of the text, which begins at this column
 abbrev pub IsStopAt : List ℕ → ℕ → LexicalStop → Type 0

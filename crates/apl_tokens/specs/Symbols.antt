@@ -5,8 +5,8 @@ use Rattle.apl_array.specs.declared.function.ScalarFunction.{ScalarFunction}
 use Rattle.apl_array.specs.declared.function.ScalarFunction.TheVariants.{Plus, Minus, Times, Divide, Stile, Star, Bang, Floor, Ceiling, And, Or, Nand, Nor, Less, LessOrEqual, Equal, GreaterOrEqual, Greater, NotEqual, Tilde}
 use Rattle.apl_tokens.specs.declared.token.Glyph.{Glyph}
 use Rattle.apl_tokens.specs.declared.token.Glyph.TheVariants.{Scalar, Rho, Comma, Iota, Epsilon, UpArrow, DownArrow, CircleStile, CircleBar, Transpose, GradeUp, GradeDown, Slash, SlashBar, Backslash, BackslashBar, UpTack, DownTack}
-use Rattle.apl_tokens.specs.declared.token.Lexeme.{Lexeme}
-use Rattle.apl_tokens.specs.declared.token.Lexeme.TheVariants.{Function, Dot, Jot, Arrow, OpenParen, CloseParen, OpenBracket, CloseBracket, Semicolon}
+use Rattle.apl_tokens.specs.declared.token.TokenKind.{TokenKind}
+use Rattle.apl_tokens.specs.declared.token.TokenKind.TheVariants.{Function, Dot, Jot, Arrow, OpenParen, CloseParen, OpenBracket, CloseBracket, Semicolon}
 
 -- 0 to 9
 abbrev pub is_digit : ℕ → Bool
@@ -102,7 +102,7 @@ glyphs =
     ∷ GradeUp ∷ GradeDown ∷ Slash ∷ SlashBar ∷ Backslash ∷ BackslashBar ∷ UpTack ∷ DownTack ∷ [])
 
 -- the character of a token that is one symbol
-abbrev pub character_of : Lexeme → Option ℕ
+abbrev pub character_of : TokenKind → Option ℕ
 character_of (Function glyph) = Some (glyph_character glyph)
 character_of Dot = Some 46
 character_of Jot = Some 0x2218
@@ -115,22 +115,22 @@ character_of Semicolon = Some 59
 character_of _ = None
 
 -- all tokens of one symbol
-abbrev pub symbol_lexemes : List Lexeme
-symbol_lexemes = map Function glyphs ++ (Dot ∷ Jot ∷ Arrow ∷ OpenParen ∷ CloseParen ∷ OpenBracket ∷ CloseBracket ∷ Semicolon ∷ [])
+abbrev pub symbol_kinds : List TokenKind
+symbol_kinds = map Function glyphs ++ (Dot ∷ Jot ∷ Arrow ∷ OpenParen ∷ CloseParen ∷ OpenBracket ∷ CloseBracket ∷ Semicolon ∷ [])
 
--- the lexeme if the character is its own, else the other
-abbrev pub lexeme_or : Option ℕ → Lexeme → Option Lexeme → ℕ → Option Lexeme
-lexeme_or (Some character) lexeme other c = if c == character then Some lexeme else other
-lexeme_or None lexeme other c = other
+-- the token if the character is its own, else the other
+abbrev pub kind_or : Option ℕ → TokenKind → Option TokenKind → ℕ → Option TokenKind
+kind_or (Some character) kind other c = if c == character then Some kind else other
+kind_or None kind other c = other
 
 -- the first of these tokens whose character it is
-abbrev pub lexeme_in : List Lexeme → ℕ → Option Lexeme
-lexeme_in [] c = None
-lexeme_in (lexeme ∷ lexemes) c = lexeme_or (character_of lexeme) lexeme (lexeme_in lexemes c) c
+abbrev pub kind_in : List TokenKind → ℕ → Option TokenKind
+kind_in [] c = None
+kind_in (kind ∷ kinds) c = kind_or (character_of kind) kind (kind_in kinds c) c
 
 -- the token that a character is by itself
-abbrev pub symbol_lexeme : ℕ → Option Lexeme
-symbol_lexeme c = lexeme_in symbol_lexemes c
+abbrev pub symbol_kind : ℕ → Option TokenKind
+symbol_kind c = kind_in symbol_kinds c
 
 -- the listed symbols that are not ASCII: ¯ × ÷ ← ↑ ↓ ∆ ∊ ∘ ∧ ∨ ≠ ≤ ≥ ⊖ ⊤ ⊥ ⌈ ⌊ ⌽ ⌿ ⍀ ⍉ ⍋ ⍒ ⍙ ⍝ ⍱ ⍲ ⍳ ⍴
 abbrev pub non_ascii_symbols : List ℕ

@@ -8,9 +8,9 @@ ghost use Rattle.apl_tokens.specs.Stops.{IsLexicalStopOf};
 ghost use Rattle.apl_tokens.specs.Scans.{is_of_class, IsCheckedNumber, IsNumeralAt, HasNoNumeral, IsNextNumeralAt, with_number, IsNumeralRow, IsSpelling, BeginsWithClosingQuote, IsQuotation, HasNoQuotation, BeginsWithQuote, IsTokenAt, IsStopAt};
 
 use crate::symbols::{
-    is_blank, is_comment_mark, is_digit, is_letter, is_name_character, is_quote, symbol_lexeme,
+    is_blank, is_comment_mark, is_digit, is_letter, is_name_character, is_quote, symbol_kind,
 };
-use crate::token::{Constant, Lexeme, Name, Token};
+use crate::token::{Constant, Name, Token, TokenKind};
 use apl_array::{Array, MOST_ELEMENTS, Shape};
 use std::alloc::{AllocError, AllocFailed, Global};
 
@@ -245,7 +245,7 @@ fn row_at(
 /// A token and its length in characters.
 #[derive(Drop)]
 struct Scanned {
-    lexeme: Lexeme,
+    kind: TokenKind,
     length: usize,
 }
 
@@ -269,13 +269,13 @@ fn number_constant_at(
 ) -> Result<Scanned, LexicalStop>
     requires numeral { IsNumeralAt text.now first.length first.number }
     requires fits { column + length text.now < 2 ^ 64 }
-    ensures token { IfOk result (λ t. IsTokenAt text.now t.length t.lexeme) }
+    ensures token { IfOk result (λ t. IsTokenAt text.now t.length t.kind) }
     ensures stop { IfErr result (IsStopAt text.now column) }
 {
     let Some(second) = next_numeral(&text[first.length..]) else {
         return match first.number {
             Some(number) => Ok(Scanned {
-                lexeme: Lexeme::Constant(Constant::number(number)),
+                kind: TokenKind::Constant(Constant::number(number)),
                 length: first.length,
             }),
             None => Err(LexicalStop::Limit { column }),
@@ -292,7 +292,7 @@ fn number_constant_at(
     }
     let constant = Constant::new(alloc, number_vector(alloc, row.values))?;
     Ok(Scanned {
-        lexeme: Lexeme::Constant(constant),
+        kind: TokenKind::Constant(constant),
         length: row.length,
     })
 }
@@ -355,7 +355,7 @@ fn character_array(alloc: Global, characters: Vec<char>) -> Array
 /// The text constant at the front of a text that begins at this column, with a quote.
 fn text_constant_at(alloc: Global, text: &[char], column: usize) -> Result<Scanned, LexicalStop>
     requires { BeginsWithQuote text.now }
-    ensures token { IfOk result (λ t. IsTokenAt text.now t.length t.lexeme) }
+    ensures token { IfOk result (λ t. IsTokenAt text.now t.length t.kind) }
     ensures stop { IfErr result (IsStopAt text.now column) }
 {
     let Some(quotation) = quotation_at(alloc, &text[1..])? else {
@@ -366,7 +366,7 @@ fn text_constant_at(alloc: Global, text: &[char], column: usize) -> Result<Scann
     }
     let constant = Constant::new(alloc, character_array(alloc, quotation.characters))?;
     Ok(Scanned {
-        lexeme: Lexeme::Constant(constant),
+        kind: TokenKind::Constant(constant),
         length: quotation.length + 1,
     })
 }
@@ -386,7 +386,7 @@ fn name_of(alloc: Global, characters: &[char]) -> Result<Name, AllocError>
 fn token_at(alloc: Global, text: &[char], column: usize) -> Result<Scanned, LexicalStop>
     requires more { 0 < length text.now }
     requires fits { column + length text.now < 2 ^ 64 }
-    ensures token { IfOk result (λ t. IsTokenAt text.now t.length t.lexeme) }
+    ensures token { IfOk result (λ t. IsTokenAt text.now t.length t.kind) }
     ensures stop { IfErr result (IsStopAt text.now column) }
 {
     let first = text[0];
@@ -394,7 +394,7 @@ fn token_at(alloc: Global, text: &[char], column: usize) -> Result<Scanned, Lexi
         let length = run_length(text, CharacterClass::NamePart);
         let name = name_of(alloc, &text[..length])?;
         return Ok(Scanned {
-            lexeme: Lexeme::Name(name),
+            kind: TokenKind::Name(name),
             length,
         });
     }
@@ -404,8 +404,8 @@ fn token_at(alloc: Global, text: &[char], column: usize) -> Result<Scanned, Lexi
     if let Some(numeral) = numeral_at(text) {
         return number_constant_at(alloc, text, numeral, column);
     }
-    match symbol_lexeme(first) {
-        Some(lexeme) => Ok(Scanned { lexeme, length: 1 }),
+    match symbol_kind(first) {
+        Some(kind) => Ok(Scanned { kind, length: 1 }),
         None => Err(LexicalStop::Syntax { column }),
     }
 }
@@ -428,8 +428,8 @@ pub fn tokens(alloc: Global, characters: &[char]) -> Result<Vec<Token>, LexicalS
     let mut column = run_length(characters, CharacterClass::Blank);
     while column < characters.len() && !is_comment_mark(characters[column]) {
         let token = token_at(alloc, &characters[column..], column)?;
-        let lexeme = token.lexeme;
-        tokens.push(Token { lexeme, column })?;
+        let kind = token.kind;
+        tokens.push(Token { kind, column })?;
         column += token.length;
         column += run_length(&characters[column..], CharacterClass::Blank);
     }

@@ -16,4 +16,4 @@ pub use laws::{
 };
 pub use lexer::{LexicalStop, blanks_before, tokens};
 pub use symbols::is_digit;
-pub use token::{Constant, Glyph, Lexeme, Name, Token};
+pub use token::{Constant, Glyph, Name, Token, TokenKind};

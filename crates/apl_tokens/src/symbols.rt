@@ -1,8 +1,8 @@
 //! The listed symbols, and the tokens of one symbol.
 ghost use Rattle.std.specs.Prelude.{◌≡◌, ◌==◌};
-ghost use Rattle.apl_tokens.specs.Symbols.{is_digit, is_letter, is_name_character, is_blank, is_quote, comment_mark, is_listed_ascii, is_listed, symbol_lexeme};
+ghost use Rattle.apl_tokens.specs.Symbols.{is_digit, is_letter, is_name_character, is_blank, is_quote, comment_mark, is_listed_ascii, is_listed, symbol_kind};
 
-use crate::token::{Glyph, Lexeme};
+use crate::token::{Glyph, TokenKind};
 use apl_array::ScalarFunction;
 
 /// Whether this is `0` to `9`.
@@ -64,55 +64,55 @@ pub(crate) fn is_listed(c: char) -> bool
 }
 
 /// The token that this symbol is by itself.
-pub(crate) fn symbol_lexeme(c: char) -> Option<Lexeme>
-    ensures { result ≡ symbol_lexeme c }
+pub(crate) fn symbol_kind(c: char) -> Option<TokenKind>
+    ensures { result ≡ symbol_kind c }
 {
     match c {
-        '+' => Some(Lexeme::Function(Glyph::Scalar(ScalarFunction::Plus))),
-        '-' => Some(Lexeme::Function(Glyph::Scalar(ScalarFunction::Minus))),
-        '×' => Some(Lexeme::Function(Glyph::Scalar(ScalarFunction::Times))),
-        '÷' => Some(Lexeme::Function(Glyph::Scalar(ScalarFunction::Divide))),
-        '|' => Some(Lexeme::Function(Glyph::Scalar(ScalarFunction::Stile))),
-        '*' => Some(Lexeme::Function(Glyph::Scalar(ScalarFunction::Star))),
-        '!' => Some(Lexeme::Function(Glyph::Scalar(ScalarFunction::Bang))),
-        '⌊' => Some(Lexeme::Function(Glyph::Scalar(ScalarFunction::Floor))),
-        '⌈' => Some(Lexeme::Function(Glyph::Scalar(ScalarFunction::Ceiling))),
-        '∧' => Some(Lexeme::Function(Glyph::Scalar(ScalarFunction::And))),
-        '∨' => Some(Lexeme::Function(Glyph::Scalar(ScalarFunction::Or))),
-        '⍲' => Some(Lexeme::Function(Glyph::Scalar(ScalarFunction::Nand))),
-        '⍱' => Some(Lexeme::Function(Glyph::Scalar(ScalarFunction::Nor))),
-        '<' => Some(Lexeme::Function(Glyph::Scalar(ScalarFunction::Less))),
-        '≤' => Some(Lexeme::Function(Glyph::Scalar(ScalarFunction::LessOrEqual))),
-        '=' => Some(Lexeme::Function(Glyph::Scalar(ScalarFunction::Equal))),
-        '≥' => Some(Lexeme::Function(Glyph::Scalar(ScalarFunction::GreaterOrEqual))),
-        '>' => Some(Lexeme::Function(Glyph::Scalar(ScalarFunction::Greater))),
-        '≠' => Some(Lexeme::Function(Glyph::Scalar(ScalarFunction::NotEqual))),
-        '~' => Some(Lexeme::Function(Glyph::Scalar(ScalarFunction::Tilde))),
-        '⍴' => Some(Lexeme::Function(Glyph::Rho)),
-        ',' => Some(Lexeme::Function(Glyph::Comma)),
-        '⍳' => Some(Lexeme::Function(Glyph::Iota)),
-        '∊' => Some(Lexeme::Function(Glyph::Epsilon)),
-        '↑' => Some(Lexeme::Function(Glyph::UpArrow)),
-        '↓' => Some(Lexeme::Function(Glyph::DownArrow)),
-        '⌽' => Some(Lexeme::Function(Glyph::CircleStile)),
-        '⊖' => Some(Lexeme::Function(Glyph::CircleBar)),
-        '⍉' => Some(Lexeme::Function(Glyph::Transpose)),
-        '⍋' => Some(Lexeme::Function(Glyph::GradeUp)),
-        '⍒' => Some(Lexeme::Function(Glyph::GradeDown)),
-        '/' => Some(Lexeme::Function(Glyph::Slash)),
-        '⌿' => Some(Lexeme::Function(Glyph::SlashBar)),
-        '\\' => Some(Lexeme::Function(Glyph::Backslash)),
-        '⍀' => Some(Lexeme::Function(Glyph::BackslashBar)),
-        '⊥' => Some(Lexeme::Function(Glyph::UpTack)),
-        '⊤' => Some(Lexeme::Function(Glyph::DownTack)),
-        '.' => Some(Lexeme::Dot),
-        '∘' => Some(Lexeme::Jot),
-        '←' => Some(Lexeme::Arrow),
-        '(' => Some(Lexeme::OpenParen),
-        ')' => Some(Lexeme::CloseParen),
-        '[' => Some(Lexeme::OpenBracket),
-        ']' => Some(Lexeme::CloseBracket),
-        ';' => Some(Lexeme::Semicolon),
+        '+' => Some(TokenKind::Function(Glyph::Scalar(ScalarFunction::Plus))),
+        '-' => Some(TokenKind::Function(Glyph::Scalar(ScalarFunction::Minus))),
+        '×' => Some(TokenKind::Function(Glyph::Scalar(ScalarFunction::Times))),
+        '÷' => Some(TokenKind::Function(Glyph::Scalar(ScalarFunction::Divide))),
+        '|' => Some(TokenKind::Function(Glyph::Scalar(ScalarFunction::Stile))),
+        '*' => Some(TokenKind::Function(Glyph::Scalar(ScalarFunction::Star))),
+        '!' => Some(TokenKind::Function(Glyph::Scalar(ScalarFunction::Bang))),
+        '⌊' => Some(TokenKind::Function(Glyph::Scalar(ScalarFunction::Floor))),
+        '⌈' => Some(TokenKind::Function(Glyph::Scalar(ScalarFunction::Ceiling))),
+        '∧' => Some(TokenKind::Function(Glyph::Scalar(ScalarFunction::And))),
+        '∨' => Some(TokenKind::Function(Glyph::Scalar(ScalarFunction::Or))),
+        '⍲' => Some(TokenKind::Function(Glyph::Scalar(ScalarFunction::Nand))),
+        '⍱' => Some(TokenKind::Function(Glyph::Scalar(ScalarFunction::Nor))),
+        '<' => Some(TokenKind::Function(Glyph::Scalar(ScalarFunction::Less))),
+        '≤' => Some(TokenKind::Function(Glyph::Scalar(ScalarFunction::LessOrEqual))),
+        '=' => Some(TokenKind::Function(Glyph::Scalar(ScalarFunction::Equal))),
+        '≥' => Some(TokenKind::Function(Glyph::Scalar(ScalarFunction::GreaterOrEqual))),
+        '>' => Some(TokenKind::Function(Glyph::Scalar(ScalarFunction::Greater))),
+        '≠' => Some(TokenKind::Function(Glyph::Scalar(ScalarFunction::NotEqual))),
+        '~' => Some(TokenKind::Function(Glyph::Scalar(ScalarFunction::Tilde))),
+        '⍴' => Some(TokenKind::Function(Glyph::Rho)),
+        ',' => Some(TokenKind::Function(Glyph::Comma)),
+        '⍳' => Some(TokenKind::Function(Glyph::Iota)),
+        '∊' => Some(TokenKind::Function(Glyph::Epsilon)),
+        '↑' => Some(TokenKind::Function(Glyph::UpArrow)),
+        '↓' => Some(TokenKind::Function(Glyph::DownArrow)),
+        '⌽' => Some(TokenKind::Function(Glyph::CircleStile)),
+        '⊖' => Some(TokenKind::Function(Glyph::CircleBar)),
+        '⍉' => Some(TokenKind::Function(Glyph::Transpose)),
+        '⍋' => Some(TokenKind::Function(Glyph::GradeUp)),
+        '⍒' => Some(TokenKind::Function(Glyph::GradeDown)),
+        '/' => Some(TokenKind::Function(Glyph::Slash)),
+        '⌿' => Some(TokenKind::Function(Glyph::SlashBar)),
+        '\\' => Some(TokenKind::Function(Glyph::Backslash)),
+        '⍀' => Some(TokenKind::Function(Glyph::BackslashBar)),
+        '⊥' => Some(TokenKind::Function(Glyph::UpTack)),
+        '⊤' => Some(TokenKind::Function(Glyph::DownTack)),
+        '.' => Some(TokenKind::Dot),
+        '∘' => Some(TokenKind::Jot),
+        '←' => Some(TokenKind::Arrow),
+        '(' => Some(TokenKind::OpenParen),
+        ')' => Some(TokenKind::CloseParen),
+        '[' => Some(TokenKind::OpenBracket),
+        ']' => Some(TokenKind::CloseBracket),
+        ';' => Some(TokenKind::Semicolon),
         _ => None,
     }
 }

@@ -131,7 +131,7 @@ pub enum Glyph {
 
 /// What a token is.
 #[derive(Drop)]
-pub enum Lexeme {
+pub enum TokenKind {
     Constant(Constant),
     Name(Name),
     Function(Glyph),
@@ -145,9 +145,9 @@ pub enum Lexeme {
     Semicolon,
 }
 
-/// A lexeme and the column of its first character. Columns count characters from 0.
+/// What a token is, and the column of its first character. Columns count characters from 0.
 #[derive(Drop)]
 pub struct Token {
-    pub lexeme: Lexeme,
+    pub kind: TokenKind,
     pub column: usize,
 }

@@ -1,7 +1,7 @@
 //! Tokens of lines, as text: each token with its column, or the stop.
 use crate::tables::{Table, rows_of};
 use apl_tokens::{
-    Constant, Glyph, Lexeme, Token, blanks_before, constants_are_within_limits, front,
+    Constant, Glyph, Token, TokenKind, blanks_before, constants_are_within_limits, front,
     front_is_total, front_is_unique, is_digit, lexing_is_total, lexing_is_unique, tokens,
 };
 use std::alloc::{AllocError, Global};
@@ -26,19 +26,19 @@ fn describe_constant(text: &mut String, constant: &Constant) -> Result<(), Alloc
 
 fn describe_token(text: &mut String, token: &Token) -> Result<(), AllocError> {
     write!(text, "{}:", token.column)?;
-    match &token.lexeme {
-        Lexeme::Constant(value) => describe_constant(text, value)?,
-        Lexeme::Name(name) => text.push_str(name.as_str())?,
-        Lexeme::Function(Glyph::Scalar(function)) => write!(text, "{function:?}")?,
-        Lexeme::Function(glyph) => write!(text, "{glyph:?}")?,
-        Lexeme::Dot => text.push_str("Dot")?,
-        Lexeme::Jot => text.push_str("Jot")?,
-        Lexeme::Arrow => text.push_str("Arrow")?,
-        Lexeme::OpenParen => text.push_str("OpenParen")?,
-        Lexeme::CloseParen => text.push_str("CloseParen")?,
-        Lexeme::OpenBracket => text.push_str("OpenBracket")?,
-        Lexeme::CloseBracket => text.push_str("CloseBracket")?,
-        Lexeme::Semicolon => text.push_str("Semicolon")?,
+    match &token.kind {
+        TokenKind::Constant(value) => describe_constant(text, value)?,
+        TokenKind::Name(name) => text.push_str(name.as_str())?,
+        TokenKind::Function(Glyph::Scalar(function)) => write!(text, "{function:?}")?,
+        TokenKind::Function(glyph) => write!(text, "{glyph:?}")?,
+        TokenKind::Dot => text.push_str("Dot")?,
+        TokenKind::Jot => text.push_str("Jot")?,
+        TokenKind::Arrow => text.push_str("Arrow")?,
+        TokenKind::OpenParen => text.push_str("OpenParen")?,
+        TokenKind::CloseParen => text.push_str("CloseParen")?,
+        TokenKind::OpenBracket => text.push_str("OpenBracket")?,
+        TokenKind::CloseBracket => text.push_str("CloseBracket")?,
+        TokenKind::Semicolon => text.push_str("Semicolon")?,
     }
     text.push_str(";")
 }
@@ -129,7 +129,7 @@ fn count_and_last(alloc: Global, line: &str) -> Result<Option<(usize, i64)>, Fai
     let [token] = tokens.as_slice() else {
         return Ok(None);
     };
-    let Lexeme::Constant(constant) = &token.lexeme else {
+    let TokenKind::Constant(constant) = &token.kind else {
         return Ok(None);
     };
     let value = constant.array(alloc)?;

@@ -1,4 +1,4 @@
-//! The grammar as rules over characters, one for each class of lexemes, and plain slow recognisers of them.
+//! The grammar as rules over characters, one for each class of kinds, and plain slow recognisers of them.
 
 /// What is in a rule.
 #[derive(Clone, Copy, PartialEq, Eq)]

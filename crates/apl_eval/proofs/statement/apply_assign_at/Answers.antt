@@ -20,7 +20,7 @@ top_value-value-requires g c =
 
 pub returns-in-Ok : goal.returns-in-Ok
 returns-in-Ok g c =
-    let w = staged_in c.args.staged.now c.args.machine.now.workspace.now in
+    let w = staged_in c.args.staged.now c.args.context.now.workspace.now in
     let target = c.args.target.now in
     let slots = c.in_ok-slots.slots in
     let right = c.top_value-value.result.now.value in
@@ -33,13 +33,13 @@ returns-in-Ok g c =
     let outcome = ap (λ (r : Result ArrayValue EvalError). onto below (assign_at_outcome_of r target.column target.name target.arrow right w)) result in
     let kept : c.insert.new.self ≡ insert c.args.staged.now target.name c.in-Ok.changed =
     c.in_ok-insert-in-Ok.ensures.ok ∙ (λ i. insert c.args.staged.now (c.as_str-name.ensures i) (c.in_ok-changed-in-Ok.ensures.ok i)) in
-    let now : assigned target.name c.in-Ok.changed w ≡ staged_in c.insert.new.self c.args.machine.now.workspace.now =
-    sym (ap (λ staged. staged_in staged c.args.machine.now.workspace.now) kept ∙ staged_in-insert c.args.staged.now c.args.machine.now.workspace.now target.name c.in-Ok.changed) in
+    let now : assigned target.name c.in-Ok.changed w ≡ staged_in c.insert.new.self c.args.context.now.workspace.now =
+    sym (ap (λ staged. staged_in staged c.args.context.now.workspace.now) kept ∙ staged_in-insert c.args.staged.now c.args.context.now.workspace.now target.name c.in-Ok.changed) in
     is ∙ outcome ∙ (λ i. waiting (sym c.top_value-value.ensures.1 i) (now i))
 
 pub returns-in-Err-Error : goal.returns-in-Err-Error
 returns-in-Err-Error g c =
-    let w = staged_in c.args.staged.now c.args.machine.now.workspace.now in
+    let w = staged_in c.args.staged.now c.args.context.now.workspace.now in
     let target = c.args.target.now in
     let slots = c.in_ok-slots.slots in
     let right = c.top_value-value.result.now.value in

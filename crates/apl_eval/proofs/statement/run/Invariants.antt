@@ -3,4 +3,4 @@ use Rattle.apl_eval.proofs.StepLemmas.{ComesTo}
 use Rattle.apl_eval.proofs.statement.run.Given as goal
 
 abbrev pub invariant-operations : goal.invariant-operations
-invariant-operations g l = ComesTo l.fn.program l.machine.workspace.now l.operation-index l.stack (staged_in l.staged l.machine.workspace.now)
+invariant-operations g l = ComesTo l.fn.program l.context.workspace.now l.operation-index l.stack (staged_in l.staged l.context.workspace.now)

@@ -2,7 +2,7 @@ use Rattle.std.proofs.Common.{arith, rules, ◌≡◌, ◌∙◌, sym, subst, No
 use Rattle.std.specs.Prelude.{ℤ}
 use Rattle.apl_array.specs.Array.{number_array}
 use Rattle.apl_tokens.specs.declared.lexer.LexicalStop.TheVariants.{Memory}
-use Rattle.apl_tokens.specs.declared.token.Lexeme.TheVariants.{Constant}
+use Rattle.apl_tokens.specs.declared.token.TokenKind.TheVariants.{Constant}
 use Rattle.apl_tokens.specs.Scans.{IsTokenAt, IsStopAt}
 use Rattle.apl_tokens.proofs.Stopped.{err_is}
 use Rattle.apl_tokens.specs.Lexis.{HasNoNextNumeral}

@@ -1,5 +1,5 @@
 use Rattle.std.proofs.Common.{refl, sym, ◌∙◌, subst, ◌-◌, ◌+◌, take, drop, length, arith, rules}
-use Rattle.apl_tokens.specs.declared.token.Lexeme.TheVariants.{Constant}
+use Rattle.apl_tokens.specs.declared.token.TokenKind.TheVariants.{Constant}
 use Rattle.apl_tokens.specs.Scans.{IsTokenAt}
 use Rattle.apl_tokens.proofs.OneToken.{behind_quote, text_token, text_beyond, open_token, open_limit}
 use Rattle.apl_tokens.proofs.lexer.text_constant_at.Goals as goal

@@ -30,6 +30,6 @@ loop-column-preserved c =
     let run = c.run_length-column-in-loop-column in
     record {
       within = omega (arith, run.ensures.within, c.in_ok-token.ensures.token.within, c.loop-column-test.true, length-take (length cs - (column + token.length)) (drop (column + token.length) cs), length-drop (column + token.length) cs, length-take (length cs - column) (drop column cs), length-drop column cs);
-      before = LexesUpTo-next cs c.loop-column.tokens.items c.push.new.self.items column token.length run.result (take (length cs - column) (drop column cs)) (take (length cs - (column + token.length)) (drop (column + token.length) cs)) token.lexeme
+      before = LexesUpTo-next cs c.loop-column.tokens.items c.push.new.self.items column token.length run.result (take (length cs - column) (drop column cs)) (take (length cs - (column + token.length)) (drop (column + token.length) cs)) token.kind
           (rest_of cs column) (rest_of cs (column + token.length)) c.in_ok-push.ensures.items c.loop-column.invariant.before c.in_ok-token.ensures.token run.ensures.within run.ensures.front run.ensures.longest;
     }

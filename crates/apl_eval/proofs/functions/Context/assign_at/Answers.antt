@@ -2,7 +2,7 @@ use Rattle.std.specs.Prelude.{map, option_copied}
 use Rattle.apl_answer.specs.Rows as rows
 use Rattle.apl_struct.specs.Indexing.{replace_row}
 use Rattle.apl_eval.specs.Functions.{assign_at_result}
-use Rattle.apl_eval.proofs.functions.Machine.assign_at.Goals as goal
+use Rattle.apl_eval.proofs.functions.Context.assign_at.Goals as goal
 
 pub returns-in-Some : goal.returns-in-Some
 unfolding assign_at_result

@@ -2,7 +2,7 @@ use Rattle.std.specs.Prelude.{map, option_copied}
 use Rattle.apl_answer.specs.Rows as rows
 use Rattle.apl_struct.specs.Indexing.{select_row}
 use Rattle.apl_eval.specs.Functions.{index_result}
-use Rattle.apl_eval.proofs.functions.Machine.index.Goals as goal
+use Rattle.apl_eval.proofs.functions.Context.index.Goals as goal
 
 pub returns : goal.returns
 unfolding index_result
