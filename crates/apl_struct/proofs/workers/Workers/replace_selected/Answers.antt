@@ -27,6 +27,17 @@ selected_walk-requires-clause-some g c =
 pub selected_walk-requires-clause-most : goal.selected_walk-requires-clause-most
 selected_walk-requires-clause-most g c = omega (arith, c.count-count.ensures.lawful.count, ap count_of c.requires.selection.shape_is)
 
+pub replace_walk-requires-clause-some : goal.replace_walk-requires-clause-some
+replace_walk-requires-clause-some g c κs lives =
+    let a = c.args.a.now in
+    let slots : Slots = map option_copied c.args.slots.now in
+    let shape_is = c.requires.selection.shape_is in
+    let selected : IsSelection a slots c.args.origin (selected_shape a.shape slots) = rw shape_is at c.requires.selection in
+    let some : 0 < count_of (selected_shape a.shape slots) = omega (arith, ap count_of shape_is) in
+    let below = place_within c.args.origin c.places_match_index_lists.ensures.below a slots selected c.are_arrays.ensures some 0 in
+    let copied : c.in_ok-shape.shape ≡ a.shape = search rules in
+    omega (arith, below, ap count_of copied)
+
 pub replace_walk-requires-clause-within : goal.replace_walk-requires-clause-within
 replace_walk-requires-clause-within g c κs lives = λ place inside.
     let a = c.args.a.now in
