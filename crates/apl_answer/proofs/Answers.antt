@@ -12,7 +12,7 @@ use Rattle.apl_array.specs.Limits.{IsWithinLimits}
 use Rattle.apl_pool.specs.declared.kernel.Fault.{Fault}
 use Rattle.apl_pool.specs.declared.kernel.Fault.TheVariants.{Domain, Limit, Index}
 use Rattle.apl_answer.specs.Faults.{op_fault_of}
-use Rattle.apl_answer.specs.Pointwise.{IsArrayOf, IsLeastFaultOf, index_lists, all_or_first, shaped, answer_of}
+use Rattle.apl_answer.specs.Pointwise.{IsArrayOf, IsLeastFaultOf, index_lists, collect_outcomes, shaped, answer_of}
 use Rattle.apl_answer.proofs.Gathering.{AreElements, all_from_each, each_from_all, first_from_least, least_from_first}
 use Rattle.apl_answer.proofs.Places.{length-outcomes, get_or-outcomes}
 
@@ -83,7 +83,7 @@ module _ (places : PlacesLaw) (shape : List ℕ) (outcome : List ℕ → Result 
   array_from_answer : (kind : Kind) (a : ArrayValue) → answer_of shape outcome kind ≡ Ok a → IsArrayOf shape outcome kind a
   unfolding outcomes
   array_from_answer kind a is =
-      let parts = shaped_elements shape kind (all_or_first outcomes) a is in
+      let parts = shaped_elements shape kind (collect_outcomes outcomes) a is in
       let P : ArrayValue → Type 0 = λ b. IsArrayOf shape outcome kind b in
       subst P (sym parts.2) (array_each kind parts.0 (each_from_all d e outcomes parts.0 parts.1))
 
@@ -91,7 +91,7 @@ module _ (places : PlacesLaw) (shape : List ℕ) (outcome : List ℕ → Result 
   unfolding outcomes made d
   answer_from_array kind a lawful all =
       let counts : length a.ravel ≡ count_of shape = lawful.len ∙ ap count_of all.shape_is in
-      let gathered : all_or_first outcomes ≡ Ok a.ravel =
+      let gathered : collect_outcomes outcomes ≡ Ok a.ravel =
       all_from_each d e outcomes a.ravel record {
         len = counts ∙ sym len;
         each = λ place inside.
@@ -106,7 +106,7 @@ module _ (places : PlacesLaw) (shape : List ℕ) (outcome : List ℕ → Result 
   fault_from_answer : (kind : Kind) (fault : Fault) → answer_of shape outcome kind ≡ Err (op_fault_of fault) → IsLeastFaultOf shape outcome fault
   unfolding outcomes
   fault_from_answer kind fault is =
-      let first = least_from_first d e outcomes fault (shaped_fault shape kind (all_or_first outcomes) fault is) in
+      let first = least_from_first d e outcomes fault (shaped_fault shape kind (collect_outcomes outcomes) fault is) in
       let below : first.place < count_of shape = omega (arith, first.below, len) in
       record {
         index = index_at shape first.place;
@@ -122,7 +122,7 @@ module _ (places : PlacesLaw) (shape : List ℕ) (outcome : List ℕ → Result 
   answer_from_fault kind fault least =
       let place = place_of shape least.index in
       let below : place < count_of shape = places.below shape least.index least.lawful in
-      let first : all_or_first outcomes ≡ Err fault =
+      let first : collect_outcomes outcomes ≡ Err fault =
       first_from_least d e outcomes fault place (omega (arith, below, len)) (at_index least.index least.lawful ∙ least.faulty)
       (λ k before.
       let inside : k < count_of shape = omega (arith, before, below) in
@@ -142,7 +142,7 @@ module _ (places : PlacesLaw) (shape : List ℕ) (outcome : List ℕ → Result 
       → answer_of shape outcome kind ≡ Ok a → HasNumbersInRange a
   unfolding outcomes made d
   in_range_from_answer kind a each is =
-      let parts = shaped_elements shape kind (all_or_first outcomes) a is in
+      let parts = shaped_elements shape kind (collect_outcomes outcomes) a is in
       let xs = parts.0 in
       let all = each_from_all d e outcomes xs parts.1 in
       let P : ArrayValue → Type 0 = λ b. HasNumbersInRange b in
@@ -158,7 +158,7 @@ module _ (places : PlacesLaw) (shape : List ℕ) (outcome : List ℕ → Result 
       → ((index : List ℕ) → IsIndexOf shape index → IfOk (outcome index) IsElementInRange) → answer_of shape outcome kind ≡ Ok a → IsWithinLimits a
   unfolding outcomes made
   within_limits_from_answer kind a lawful each is =
-      let parts = shaped_elements shape kind (all_or_first outcomes) a is in
+      let parts = shaped_elements shape kind (collect_outcomes outcomes) a is in
       let all = each_from_all d e outcomes parts.0 parts.1 in
       let P : ArrayValue → Type 0 = λ b. IsWithinLimits b in
       let Q : ArrayValue → Type 0 = λ b. HasNumbersInRange b in

@@ -13,7 +13,7 @@ use Rattle.apl_pool.specs.declared.kernel.Stop.{Stop}
 use Rattle.apl_pool.specs.declared.kernel.Stop.TheVariants.{Fault as FaultAt, Memory}
 use Rattle.apl_pool.specs.Pool.{AreValues, IsStopOf}
 use Rattle.apl_answer.specs.Faults.{op_fault_of_stop}
-use Rattle.apl_answer.specs.Pointwise.{index_lists, all_or_first, shaped, answer_of, IsAnswerOf}
+use Rattle.apl_answer.specs.Pointwise.{index_lists, collect_outcomes, shaped, answer_of, IsAnswerOf}
 use Rattle.apl_answer.specs.Elements.{array_with, element_outcome, HaveOutcomes}
 use Rattle.apl_answer.proofs.Gathering.{all_from_each, first_from_least}
 
@@ -49,7 +49,7 @@ module _ {T : Type 0} (elem_of : T → Elem) where
     answer_from_values values all =
         let e : Result Elem Fault = Ok (Int (pos 0)) in
         let len : length (map outcome (index_lists shape)) ≡ count_of shape = length-outcomes shape outcome in
-        let gathered : all_or_first (map outcome (index_lists shape)) ≡ Ok (map elem_of values) =
+        let gathered : collect_outcomes (map outcome (index_lists shape)) ≡ Ok (map elem_of values) =
         all_from_each (Int (pos 0)) e (map outcome (index_lists shape)) (map elem_of values) record {
           len = length-map values elem_of ∙ all.len ∙ sym len;
           each = λ place inside.
@@ -70,7 +70,7 @@ module _ {T : Type 0} (elem_of : T → Elem) where
     answer_from_stop (FaultAt place fault) least =
         let e : Result Elem Fault = Ok (Int (pos 0)) in
         let len : length (map outcome (index_lists shape)) ≡ count_of shape = length-outcomes shape outcome in
-        let first : all_or_first (map outcome (index_lists shape)) ≡ Err fault =
+        let first : collect_outcomes (map outcome (index_lists shape)) ≡ Err fault =
         first_from_least (Int (pos 0)) e (map outcome (index_lists shape)) fault place (omega (arith, len, least.below))
         (get_or-outcomes shape outcome place e least.below ∙ sym (same place least.below) ∙ ap (element_outcome elem_of) least.faulty)
         (λ k before. earlier_ok k (omega (arith, before, least.below)) (least.earlier k before)) in

@@ -2,7 +2,7 @@
 use apl_array::{Array, Elem, Shape};
 
 /// An element of an array of one kind: a number or a character.
-pub trait Element: Copy {
+pub trait ElementType: Copy {
     ghost use Rattle.std.specs.Prelude.{◌≡◌, vec_len};
     ghost use Rattle.apl_array.specs.declared.array.Elem.{Elem};
     ghost use Rattle.apl_array.specs.declared.array.Kind.{Kind};
@@ -30,7 +30,7 @@ pub trait Element: Copy {
         ensures { result ≡ array_with elem_of kind shape values.items };
 }
 
-impl Element for i64 {
+impl ElementType for i64 {
     ghost use Rattle.std.specs.Prelude.{◌≡◌, vec_len};
     ghost use Rattle.apl_array.specs.Shape.{count_of};
     ghost use Rattle.apl_array.specs.Array.{number_array};
@@ -58,7 +58,7 @@ impl Element for i64 {
     }
 }
 
-impl Element for char {
+impl ElementType for char {
     ghost use Rattle.std.specs.Prelude.{◌≡◌, vec_len};
     ghost use Rattle.apl_array.specs.Shape.{count_of};
     ghost use Rattle.apl_array.specs.Array.{character_array};

@@ -7,7 +7,7 @@ ghost use Rattle.apl_pool.specs.Pool.{AreValues, IsStopOf};
 ghost use Rattle.apl_answer.specs.Elements.{HaveOutcomes};
 ghost use Rattle.apl_answer.specs.Pointwise.{answer_of, IsAnswerOf};
 
-use crate::element::Element;
+use crate::element::ElementType;
 use crate::fault::OpFault;
 use apl_array::{Array, Shape};
 use apl_pool::{Cut, Gate, Kernel, Pool, Stop};
@@ -24,7 +24,7 @@ pub fn fill_array<K: Kernel + Sync, R: Threads + Sync, C: Cut + Sync, G: Gate + 
     kernel: &K,
 ) -> Result<Array, OpFault>
 where
-    K::Out: Element + Send,
+    K::Out: ElementType + Send,
     requires { K.place_count kernel.now ≡ count_of shape }
     ensures { (outcome : List ℕ → Result Elem Fault) → HaveOutcomes K.Out.elem_of (K.outcome kernel.now) shape outcome
         → IsAnswerOf (answer_of shape outcome K.Out.kind) result }
@@ -34,7 +34,7 @@ where
 
 /// The array of this shape that a pool's values make in row order, or why there are none: the fault,
 /// or `Memory`.
-pub fn array_from_fill<T: Element>(
+pub fn array_from_fill<T: ElementType>(
     shape: Shape,
     filled: Result<Vec<T>, Stop>,
 ) -> Result<Array, OpFault>

@@ -14,7 +14,7 @@ mod laws;
 mod row_order;
 mod uniform;
 
-pub use element::Element;
+pub use element::ElementType;
 pub use fault::OpFault;
 pub use fill::{array_from_fill, fill_array};
 pub use laws::{answer_is_each_outcome, answer_is_in_range, answer_is_within_limits};

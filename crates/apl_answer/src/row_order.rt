@@ -8,7 +8,7 @@ ghost use Rattle.apl_pool.specs.declared.kernel.Fault.{Fault};
 ghost use Rattle.apl_pool.specs.declared.kernel.TheConstants.{MOST_PLACES};
 ghost use Rattle.apl_answer.specs.Pointwise.{answer_of, IsAnswerOf};
 
-use crate::element::Element;
+use crate::element::ElementType;
 use crate::fault::OpFault;
 use crate::fill::fill_array;
 use apl_array::{Array, Shape};
@@ -25,7 +25,7 @@ struct RowOrder<'a, T> {
     ghost most: { count ≤ MOST_PLACES },
 }
 
-impl<T: Element> Kernel for RowOrder<'_, T> {
+impl<T: ElementType> Kernel for RowOrder<'_, T> {
     ghost use Rattle.std.specs.Prelude.{Ok, slice_index_or};
 
     type Out = T;
@@ -47,7 +47,7 @@ impl<T: Element> Kernel for RowOrder<'_, T> {
     }
 }
 
-fn in_row_order<T: Element + Send + Sync, R: Threads + Sync, C: Cut + Sync, G: Gate + Sync>(
+fn in_row_order<T: ElementType + Send + Sync, R: Threads + Sync, C: Cut + Sync, G: Gate + Sync>(
     rt: &R,
     alloc: Global,
     pool: &Pool<C, G>,

@@ -9,7 +9,7 @@ use Rattle.apl_array.specs.Array.{number_array, character_array, element_at}
 use Rattle.apl_array.specs.Range.{in_range}
 use Rattle.apl_array.specs.Axes.{has_axis, axis_of}
 use Rattle.apl_array.specs.Valences.{has_monadic, has_dyadic}
-use Rattle.apl_array.specs.Transposition.{strides, inner_product, source_index, becoming, least, transposed_shape, source_strides}
+use Rattle.apl_array.specs.Transposition.{strides, inner_product, source_index, items_onto, least, transposed_shape, source_strides}
 
 -- ---- shapes, places and index lists
 
@@ -146,7 +146,7 @@ diagonal_strides = refl
 
 -- ---- the first and the last axis of three become the first
 
-lengths_that_become_the_first : becoming 0 (0 ∷ 1 ∷ 0 ∷ []) (2 ∷ 3 ∷ 2 ∷ []) ≡ 2 ∷ 2 ∷ []
+lengths_that_become_the_first : items_onto 0 (0 ∷ 1 ∷ 0 ∷ []) (2 ∷ 3 ∷ 2 ∷ []) ≡ 2 ∷ 2 ∷ []
 lengths_that_become_the_first = refl
 
 shape_of_three_axes : transposed_shape 2 (0 ∷ 1 ∷ 0 ∷ []) (2 ∷ 3 ∷ 2 ∷ []) ≡ 2 ∷ 3 ∷ []

@@ -8,8 +8,8 @@ use Rattle.std.proofs.lemmas.List.Sums.{get_or-le-sum_by}
 use Rattle.std.proofs.lemmas.List.FromFn.{length-map-range_with_len}
 use Rattle.std.proofs.Math.Nat.{mul-le-mul_left, mul-le-mul_right}
 use Rattle.apl_array.specs.Shape.{IsShape, count_of}
-use Rattle.apl_array.specs.Transposition.{inner_product, source_index, becoming, least, transposed_shape}
-use Rattle.apl_array.proofs.Transpositions.{weighted, weighted-becoming, becoming-has, AreAxesInto-transposed_shape}
+use Rattle.apl_array.specs.Transposition.{inner_product, source_index, items_onto, least, transposed_shape}
+use Rattle.apl_array.proofs.Transpositions.{weighted, weighted-items_onto, items_onto-has, AreAxesInto-transposed_shape}
 
 -- each axis below the rank is that of some source axis
 abbrev pub AreNamed : ℕ → List ℕ → Type 0
@@ -25,9 +25,9 @@ named rank axes all axis inside =
 
 -- an item that becomes a named axis
 named_item : (axes items : List ℕ) (axis : ℕ) → length axes ≡ length items → Named axis axes
-    → (i : ℕ) × (k : ℕ) × (i < length (becoming axis axes items)) × (k < length items) × (slice_index (becoming axis axes items) i ≡ slice_index items k)
+    → (i : ℕ) × (k : ℕ) × (i < length (items_onto axis axes items)) × (k < length items) × (slice_index (items_onto axis axes items) i ≡ slice_index items k)
 named_item axes items axis len (k, below, is) =
-    let (i, there, same) = becoming-has axes items k (omega (arith, len)) len in
+    let (i, there, same) = items_onto-has axes items k (omega (arith, len)) len in
     (i, k, rw is at there, omega (arith, len), rw is at same)
 
 -- ---- no more axes
@@ -54,13 +54,13 @@ rank-within rank axes below all =
     let ones_long : length ones ≡ length axes = length-map axes one in
     let index : List ℕ = replicate rank 1 in
     let long : length index ≡ rank = length-replicate rank 1 in
-    let counted = weighted-becoming axes ones index (λ k d inside. omega (arith, long, below k d inside)) in
-    let each : (axis : ℕ) → 0 ≤ axis → axis < 0 + rank → 1 ≤ sum (becoming axis axes ones) =
+    let counted = weighted-items_onto axes ones index (λ k d inside. omega (arith, long, below k d inside)) in
+    let each : (axis : ℕ) → 0 ≤ axis → axis < 0 + rank → 1 ≤ sum (items_onto axis axes ones) =
     λ axis from to.
     (let (i, k, there, here, is) = named_item axes ones axis (sym ones_long) (named rank axes all axis (omega (arith, to))) in
     let item : slice_index ones k ≡ 1 = get_or-map one axes k 0 0 (omega (arith, here, ones_long)) in
-    omega (arith, is, item, get_or-le-sum_by (λ n. n) (becoming axis axes ones) i 0 there)) in
-    omega (arith, counted, ones-within axes index (one-or-none rank), weighted-least rank 0 (λ axis. sum (becoming axis axes ones)) each)
+    omega (arith, is, item, get_or-le-sum_by (λ n. n) (items_onto axis axes ones) i 0 there)) in
+    omega (arith, counted, ones-within axes index (one-or-none rank), weighted-least rank 0 (λ axis. sum (items_onto axis axes ones)) each)
 
 -- ---- no more elements
 
@@ -98,26 +98,26 @@ product-within f g first (suc n) within =
     let rest = product-within f g (first + 1) n (λ axis from to. within axis (omega (arith, from)) (omega (arith, to))) in
     omega (arith, mul-le-mul_left (f first) rest, mul-le-mul_right (product g (first + 1) n) (within first (omega arith) (omega arith)))
 
-count-becoming : (axis a x : ℕ) (axes items : List ℕ)
-    → count_of (becoming axis (a ∷ axes) (x ∷ items)) ≡ (if a == axis then x else 1) * count_of (becoming axis axes items)
-count-becoming axis a x axes items = by_test (a == axis)
+count-items_onto : (axis a x : ℕ) (axes items : List ℕ)
+    → count_of (items_onto axis (a ∷ axes) (x ∷ items)) ≡ (if a == axis then x else 1) * count_of (items_onto axis axes items)
+count-items_onto axis a x axes items = by_test (a == axis)
   where
-    by_test : (b : Bool) → count_of (if b then x ∷ becoming axis axes items else becoming axis axes items) ≡ (if b then x else 1) * count_of (becoming axis axes items)
+    by_test : (b : Bool) → count_of (if b then x ∷ items_onto axis axes items else items_onto axis axes items) ≡ (if b then x else 1) * count_of (items_onto axis axes items)
     by_test true = refl
     by_test false = omega arith
 
 -- the items of the source's axes, multiplied by the axes that they become
-product-becoming : (axes items : List ℕ) (rank : ℕ) → length axes ≡ length items → All (λ axis. axis < rank) axes
-    → count_of items ≡ product (λ axis. count_of (becoming axis axes items)) 0 rank
-product-becoming [] [] rank len below = sym (product-ones (λ axis. 1) 0 rank (λ axis from. refl))
-product-becoming [] (x ∷ items) rank len below = absurd (omega (arith, len))
-product-becoming (a ∷ axes) [] rank len below = absurd (omega (arith, len))
-product-becoming (a ∷ axes) (x ∷ items) rank len below =
-    let rest = product-becoming axes items rank (omega (arith, len)) (λ k d inside. below (suc k) d (omega arith)) in
+product-items_onto : (axes items : List ℕ) (rank : ℕ) → length axes ≡ length items → All (λ axis. axis < rank) axes
+    → count_of items ≡ product (λ axis. count_of (items_onto axis axes items)) 0 rank
+product-items_onto [] [] rank len below = sym (product-ones (λ axis. 1) 0 rank (λ axis from. refl))
+product-items_onto [] (x ∷ items) rank len below = absurd (omega (arith, len))
+product-items_onto (a ∷ axes) [] rank len below = absurd (omega (arith, len))
+product-items_onto (a ∷ axes) (x ∷ items) rank len below =
+    let rest = product-items_onto axes items rank (omega (arith, len)) (λ k d inside. below (suc k) d (omega arith)) in
     let here = product-one 0 a a x rank (omega arith) (below 0 0 (omega arith)) in
-    let both = product-times (λ axis. if a == axis then x else 1) (λ axis. count_of (becoming axis axes items)) (λ axis. count_of (becoming axis (a ∷ axes) (x ∷ items))) 0 rank
-    (λ axis. count-becoming axis a x axes items) in
-    sym (both ∙ ap (λ w. w * product (λ axis. count_of (becoming axis axes items)) 0 rank) here ∙ ap (λ w. x * w) (sym rest))
+    let both = product-times (λ axis. if a == axis then x else 1) (λ axis. count_of (items_onto axis axes items)) (λ axis. count_of (items_onto axis (a ∷ axes) (x ∷ items))) 0 rank
+    (λ axis. count-items_onto axis a x axes items) in
+    sym (both ∙ ap (λ w. w * product (λ axis. count_of (items_onto axis axes items)) 0 rank) here ∙ ap (λ w. x * w) (sym rest))
 
 least-count : (ns : List ℕ) → 0 < length ns → least ns ≤ count_of ns
 least-count [] some = absurd (omega arith)
@@ -128,17 +128,17 @@ least-count (suc n ∷ m ∷ ns) some = omega (arith, least-count (m ∷ ns) (om
 pub count_of-transposed_shape : (source axes : List ℕ) (rank : ℕ) → length axes ≡ length source → All (λ axis. axis < rank) axes → AreNamed rank axes
     → count_of (transposed_shape rank axes source) ≤ count_of source
 count_of-transposed_shape source axes rank len below all =
-    let all_of = product-becoming axes source rank len below in
-    let each = product-within (λ axis. least (becoming axis axes source)) (λ axis. count_of (becoming axis axes source)) 0 rank
+    let all_of = product-items_onto axes source rank len below in
+    let each = product-within (λ axis. least (items_onto axis axes source)) (λ axis. count_of (items_onto axis axes source)) 0 rank
     (λ axis from to.
     (let (i, k, there, here, is) = named_item axes source axis len (named rank axes all axis (omega (arith, to))) in
-    least-count (becoming axis axes source) (omega (arith, there)))) in
+    least-count (items_onto axis axes source) (omega (arith, there)))) in
     omega (arith, all_of, each)
 
 pub IsShape-transposed_shape : (source axes : List ℕ) (rank : ℕ) → IsShape source → length axes ≡ length source → All (λ axis. axis < rank) axes → AreNamed rank axes
     → IsShape (transposed_shape rank axes source)
 IsShape-transposed_shape source axes rank shape len below all =
-    let shortest : ℕ → ℕ = λ axis. least (becoming axis axes source) in
+    let shortest : ℕ → ℕ = λ axis. least (items_onto axis axes source) in
     let long : length (transposed_shape rank axes source) ≡ rank = length-map-range_with_len shortest 0 rank in
     let into = AreAxesInto-transposed_shape source axes rank len below in
     record {

@@ -7,7 +7,7 @@ use Rattle.std.proofs.lemmas.List.{get_or-map, get_or-reverse, length-map, lengt
 use Rattle.std.proofs.lemmas.List.Sums.{sum_by-cons}
 use Rattle.std.proofs.lemmas.List.FromFn.{length-range_with_len, get_or-range_with_len, length-map-range_with_len, get_or-map-range_with_len}
 use Rattle.apl_array.specs.Shape.{IsIndexOf, count_of, place_of}
-use Rattle.apl_array.specs.Transposition.{strides, inner_product, source_index, becoming, least, transposed_shape, source_strides, AreAxesInto}
+use Rattle.apl_array.specs.Transposition.{strides, inner_product, source_index, items_onto, least, transposed_shape, source_strides, AreAxesInto}
 
 pub place_of-strides : (shape index : List ℕ) → place_of shape index ≡ inner_product index (strides shape)
 place_of-strides [] [] = refl
@@ -77,31 +77,31 @@ weighted_one (i ∷ is) first (suc k) one stride at inside =
     let rest = weighted_one is (first + 1) k one stride (omega (arith, at)) (omega arith) in
     omega (arith, rest, ap (λ w. i * w) here)
 
-sum-becoming : (axis a x : ℕ) (axes items : List ℕ)
-    → sum (becoming axis (a ∷ axes) (x ∷ items)) ≡ (if a == axis then x else 0) + sum (becoming axis axes items)
-sum-becoming axis a x axes items = by_test (a == axis)
+sum-items_onto : (axis a x : ℕ) (axes items : List ℕ)
+    → sum (items_onto axis (a ∷ axes) (x ∷ items)) ≡ (if a == axis then x else 0) + sum (items_onto axis axes items)
+sum-items_onto axis a x axes items = by_test (a == axis)
   where
-    by_test : (b : Bool) → sum (if b then x ∷ becoming axis axes items else becoming axis axes items) ≡ (if b then x else 0) + sum (becoming axis axes items)
-    by_test true = sum_by-cons (λ n. n) x (becoming axis axes items)
+    by_test : (b : Bool) → sum (if b then x ∷ items_onto axis axes items else items_onto axis axes items) ≡ (if b then x else 0) + sum (items_onto axis axes items)
+    by_test true = sum_by-cons (λ n. n) x (items_onto axis axes items)
     by_test false = omega arith
 
 -- the items of the source's axes, summed by the axes that they become
-pub weighted-becoming : (axes items index : List ℕ) → All (λ axis. axis < length index) axes
-    → inner_product (source_index axes index) items ≡ weighted index 0 (λ axis. sum (becoming axis axes items))
-weighted-becoming [] items index below = sym (weighted_zero index 0 (λ axis. 0) (λ axis from. refl))
-weighted-becoming (a ∷ axes) [] index below = sym (weighted_zero index 0 (λ axis. 0) (λ axis from. refl))
-weighted-becoming (a ∷ axes) (x ∷ items) index below =
-    let rest = weighted-becoming axes items index (λ k d inside. below (suc k) d (omega arith)) in
+pub weighted-items_onto : (axes items index : List ℕ) → All (λ axis. axis < length index) axes
+    → inner_product (source_index axes index) items ≡ weighted index 0 (λ axis. sum (items_onto axis axes items))
+weighted-items_onto [] items index below = sym (weighted_zero index 0 (λ axis. 0) (λ axis from. refl))
+weighted-items_onto (a ∷ axes) [] index below = sym (weighted_zero index 0 (λ axis. 0) (λ axis from. refl))
+weighted-items_onto (a ∷ axes) (x ∷ items) index below =
+    let rest = weighted-items_onto axes items index (λ k d inside. below (suc k) d (omega arith)) in
     let here = weighted_one index 0 a a x (omega arith) (below 0 0 (omega arith)) in
-    let both = weighted_sum index 0 (λ axis. if a == axis then x else 0) (λ axis. sum (becoming axis axes items)) (λ axis. sum (becoming axis (a ∷ axes) (x ∷ items)))
-    (λ axis. sum-becoming axis a x axes items) in
+    let both = weighted_sum index 0 (λ axis. if a == axis then x else 0) (λ axis. sum (items_onto axis axes items)) (λ axis. sum (items_onto axis (a ∷ axes) (x ∷ items)))
+    (λ axis. sum-items_onto axis a x axes items) in
     omega (arith, rest, here, both)
 
 -- the place in the source, counted in steps along the result's axes
 pub place_of-source_index : (source axes index : List ℕ) → All (λ axis. axis < length index) axes
     → place_of source (source_index axes index) ≡ inner_product index (source_strides (length index) axes source)
 place_of-source_index source axes index below =
-    place_of-strides source (source_index axes index) ∙ weighted-becoming axes (strides source) index below
+    place_of-strides source (source_index axes index) ∙ weighted-items_onto axes (strides source) index below
 
 pub IsIndexOf-source_index : (source axes result index : List ℕ) → AreAxesInto source axes result → IsIndexOf result index
     → IsIndexOf source (source_index axes index)
@@ -123,16 +123,16 @@ least-bound (n ∷ m ∷ ns) zero inside = omega arith
 least-bound (n ∷ m ∷ ns) (suc i) inside = omega (arith, least-bound (m ∷ ns) i (omega arith))
 
 -- each item is among those of the axis that it becomes
-pub becoming-has : (axes items : List ℕ) (k : ℕ) → k < length items → length axes ≡ length items
-    → (i : ℕ) × (i < length (becoming (slice_index axes k) axes items)) × (slice_index (becoming (slice_index axes k) axes items) i ≡ slice_index items k)
-becoming-has axes [] k inside len = absurd (omega arith)
-becoming-has [] (x ∷ items) k inside len = absurd (omega (arith, len))
-becoming-has (a ∷ axes) (x ∷ items) zero inside len =
+pub items_onto-has : (axes items : List ℕ) (k : ℕ) → k < length items → length axes ≡ length items
+    → (i : ℕ) × (i < length (items_onto (slice_index axes k) axes items)) × (slice_index (items_onto (slice_index axes k) axes items) i ≡ slice_index items k)
+items_onto-has axes [] k inside len = absurd (omega arith)
+items_onto-has [] (x ∷ items) k inside len = absurd (omega (arith, len))
+items_onto-has (a ∷ axes) (x ∷ items) zero inside len =
     rw (eq-eqb a a refl) (0, omega arith, refl)
-becoming-has (a ∷ axes) (x ∷ items) (suc k) inside len = by_test (a == slice_index axes k) (becoming-has axes items k (omega arith) (omega (arith, len)))
+items_onto-has (a ∷ axes) (x ∷ items) (suc k) inside len = by_test (a == slice_index axes k) (items_onto-has axes items k (omega arith) (omega (arith, len)))
   where
     rest : List ℕ
-    rest = becoming (slice_index axes k) axes items
+    rest = items_onto (slice_index axes k) axes items
 
     by_test : (b : Bool) → ((i : ℕ) × (i < length rest) × (slice_index rest i ≡ slice_index items k))
         → (i : ℕ) × (i < length (if b then x ∷ rest else rest)) × (slice_index (if b then x ∷ rest else rest) i ≡ slice_index items k)
@@ -142,15 +142,15 @@ becoming-has (a ∷ axes) (x ∷ items) (suc k) inside len = by_test (a == slice
 pub AreAxesInto-transposed_shape : (source axes : List ℕ) (rank : ℕ) → length axes ≡ length source → All (λ axis. axis < rank) axes
     → AreAxesInto source axes (transposed_shape rank axes source)
 AreAxesInto-transposed_shape source axes rank len below =
-    let shortest : ℕ → ℕ = λ axis. least (becoming axis axes source) in
+    let shortest : ℕ → ℕ = λ axis. least (items_onto axis axes source) in
     record {
       len = len;
       below = λ k inside. omega (arith, below k 0 (omega (arith, len)), length-map-range_with_len shortest 0 rank);
       fits = λ k inside.
           let axis = slice_index axes k in
-          let (i, there, is) = becoming-has axes source k inside len in
+          let (i, there, is) = items_onto-has axes source k inside len in
           let long : slice_index (transposed_shape rank axes source) axis ≡ shortest axis = get_or-map-range_with_len shortest 0 rank axis axis 0 (below k 0 (omega (arith, len))) (omega arith) in
-          omega (arith, long, least-bound (becoming axis axes source) i there, is);
+          omega (arith, long, least-bound (items_onto axis axes source) i there, is);
     }
 
 -- ---- an index list in reverse order is that of the axes in reverse order

@@ -19,10 +19,10 @@ abbrev pub source_index : List ℕ → List ℕ → List ℕ
 source_index axes index = map (slice_index index) axes
 
 -- of a list with an item for each source axis, the items of those that become this axis
-abbrev pub becoming : ℕ → List ℕ → List ℕ → List ℕ
-becoming axis [] items = []
-becoming axis (a ∷ axes) [] = []
-becoming axis (a ∷ axes) (x ∷ items) = if a == axis then x ∷ becoming axis axes items else becoming axis axes items
+abbrev pub items_onto : ℕ → List ℕ → List ℕ → List ℕ
+items_onto axis [] items = []
+items_onto axis (a ∷ axes) [] = []
+items_onto axis (a ∷ axes) (x ∷ items) = if a == axis then x ∷ items_onto axis axes items else items_onto axis axes items
 
 -- the least of some numbers, and 0 of none
 abbrev pub least : List ℕ → ℕ
@@ -32,11 +32,11 @@ least (n ∷ m ∷ ns) = min n (least (m ∷ ns))
 
 -- the shape of the result: each of its axes is as long as the shortest of those that become it
 abbrev pub transposed_shape : ℕ → List ℕ → List ℕ → List ℕ
-transposed_shape rank axes source = map (λ axis. least (becoming axis axes source)) (range_with_len 0 rank)
+transposed_shape rank axes source = map (λ axis. least (items_onto axis axes source)) (range_with_len 0 rank)
 
 -- how far a step along each axis of the result moves the place in the source: as a step along each axis that becomes it
 abbrev pub source_strides : ℕ → List ℕ → List ℕ → List ℕ
-source_strides rank axes source = map (λ axis. sum (becoming axis axes (strides source))) (range_with_len 0 rank)
+source_strides rank axes source = map (λ axis. sum (items_onto axis axes (strides source))) (range_with_len 0 rank)
 
 -- each axis of the source becomes an axis of the result, which is no longer
 pub record AreAxesInto (source axes result : List ℕ) : Type 0 where

@@ -37,7 +37,7 @@ pub enum Axis {
 impl Axis {
     /// The axis that it names among `rank` axes, counted from 0, if there is such an axis. The first
     /// and the last axis of a scalar are 0, though it has no lengths.
-    pub fn among(self, rank: usize) -> Option<usize>
+    pub fn resolve(self, rank: usize) -> Option<usize>
         ensures { MatchOption result (has_axis self rank ≡ false) (λ k. (has_axis self rank ≡ true) × (k ≡ axis_of self rank) × ((k < rank) ⊎ (rank ≡ 0))) }
     {
         match self {

@@ -30,7 +30,7 @@ use Rattle.apl_struct.specs.Axes.{axis_number_of}
 use Rattle.apl_struct.specs.Building.{shape_of_row, reshape_row, ravel_row, iota_row}
 use Rattle.apl_struct.specs.Joining.{catenate_row}
 use Rattle.apl_struct.specs.Taking.{take_row, drop_row}
-use Rattle.apl_struct.specs.Moving.{reverse_row, rotate_row, transpose_row, transpose_by_row}
+use Rattle.apl_struct.specs.Rearranging.{reverse_row, rotate_row, transpose_row, transpose_by_row}
 use Rattle.apl_struct.specs.Compressing.{replicate_row, expand_row}
 use Rattle.apl_struct.specs.Indexing.{select_row, replace_row}
 use Rattle.apl_reduce.specs.Reducing.{reduce_row}

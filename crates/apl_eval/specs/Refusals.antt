@@ -5,15 +5,15 @@ use Rattle.apl_answer.specs.declared.fault.OpFault.{OpFault}
 use Rattle.apl_answer.specs.declared.fault.OpFault.TheVariants as fault
 use Rattle.apl_eval.specs.declared.error.EvalError.{EvalError}
 use Rattle.apl_eval.specs.Functions.{error_of}
-use Rattle.apl_eval.specs.declared.functions.Refusal.{Refusal}
-use Rattle.apl_eval.specs.declared.functions.Refusal.TheVariants.{Error, Memory}
+use Rattle.apl_eval.specs.declared.functions.FunctionRefusal.{FunctionRefusal}
+use Rattle.apl_eval.specs.declared.functions.FunctionRefusal.TheVariants.{Error, Memory}
 
-abbrev pub refusal_of : OpFault → Refusal
+abbrev pub refusal_of : OpFault → FunctionRefusal
 refusal_of fault.Memory = Memory
 refusal_of f = Error (error_of f)
 
 -- the same value, or the same error; `Memory` is no error of a function
-abbrev pub Answers : Result ArrayValue EvalError → Result ArrayValue Refusal → Type 0
+abbrev pub Answers : Result ArrayValue EvalError → Result ArrayValue FunctionRefusal → Type 0
 Answers wanted (Ok array) = wanted ≡ Ok array
 Answers wanted (Err (Error error)) = wanted ≡ Err error
 Answers wanted (Err Memory) = Unit {0}

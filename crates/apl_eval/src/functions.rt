@@ -23,25 +23,25 @@ use std::thread::Threads;
 
 /// Why a function has no value.
 #[derive(Drop)]
-pub(crate) enum Refusal {
+pub(crate) enum FunctionRefusal {
     Error(EvalError),
     Memory,
 }
 
-impl From<OpFault> for Refusal {
+impl From<OpFault> for FunctionRefusal {
     ghost use Rattle.std.specs.Prelude.{◌≡◌};
     ghost use Rattle.apl_eval.specs.Refusals.{refusal_of};
 
     ghost from_gives = { λ fault r. r ≡ refusal_of fault };
 
-    fn from(fault: OpFault) -> Refusal {
+    fn from(fault: OpFault) -> FunctionRefusal {
         match fault {
-            OpFault::Rank => Refusal::Error(EvalError::Rank),
-            OpFault::Length => Refusal::Error(EvalError::Length),
-            OpFault::Index => Refusal::Error(EvalError::Index),
-            OpFault::Domain => Refusal::Error(EvalError::Domain),
-            OpFault::Limit => Refusal::Error(EvalError::Limit),
-            OpFault::Memory => Refusal::Memory,
+            OpFault::Rank => FunctionRefusal::Error(EvalError::Rank),
+            OpFault::Length => FunctionRefusal::Error(EvalError::Length),
+            OpFault::Index => FunctionRefusal::Error(EvalError::Index),
+            OpFault::Domain => FunctionRefusal::Error(EvalError::Domain),
+            OpFault::Limit => FunctionRefusal::Error(EvalError::Limit),
+            OpFault::Memory => FunctionRefusal::Memory,
         }
     }
 }
@@ -67,12 +67,12 @@ pub(crate) fn dyadic_column(form: &DyadicForm) -> usize
 }
 
 /// What a function answered, its fault as an error.
-fn result_of(answer: Result<Array, OpFault>) -> Result<Array, Refusal>
+fn result_of(answer: Result<Array, OpFault>) -> Result<Array, FunctionRefusal>
     ensures { (wanted : Result ArrayValue OpFault) → IsAnswerOf wanted answer → Answers (result_of wanted) result }
 {
     match answer {
         Ok(array) => Ok(array),
-        Err(fault) => Err(Refusal::from(fault)),
+        Err(fault) => Err(FunctionRefusal::from(fault)),
     }
 }
 
@@ -129,7 +129,7 @@ impl<'a, R: Threads + Sync, C: Cut + Sync, G: Gate + Sync> Context<'a, R, C, G> 
     }
 
     /// A function of one array that takes no axis.
-    fn monadic_plain(&self, function: &MonadicFunction, b: &Array) -> Result<Array, Refusal>
+    fn monadic_plain(&self, function: &MonadicFunction, b: &Array) -> Result<Array, FunctionRefusal>
         ensures { Answers (monadic_plain self.now.workspace.now.origin function.now b.now) result }
     {
         let (rt, alloc, pool) = (self.rt, self.alloc, self.pool);
@@ -151,7 +151,7 @@ impl<'a, R: Threads + Sync, C: Cut + Sync, G: Gate + Sync> Context<'a, R, C, G> 
     }
 
     /// The reversal of an array along an axis.
-    fn reversed_along(&self, axis: Axis, b: &Array) -> Result<Array, Refusal>
+    fn reversed_along(&self, axis: Axis, b: &Array) -> Result<Array, FunctionRefusal>
         ensures { Answers (reversed_along axis b.now) result }
     {
         result_of(apl_struct::reverse(self.rt, self.alloc, self.pool, b, axis))
@@ -164,7 +164,7 @@ impl<'a, R: Threads + Sync, C: Cut + Sync, G: Gate + Sync> Context<'a, R, C, G> 
         function: &DyadicScalar,
         axis: Axis,
         b: &Array,
-    ) -> Result<Array, Refusal>
+    ) -> Result<Array, FunctionRefusal>
         ensures { Answers (reduced_along operator function.now axis b.now) result }
     {
         let (rt, alloc, pool) = (self.rt, self.alloc, self.pool);
@@ -181,7 +181,7 @@ impl<'a, R: Threads + Sync, C: Cut + Sync, G: Gate + Sync> Context<'a, R, C, G> 
         function: &DyadicFunction,
         a: &Array,
         b: &Array,
-    ) -> Result<Array, Refusal>
+    ) -> Result<Array, FunctionRefusal>
         ensures { Answers (dyadic_plain self.now.workspace.now.origin function.now a.now b.now) result }
     {
         let (rt, alloc, pool) = (self.rt, self.alloc, self.pool);
@@ -213,7 +213,7 @@ impl<'a, R: Threads + Sync, C: Cut + Sync, G: Gate + Sync> Context<'a, R, C, G> 
         axis: Axis,
         a: &Array,
         b: &Array,
-    ) -> Result<Array, Refusal>
+    ) -> Result<Array, FunctionRefusal>
         ensures { Answers (dyadic_along function axis a.now b.now) result }
     {
         let (rt, alloc, pool) = (self.rt, self.alloc, self.pool);
@@ -230,7 +230,12 @@ impl<'a, R: Threads + Sync, C: Cut + Sync, G: Gate + Sync> Context<'a, R, C, G> 
     }
 
     /// The outer product of two arrays.
-    fn outer_by(&self, function: &DyadicScalar, a: &Array, b: &Array) -> Result<Array, Refusal>
+    fn outer_by(
+        &self,
+        function: &DyadicScalar,
+        a: &Array,
+        b: &Array,
+    ) -> Result<Array, FunctionRefusal>
         ensures { Answers (result_by (outer_row function.now a.now b.now)) result }
     {
         let f = function.function();
@@ -244,7 +249,7 @@ impl<'a, R: Threads + Sync, C: Cut + Sync, G: Gate + Sync> Context<'a, R, C, G> 
         right: &DyadicScalar,
         a: &Array,
         b: &Array,
-    ) -> Result<Array, Refusal>
+    ) -> Result<Array, FunctionRefusal>
         ensures { Answers (result_by (inner_row left.now right.now a.now b.now)) result }
     {
         let f = left.function();
@@ -259,7 +264,7 @@ impl<'a, R: Threads + Sync, C: Cut + Sync, G: Gate + Sync> Context<'a, R, C, G> 
         form: &MonadicForm,
         axis: Option<&Array>,
         right: &Array,
-    ) -> Result<Array, Refusal>
+    ) -> Result<Array, FunctionRefusal>
         ensures { Answers (monadic_result self.now.workspace.now.origin form.now (option_copied axis.entry) right.now) result }
     {
         match (form, axis) {
@@ -301,7 +306,7 @@ impl<'a, R: Threads + Sync, C: Cut + Sync, G: Gate + Sync> Context<'a, R, C, G> 
         axis: Option<&Array>,
         left: &Array,
         right: &Array,
-    ) -> Result<Array, Refusal>
+    ) -> Result<Array, FunctionRefusal>
         ensures { Answers (dyadic_result self.now.workspace.now.origin form.now (option_copied axis.entry) left.now right.now) result }
     {
         match (form, axis) {
@@ -327,7 +332,11 @@ impl<'a, R: Threads + Sync, C: Cut + Sync, G: Gate + Sync> Context<'a, R, C, G> 
 
     /// The elements of an array that the slots choose.
     #[tactic(auto, unfolding(crate::specs::Functions::index_result))]
-    pub(crate) fn index(&self, array: &Array, slots: &[Option<&Array>]) -> Result<Array, Refusal>
+    pub(crate) fn index(
+        &self,
+        array: &Array,
+        slots: &[Option<&Array>],
+    ) -> Result<Array, FunctionRefusal>
         ensures { Answers (index_result self.now.workspace.now.origin array.now (map option_copied slots.now)) result }
     {
         let (rt, alloc, pool) = (self.rt, self.alloc, self.pool);
@@ -342,7 +351,7 @@ impl<'a, R: Threads + Sync, C: Cut + Sync, G: Gate + Sync> Context<'a, R, C, G> 
         array: Option<&Array>,
         slots: &[Option<&Array>],
         value: &Array,
-    ) -> Result<Array, Refusal>
+    ) -> Result<Array, FunctionRefusal>
         ensures { Answers (assign_at_result self.now.workspace.now.origin (option_copied array.entry) (map option_copied slots.now) value.now) result }
     {
         let (rt, alloc, pool) = (self.rt, self.alloc, self.pool);
@@ -351,7 +360,7 @@ impl<'a, R: Threads + Sync, C: Cut + Sync, G: Gate + Sync> Context<'a, R, C, G> 
             Some(array) => result_of(apl_struct::replace(
                 rt, alloc, pool, array, slots, value, origin,
             )),
-            None => Err(Refusal::Error(EvalError::Value)),
+            None => Err(FunctionRefusal::Error(EvalError::Value)),
         }
     }
 }

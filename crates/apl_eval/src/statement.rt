@@ -13,7 +13,7 @@ ghost use Rattle.apl_eval.specs.Refusals.{Answers};
 ghost use Rattle.apl_eval.specs.Steps.{step, stuck, onto, staged_in, HasValue, HasValueAbove, HasAxisAbove, HasSlotsAbove, IsOutcome, IsState};
 
 use super::error::EvalError;
-use super::functions::{Context, Refusal, dyadic_column, monadic_column};
+use super::functions::{Context, FunctionRefusal, dyadic_column, monadic_column};
 use super::names::Names;
 use super::stack::{Stack, array_of};
 use super::workspace::Workspace;
@@ -117,14 +117,14 @@ fn name_value(
 fn outcome_at(
     alloc: Global,
     column: usize,
-    answer: Result<Array, Refusal>,
+    answer: Result<Array, FunctionRefusal>,
 ) -> Result<Rc<Array>, EvalStop>
     ensures { (wanted : Result ArrayValue EvalError) → (w : WorkspaceValue) → Answers wanted answer → IsOutcome (outcome_at column wanted w) w result }
 {
     match answer {
         Ok(value) => Ok(Rc::new(alloc, value)?),
-        Err(Refusal::Error(error)) => Err(EvalStop::Error { error, column }),
-        Err(Refusal::Memory) => Err(EvalStop::Memory),
+        Err(FunctionRefusal::Error(error)) => Err(EvalStop::Error { error, column }),
+        Err(FunctionRefusal::Memory) => Err(EvalStop::Memory),
     }
 }
 
@@ -229,11 +229,11 @@ fn apply_assign_at<R: Threads + Sync, C: Cut + Sync, G: Gate + Sync>(
             let changed = Rc::new(context.alloc, changed)?;
             Ok(staged.insert(context.alloc, name, changed)?)
         }
-        Err(Refusal::Error(error)) => Err(EvalStop::Error {
+        Err(FunctionRefusal::Error(error)) => Err(EvalStop::Error {
             error,
             column: assign_at_column(target, error),
         }),
-        Err(Refusal::Memory) => Err(EvalStop::Memory),
+        Err(FunctionRefusal::Memory) => Err(EvalStop::Memory),
     }
 }
 

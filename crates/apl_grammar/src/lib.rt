@@ -6,7 +6,7 @@
 
 mod forms;
 mod functions;
-mod places;
+mod partial_program;
 mod program;
 mod reader;
 mod statement;

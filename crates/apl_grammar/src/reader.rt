@@ -7,7 +7,7 @@ ghost use Rattle.apl_grammar.specs.declared.reader.State.TheVariants.{Expression
 
 use super::forms::{DyadicForm, DyadicFunction, DyadicScalar, MonadicForm};
 use super::functions::{dyadic_counterpart, dyadic_form, dyadic_scalar, monadic_form, reduced};
-use super::places::Places;
+use super::partial_program::PartialProgram;
 use super::program::{AxisBrackets, BoxedIndexedName, Brackets, Columns, IndexedName, Operation};
 use super::statement::GrammarStop;
 use apl_tokens::{Glyph, Name, Token, TokenKind};
@@ -104,30 +104,30 @@ pub(crate) enum Pending {
 
 /// Why a token is not taken.
 #[derive(Drop)]
-pub(crate) enum Refusal {
+pub(crate) enum TokenRefusal {
     Syntax,
     Memory,
 }
 
-impl From<AllocError> for Refusal {
+impl From<AllocError> for TokenRefusal {
     ghost use Rattle.std.specs.Prelude.{◌≡◌};
-    ghost use Rattle.apl_grammar.specs.declared.reader.Refusal.TheVariants.{Memory};
+    ghost use Rattle.apl_grammar.specs.declared.reader.TokenRefusal.TheVariants.{Memory};
 
     ghost from_gives = { λ _ e. e ≡ Memory };
 
-    fn from(_error: AllocError) -> Refusal {
-        Refusal::Memory
+    fn from(_error: AllocError) -> TokenRefusal {
+        TokenRefusal::Memory
     }
 }
 
-impl<T: Drop> From<AllocFailed<T>> for Refusal {
+impl<T: Drop> From<AllocFailed<T>> for TokenRefusal {
     ghost use Rattle.std.specs.Prelude.{◌≡◌};
-    ghost use Rattle.apl_grammar.specs.declared.reader.Refusal.TheVariants.{Memory};
+    ghost use Rattle.apl_grammar.specs.declared.reader.TokenRefusal.TheVariants.{Memory};
 
     ghost from_gives = { λ _ e. e ≡ Memory };
 
-    fn from(_error: AllocFailed<T>) -> Refusal {
-        Refusal::Memory
+    fn from(_error: AllocFailed<T>) -> TokenRefusal {
+        TokenRefusal::Memory
     }
 }
 
@@ -138,7 +138,7 @@ const SHORT: usize = 12;
 #[derive(Drop)]
 pub(crate) struct Reader {
     alloc: Global,
-    operations: Places,
+    operations: PartialProgram,
     stack: Vec<Pending>,
     state: State,
 }
@@ -150,7 +150,7 @@ impl Reader {
         ensures stack { IfOk result (λ r. stack_of r ≡ []) }
         ensures state { IfOk result (λ r. r.state ≡ OperandWanted) }
     {
-        let operations = Places::with_capacity(alloc, count)?;
+        let operations = PartialProgram::with_capacity(alloc, count)?;
         let stack = Vec::with_capacity(alloc, count.min(SHORT))?;
         Ok(Reader {
             alloc,
@@ -162,10 +162,10 @@ impl Reader {
 
     // Inlined, as others below, so that an operation is built where it is kept.
     #[inline]
-    fn emit(&mut self, operation: Operation) -> Result<(), Refusal>
+    fn emit(&mut self, operation: Operation) -> Result<(), TokenRefusal>
         ensures ok { OnOk result (self.new.operations ≡ self.old.operations ++ Some operation ∷ []) }
         ensures stack { self.new.stack ≡ self.old.stack }
-        ensures err { result ≡ Err Refusal.Syntax → ⊥ }
+        ensures err { result ≡ Err TokenRefusal.Syntax → ⊥ }
     {
         self.operations.push(operation)?;
         Ok(())
@@ -187,9 +187,9 @@ impl Reader {
     }
 
     /// The operations that waited for the operand which has just ended.
-    fn complete(&mut self) -> Result<(), Refusal>
+    fn complete(&mut self) -> Result<(), TokenRefusal>
         ensures ok { OnOk result (after_operand self.old.operations (stack_of self.old) ≡ machine_of self.new) }
-        ensures err { result ≡ Err Refusal.Syntax → ⊥ }
+        ensures err { result ≡ Err TokenRefusal.Syntax → ⊥ }
     {
         while let Some(waiting) = self.pop_operation() {
             self.emit(waiting)?;
@@ -199,13 +199,13 @@ impl Reader {
     }
 
     /// Makes the function of two arguments of the same symbol wait for its left argument.
-    fn push_dyadic(&mut self, function: MonadicForm, axis: AxisBrackets) -> Result<(), Refusal>
+    fn push_dyadic(&mut self, function: MonadicForm, axis: AxisBrackets) -> Result<(), TokenRefusal>
         ensures ok { OnOk result (with_dyadic function axis (stack_of self.old) ≡ Some (stack_of self.new)) }
-        ensures err { result ≡ Err Refusal.Syntax → with_dyadic function axis (stack_of self.old) ≡ None }
+        ensures err { result ≡ Err TokenRefusal.Syntax → with_dyadic function axis (stack_of self.old) ≡ None }
         ensures operations { self.new.operations ≡ self.old.operations }
     {
         let Some(function) = dyadic_counterpart(&function, axis.is_some()) else {
-            return Err(Refusal::Syntax);
+            return Err(TokenRefusal::Syntax);
         };
         self.stack
             .push(Pending::Operation(Operation::Dyadic(function, axis)))?;
@@ -213,21 +213,21 @@ impl Reader {
     }
 
     /// The function before the index is dyadic: it waits for its left argument.
-    fn push_undecided(&mut self, undecided: MaybeUndecided) -> Result<(), Refusal>
+    fn push_undecided(&mut self, undecided: MaybeUndecided) -> Result<(), TokenRefusal>
         ensures ok { OnOk result (option_and_then (λ p. with_dyadic p.function p.axis (stack_of self.old)) undecided ≡ Some (stack_of self.new)) }
-        ensures err { result ≡ Err Refusal.Syntax → option_and_then (λ p. with_dyadic p.function p.axis (stack_of self.old)) undecided ≡ None }
+        ensures err { result ≡ Err TokenRefusal.Syntax → option_and_then (λ p. with_dyadic p.function p.axis (stack_of self.old)) undecided ≡ None }
         ensures operations { self.new.operations ≡ self.old.operations }
     {
         match undecided.into_option() {
             Some(undecided) => self.push_dyadic(undecided.function, undecided.axis),
-            None => Err(Refusal::Syntax),
+            None => Err(TokenRefusal::Syntax),
         }
     }
 
     /// Makes an index of one slot wait for its array.
-    fn push_index(&mut self, brackets: Brackets) -> Result<(), Refusal>
+    fn push_index(&mut self, brackets: Brackets) -> Result<(), TokenRefusal>
         ensures ok { OnOk result (stack_of self.new ≡ with_index brackets (stack_of self.old)) }
-        ensures err { result ≡ Err Refusal.Syntax → ⊥ }
+        ensures err { result ≡ Err TokenRefusal.Syntax → ⊥ }
         ensures operations { self.new.operations ≡ self.old.operations }
     {
         let semicolons = Columns::new(self.alloc);
@@ -237,9 +237,9 @@ impl Reader {
     }
 
     /// An operand ends here: what wants it waits for it.
-    fn want_operand(&mut self, state: State) -> Result<(), Refusal>
+    fn want_operand(&mut self, state: State) -> Result<(), TokenRefusal>
         ensures ok { OnOk result (stack_for_operand state (stack_of self.old) ≡ Some (stack_of self.new)) }
-        ensures err { result ≡ Err Refusal.Syntax → stack_for_operand state (stack_of self.old) ≡ None }
+        ensures err { result ≡ Err TokenRefusal.Syntax → stack_for_operand state (stack_of self.old) ≡ None }
         ensures operations { self.new.operations ≡ self.old.operations }
     {
         match state {
@@ -249,23 +249,23 @@ impl Reader {
                 self.push_undecided(undecided)?;
                 self.push_index(brackets)
             }
-            _ => Err(Refusal::Syntax),
+            _ => Err(TokenRefusal::Syntax),
         }
     }
 
     #[inline(always)]
-    fn take_operand(&mut self, state: State, operand: Operation) -> Result<(), Refusal>
+    fn take_operand(&mut self, state: State, operand: Operation) -> Result<(), TokenRefusal>
         ensures ok { OnOk result (with_operand self.old.operations (stack_of self.old) state operand ≡ Some (machine_of self.new)) }
-        ensures err { result ≡ Err Refusal.Syntax → with_operand self.old.operations (stack_of self.old) state operand ≡ None }
+        ensures err { result ≡ Err TokenRefusal.Syntax → with_operand self.old.operations (stack_of self.old) state operand ≡ None }
     {
         self.want_operand(state)?;
         self.emit(operand)?;
         self.complete()
     }
 
-    fn take_name(&mut self, state: State, column: usize, name: Name) -> Result<(), Refusal>
+    fn take_name(&mut self, state: State, column: usize, name: Name) -> Result<(), TokenRefusal>
         ensures ok { OnOk result (with_name self.old.operations (stack_of self.old) state column name ≡ Some (machine_of self.new)) }
-        ensures err { result ≡ Err Refusal.Syntax → with_name self.old.operations (stack_of self.old) state column name ≡ None }
+        ensures err { result ≡ Err TokenRefusal.Syntax → with_name self.old.operations (stack_of self.old) state column name ≡ None }
     {
         match state {
             State::LeadingArrow(arrow) => self.emit(Operation::Assign(column, name, arrow))?,
@@ -286,15 +286,15 @@ impl Reader {
     }
 
     /// An expression ends here: a function that begins it is monadic.
-    fn end_expression(&mut self, state: State) -> Result<(), Refusal>
+    fn end_expression(&mut self, state: State) -> Result<(), TokenRefusal>
         ensures ok { OnOk result (expression_operations self.old.operations state ≡ Some self.new.operations) }
-        ensures err { result ≡ Err Refusal.Syntax → expression_operations self.old.operations state ≡ None }
+        ensures err { result ≡ Err TokenRefusal.Syntax → expression_operations self.old.operations state ≡ None }
         ensures stack { self.new.stack ≡ self.old.stack }
     {
         match state {
             State::Expression => Ok(()),
             State::LeadingFunction(function, axis) => self.emit(Operation::Monadic(function, axis)),
-            _ => Err(Refusal::Syntax),
+            _ => Err(TokenRefusal::Syntax),
         }
     }
 
@@ -304,16 +304,16 @@ impl Reader {
         column: usize,
         glyph: Glyph,
         axis: AxisBrackets,
-    ) -> Result<(), Refusal>
+    ) -> Result<(), TokenRefusal>
         ensures ok { OnOk result (with_leading_function column glyph axis self.old.operations (stack_of self.old) ≡ Some (machine_of self.new)) }
-        ensures err { result ≡ Err Refusal.Syntax → with_leading_function column glyph axis self.old.operations (stack_of self.old) ≡ None }
+        ensures err { result ≡ Err TokenRefusal.Syntax → with_leading_function column glyph axis self.old.operations (stack_of self.old) ≡ None }
     {
         if let Some(function) = monadic_form(column, glyph, axis.is_some()) {
             self.state = State::LeadingFunction(function, axis);
             return Ok(());
         }
         let Some(function) = dyadic_form(column, glyph, axis.is_some()) else {
-            return Err(Refusal::Syntax);
+            return Err(TokenRefusal::Syntax);
         };
         self.push_pending(Pending::Operation(Operation::Dyadic(function, axis)))
     }
@@ -331,9 +331,9 @@ impl Reader {
 
     /// Pushes what is pending. To its left an operand is wanted.
     #[inline(always)]
-    fn push_pending(&mut self, pending: Pending) -> Result<(), Refusal>
+    fn push_pending(&mut self, pending: Pending) -> Result<(), TokenRefusal>
         ensures ok { OnOk result ((self.new.state ≡ OperandWanted) × (stack_of self.new ≡ pending ∷ stack_of self.old)) }
-        ensures err { result ≡ Err Refusal.Syntax → ⊥ }
+        ensures err { result ≡ Err TokenRefusal.Syntax → ⊥ }
         ensures operations { self.new.operations ≡ self.old.operations }
     {
         self.stack.push(pending)?;
@@ -342,32 +342,37 @@ impl Reader {
     }
 
     /// Makes a product wait for its left argument.
-    fn push_product(&mut self, form: DyadicForm) -> Result<(), Refusal>
+    fn push_product(&mut self, form: DyadicForm) -> Result<(), TokenRefusal>
         ensures ok { OnOk result ((self.new.state ≡ OperandWanted) × (stack_of self.new ≡ Pending.Operation (Operation.Dyadic form None) ∷ stack_of self.old)) }
-        ensures err { result ≡ Err Refusal.Syntax → ⊥ }
+        ensures err { result ≡ Err TokenRefusal.Syntax → ⊥ }
         ensures operations { self.new.operations ≡ self.old.operations }
     {
         self.push_pending(Pending::Operation(Operation::Dyadic(form, AxisBrackets::none())))
     }
 
     /// A function on the left of a slash that waits for its operand.
-    fn take_reduced(&mut self, column: usize, glyph: Glyph) -> Result<(), Refusal>
+    fn take_reduced(&mut self, column: usize, glyph: Glyph) -> Result<(), TokenRefusal>
         ensures ok { OnOk result (with_function self.old.operations (stack_of self.old) OperandWanted column glyph ≡ Some (machine_of self.new)) }
-        ensures err { result ≡ Err Refusal.Syntax → with_function self.old.operations (stack_of self.old) OperandWanted column glyph ≡ None }
+        ensures err { result ≡ Err TokenRefusal.Syntax → with_function self.old.operations (stack_of self.old) OperandWanted column glyph ≡ None }
     {
         let Some(Pending::Operation(Operation::Dyadic(slash, axis))) = self.stack.pop() else {
-            return Err(Refusal::Syntax);
+            return Err(TokenRefusal::Syntax);
         };
         let Some(function) = reduced(column, glyph, &slash) else {
-            return Err(Refusal::Syntax);
+            return Err(TokenRefusal::Syntax);
         };
         self.state = State::LeadingFunction(function, axis);
         Ok(())
     }
 
-    fn take_function(&mut self, state: State, column: usize, glyph: Glyph) -> Result<(), Refusal>
+    fn take_function(
+        &mut self,
+        state: State,
+        column: usize,
+        glyph: Glyph,
+    ) -> Result<(), TokenRefusal>
         ensures ok { OnOk result (with_function self.old.operations (stack_of self.old) state column glyph ≡ Some (machine_of self.new)) }
-        ensures err { result ≡ Err Refusal.Syntax → with_function self.old.operations (stack_of self.old) state column glyph ≡ None }
+        ensures err { result ≡ Err TokenRefusal.Syntax → with_function self.old.operations (stack_of self.old) state column glyph ≡ None }
     {
         match state {
             State::LeadingBrackets(brackets, undecided) => {
@@ -377,7 +382,7 @@ impl Reader {
             }
             State::LeadingDot(dot, right_column, right) => {
                 let Some(left) = dyadic_scalar(glyph) else {
-                    return Err(Refusal::Syntax);
+                    return Err(TokenRefusal::Syntax);
                 };
                 self.push_product(DyadicForm::Inner {
                     left_column: column,
@@ -401,9 +406,9 @@ impl Reader {
         dot: usize,
         function: DyadicForm,
         axis: AxisBrackets,
-    ) -> Result<(), Refusal>
+    ) -> Result<(), TokenRefusal>
         ensures ok { OnOk result (with_leading_dot self.old.operations (stack_of self.old) dot axis function ≡ Some (machine_of self.new)) }
-        ensures err { result ≡ Err Refusal.Syntax → with_leading_dot self.old.operations (stack_of self.old) dot axis function ≡ None }
+        ensures err { result ≡ Err TokenRefusal.Syntax → with_leading_dot self.old.operations (stack_of self.old) dot axis function ≡ None }
     {
         match function {
             DyadicForm::Plain {
@@ -413,34 +418,34 @@ impl Reader {
                 self.state = State::LeadingDot(dot, column, function);
                 Ok(())
             }
-            _ => Err(Refusal::Syntax),
+            _ => Err(TokenRefusal::Syntax),
         }
     }
 
-    fn take_dot(&mut self, state: State, dot: usize) -> Result<(), Refusal>
+    fn take_dot(&mut self, state: State, dot: usize) -> Result<(), TokenRefusal>
         ensures ok { OnOk result (with_dot self.old.operations (stack_of self.old) state dot ≡ Some (machine_of self.new)) }
-        ensures err { result ≡ Err Refusal.Syntax → with_dot self.old.operations (stack_of self.old) state dot ≡ None }
+        ensures err { result ≡ Err TokenRefusal.Syntax → with_dot self.old.operations (stack_of self.old) state dot ≡ None }
     {
         match state {
             State::LeadingFunction(function, axis) => {
                 match dyadic_counterpart(&function, axis.is_some()) {
                     Some(function) => self.set_leading_dot(dot, function, axis),
-                    None => Err(Refusal::Syntax),
+                    None => Err(TokenRefusal::Syntax),
                 }
             }
             State::OperandWanted => match self.stack.pop() {
                 Some(Pending::Operation(Operation::Dyadic(function, axis))) => {
                     self.set_leading_dot(dot, function, axis)
                 }
-                _ => Err(Refusal::Syntax),
+                _ => Err(TokenRefusal::Syntax),
             },
-            _ => Err(Refusal::Syntax),
+            _ => Err(TokenRefusal::Syntax),
         }
     }
 
-    fn take_jot(&mut self, state: State, jot: usize) -> Result<(), Refusal>
+    fn take_jot(&mut self, state: State, jot: usize) -> Result<(), TokenRefusal>
         ensures ok { OnOk result (with_jot self.old.operations (stack_of self.old) state jot ≡ Some (machine_of self.new)) }
-        ensures err { result ≡ Err Refusal.Syntax → with_jot self.old.operations (stack_of self.old) state jot ≡ None }
+        ensures err { result ≡ Err TokenRefusal.Syntax → with_jot self.old.operations (stack_of self.old) state jot ≡ None }
     {
         match state {
             State::LeadingDot(dot, column, function) => {
@@ -451,22 +456,22 @@ impl Reader {
                     function,
                 })
             }
-            _other => Err(Refusal::Syntax),
+            _other => Err(TokenRefusal::Syntax),
         }
     }
 
-    fn take_arrow(&mut self, state: State, arrow: usize) -> Result<(), Refusal>
+    fn take_arrow(&mut self, state: State, arrow: usize) -> Result<(), TokenRefusal>
         ensures ok { OnOk result (with_arrow self.old.operations (stack_of self.old) state arrow ≡ Some (machine_of self.new)) }
-        ensures err { result ≡ Err Refusal.Syntax → with_arrow self.old.operations (stack_of self.old) state arrow ≡ None }
+        ensures err { result ≡ Err TokenRefusal.Syntax → with_arrow self.old.operations (stack_of self.old) state arrow ≡ None }
     {
         self.end_expression(state)?;
         self.state = State::LeadingArrow(arrow);
         Ok(())
     }
 
-    fn take_open_paren(&mut self, state: State, left: usize) -> Result<(), Refusal>
+    fn take_open_paren(&mut self, state: State, left: usize) -> Result<(), TokenRefusal>
         ensures ok { OnOk result (with_open_paren self.old.operations (stack_of self.old) state left ≡ Some (machine_of self.new)) }
-        ensures err { result ≡ Err Refusal.Syntax → with_open_paren self.old.operations (stack_of self.old) state left ≡ None }
+        ensures err { result ≡ Err TokenRefusal.Syntax → with_open_paren self.old.operations (stack_of self.old) state left ≡ None }
     {
         self.end_expression(state)?;
         match self.stack.pop() {
@@ -474,21 +479,21 @@ impl Reader {
                 self.emit(Operation::Group(Brackets { left, right }))?;
                 self.complete()
             }
-            _ => Err(Refusal::Syntax),
+            _ => Err(TokenRefusal::Syntax),
         }
     }
 
-    fn take_close_paren(&mut self, state: State, right: usize) -> Result<(), Refusal>
+    fn take_close_paren(&mut self, state: State, right: usize) -> Result<(), TokenRefusal>
         ensures ok { OnOk result (with_close_paren self.old.operations (stack_of self.old) state right ≡ Some (machine_of self.new)) }
-        ensures err { result ≡ Err Refusal.Syntax → with_close_paren self.old.operations (stack_of self.old) state right ≡ None }
+        ensures err { result ≡ Err TokenRefusal.Syntax → with_close_paren self.old.operations (stack_of self.old) state right ≡ None }
     {
         self.want_operand(state)?;
         self.push_pending(Pending::Group(right))
     }
 
-    fn take_close_bracket(&mut self, state: State, right: usize) -> Result<(), Refusal>
+    fn take_close_bracket(&mut self, state: State, right: usize) -> Result<(), TokenRefusal>
         ensures ok { OnOk result (with_close_bracket self.old.operations (stack_of self.old) state right ≡ Some (machine_of self.new)) }
-        ensures err { result ≡ Err Refusal.Syntax → with_close_bracket self.old.operations (stack_of self.old) state right ≡ None }
+        ensures err { result ≡ Err TokenRefusal.Syntax → with_close_bracket self.old.operations (stack_of self.old) state right ≡ None }
     {
         match state {
             State::Expression => self.push_pending(Pending::AxisOrIndex(
@@ -520,9 +525,9 @@ impl Reader {
     }
 
     /// A slot ends here.
-    fn end_slot(&mut self, state: State) -> Result<(), Refusal>
+    fn end_slot(&mut self, state: State) -> Result<(), TokenRefusal>
         ensures ok { OnOk result (with_slot self.old.operations state ≡ Some self.new.operations) }
-        ensures err { result ≡ Err Refusal.Syntax → with_slot self.old.operations state ≡ None }
+        ensures err { result ≡ Err TokenRefusal.Syntax → with_slot self.old.operations state ≡ None }
         ensures stack { self.new.stack ≡ self.old.stack }
     {
         match state {
@@ -532,9 +537,9 @@ impl Reader {
     }
 
     /// One more semicolon of the list in the innermost brackets.
-    fn begin_slot(&mut self, column: usize) -> Result<(), Refusal>
+    fn begin_slot(&mut self, column: usize) -> Result<(), TokenRefusal>
         ensures ok { OnOk result (with_next_slot column self.old.operations (stack_of self.old) ≡ Some (machine_of self.new)) }
-        ensures err { result ≡ Err Refusal.Syntax → with_next_slot column self.old.operations (stack_of self.old) ≡ None }
+        ensures err { result ≡ Err TokenRefusal.Syntax → with_next_slot column self.old.operations (stack_of self.old) ≡ None }
     {
         match self.stack.pop() {
             Some(Pending::Index(right, mut semicolons)) => {
@@ -551,22 +556,22 @@ impl Reader {
                 semicolons.push(column)?;
                 self.push_pending(Pending::Index(right, semicolons))
             }
-            _ => Err(Refusal::Syntax),
+            _ => Err(TokenRefusal::Syntax),
         }
     }
 
-    fn take_semicolon(&mut self, state: State, column: usize) -> Result<(), Refusal>
+    fn take_semicolon(&mut self, state: State, column: usize) -> Result<(), TokenRefusal>
         ensures ok { OnOk result (with_semicolon self.old.operations (stack_of self.old) state column ≡ Some (machine_of self.new)) }
-        ensures err { result ≡ Err Refusal.Syntax → with_semicolon self.old.operations (stack_of self.old) state column ≡ None }
+        ensures err { result ≡ Err TokenRefusal.Syntax → with_semicolon self.old.operations (stack_of self.old) state column ≡ None }
     {
         self.end_slot(state)?;
         self.begin_slot(column)
     }
 
     /// The bracket on the left of the innermost list; whether its first slot is empty.
-    fn close_list(&mut self, is_empty: bool, left: usize) -> Result<(), Refusal>
+    fn close_list(&mut self, is_empty: bool, left: usize) -> Result<(), TokenRefusal>
         ensures ok { OnOk result (closed_list is_empty left self.old.operations (stack_of self.old) ≡ Some (machine_of self.new)) }
-        ensures err { result ≡ Err Refusal.Syntax → closed_list is_empty left self.old.operations (stack_of self.old) ≡ None }
+        ensures err { result ≡ Err TokenRefusal.Syntax → closed_list is_empty left self.old.operations (stack_of self.old) ≡ None }
     {
         match self.stack.pop() {
             Some(Pending::Index(right, semicolons)) => {
@@ -587,13 +592,13 @@ impl Reader {
                 self.state = State::OperandWanted;
                 Ok(())
             }
-            _ => Err(Refusal::Syntax),
+            _ => Err(TokenRefusal::Syntax),
         }
     }
 
-    fn take_open_bracket(&mut self, state: State, left: usize) -> Result<(), Refusal>
+    fn take_open_bracket(&mut self, state: State, left: usize) -> Result<(), TokenRefusal>
         ensures ok { OnOk result (with_open_bracket self.old.operations (stack_of self.old) state left ≡ Some (machine_of self.new)) }
-        ensures err { result ≡ Err Refusal.Syntax → with_open_bracket self.old.operations (stack_of self.old) state left ≡ None }
+        ensures err { result ≡ Err TokenRefusal.Syntax → with_open_bracket self.old.operations (stack_of self.old) state left ≡ None }
     {
         let is_empty = matches!(state, State::OperandWanted);
         self.end_slot(state)?;
@@ -601,9 +606,9 @@ impl Reader {
     }
 
     #[inline(always)]
-    fn take(&mut self, token: Token) -> Result<(), Refusal>
+    fn take(&mut self, token: Token) -> Result<(), TokenRefusal>
         ensures ok { OnOk result (step token (machine_of self.old) ≡ Some (machine_of self.new)) }
-        ensures err { result ≡ Err Refusal.Syntax → step token (machine_of self.old) ≡ None }
+        ensures err { result ≡ Err TokenRefusal.Syntax → step token (machine_of self.old) ≡ None }
     {
         let state = mem::replace(&mut self.state, State::OperandWanted);
         let column = token.column;
@@ -626,14 +631,14 @@ impl Reader {
     }
 
     /// The operations of a whole statement.
-    fn finish(mut self) -> Result<Vec<Operation>, Refusal>
+    fn finish(mut self) -> Result<Vec<Operation>, TokenRefusal>
         ensures ok { IfOk result (λ operations. statement_operations (machine_of self) ≡ Some operations.items) }
-        ensures err { result ≡ Err Refusal.Syntax → statement_operations (machine_of self) ≡ None }
+        ensures err { result ≡ Err TokenRefusal.Syntax → statement_operations (machine_of self) ≡ None }
     {
         let state = mem::replace(&mut self.state, State::OperandWanted);
         self.end_expression(state)?;
         if !self.stack.is_empty() {
-            return Err(Refusal::Syntax);
+            return Err(TokenRefusal::Syntax);
         }
         let operations = self.operations.into_operations(self.alloc)?;
         Ok(operations)
@@ -655,13 +660,13 @@ pub(crate) fn parse(alloc: Global, tokens: Vec<Token>) -> Result<Vec<Operation>,
         first = token.column;
         match reader.take(token) {
             Ok(()) => {}
-            Err(Refusal::Syntax) => return Err(GrammarStop::Syntax { column: first }),
-            Err(Refusal::Memory) => return Err(GrammarStop::Memory),
+            Err(TokenRefusal::Syntax) => return Err(GrammarStop::Syntax { column: first }),
+            Err(TokenRefusal::Memory) => return Err(GrammarStop::Memory),
         }
     }
     match reader.finish() {
         Ok(operations) => Ok(operations),
-        Err(Refusal::Syntax) => Err(GrammarStop::Syntax { column: first }),
-        Err(Refusal::Memory) => Err(GrammarStop::Memory),
+        Err(TokenRefusal::Syntax) => Err(GrammarStop::Syntax { column: first }),
+        Err(TokenRefusal::Memory) => Err(GrammarStop::Memory),
     }
 }

@@ -10,7 +10,7 @@ use Rattle.apl_array.specs.declared.array.Kind.{Kind}
 use Rattle.apl_array.specs.Shape.{IsIndexOf, count_of, place_of, index_at}
 use Rattle.apl_array.specs.Array.{ArrayValue, IsArray, element_at, element_in}
 use Rattle.apl_answer.specs.declared.fault.OpFault.{OpFault}
-use Rattle.apl_answer.specs.Pointwise.{index_lists, and_first, all_or_first, shaped, answer_of}
+use Rattle.apl_answer.specs.Pointwise.{index_lists, and_first, collect_outcomes, shaped, answer_of}
 use Rattle.apl_answer.specs.Rows.{Check, HavePassed, first_failure_or, array_row}
 use Rattle.apl_laws.specs.Giving.{Gives}
 
@@ -20,7 +20,7 @@ array_by shape kind element = record { shape = shape; kind = kind; ravel = map e
 
 -- ---- rows
 
-pub all_are_values : (element : List ℕ → Elem) (indexes : List (List ℕ)) → all_or_first (map (λ i. Ok (element i)) indexes) ≡ Ok (map element indexes)
+pub all_are_values : (element : List ℕ → Elem) (indexes : List (List ℕ)) → collect_outcomes (map (λ i. Ok (element i)) indexes) ≡ Ok (map element indexes)
 all_are_values element [] = refl
 all_are_values element (i ∷ is) = ap (and_first (element i)) (all_are_values element is)
 

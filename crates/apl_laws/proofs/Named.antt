@@ -6,8 +6,8 @@ use Rattle.std.proofs.lemmas.Bool.{and_from, eq-eqb, cases_Bool, eqb-true}
 use Rattle.std.proofs.lemmas.List.{ext_get_or, get_or-reverse, length-reverse}
 use Rattle.std.proofs.lemmas.List.Folds.{list_any_at}
 use Rattle.std.proofs.lemmas.List.FromFn.{length-range_with_len, length-map-range_with_len, get_or-range_with_len, get_or-map-range_with_len}
-use Rattle.apl_array.specs.Transposition.{becoming, least, transposed_shape}
-use Rattle.apl_struct.specs.Moving.{named_axes, are_all_named}
+use Rattle.apl_array.specs.Transposition.{items_onto, least, transposed_shape}
+use Rattle.apl_struct.specs.Rearranging.{named_axes, are_all_named}
 
 -- axis n - 1 - j
 abbrev pub from_end : (n j : ℕ) → ℕ
@@ -67,7 +67,7 @@ named n =
 apart : (a b : ℕ) → a ≢ b → (a == b) ≡ false
 apart a b other = ⊎_elim (λ same. absurd (other (eqb-true a b same))) (λ no. no) (cases_Bool (a == b))
 
-becoming_none : (axis : ℕ) (axes items : List ℕ) → ((k : ℕ) → k < length axes → slice_index axes k ≢ axis) → becoming axis axes items ≡ []
+becoming_none : (axis : ℕ) (axes items : List ℕ) → ((k : ℕ) → k < length axes → slice_index axes k ≢ axis) → items_onto axis axes items ≡ []
 becoming_none axis [] items others = refl
 becoming_none axis (a ∷ axes) [] others = refl
 becoming_none axis (a ∷ axes) (x ∷ items) others =
@@ -75,7 +75,7 @@ becoming_none axis (a ∷ axes) (x ∷ items) others =
     rw no (becoming_none axis axes items (λ k inside. others (suc k) (omega arith)))
 
 becoming_one : (axis : ℕ) (axes items : List ℕ) (i : ℕ) → length axes ≡ length items → i < length axes → slice_index axes i ≡ axis
-    → ((k : ℕ) → k < length axes → k ≢ i → slice_index axes k ≢ axis) → becoming axis axes items ≡ slice_index items i ∷ []
+    → ((k : ℕ) → k < length axes → k ≢ i → slice_index axes k ≢ axis) → items_onto axis axes items ≡ slice_index items i ∷ []
 becoming_one axis [] items i long inside is others = absurd (omega arith)
 becoming_one axis (a ∷ axes) [] i long inside is others = absurd (omega arith)
 becoming_one axis (a ∷ axes) (x ∷ items) zero long inside is others =
@@ -85,7 +85,7 @@ becoming_one axis (a ∷ axes) (x ∷ items) (suc i) long inside is others =
     let no = apart a axis (others 0 (omega arith) (λ same. omega (arith, same))) in
     rw no (becoming_one axis axes items i (omega arith) (omega arith) is (λ k below other. others (suc k) (omega arith) (λ same. other (omega (arith, same)))))
 
-becoming_downward : (n axis : ℕ) (items : List ℕ) → length items ≡ n → axis < n → becoming axis (downward n) items ≡ slice_index items (from_end n axis) ∷ []
+becoming_downward : (n axis : ℕ) (items : List ℕ) → length items ≡ n → axis < n → items_onto axis (downward n) items ≡ slice_index items (from_end n axis) ∷ []
 becoming_downward n axis items long below =
     let i = from_end n axis in
     let count = length-map-range_with_len (from_end n) 0 n in
@@ -99,7 +99,7 @@ becoming_downward n axis items long below =
 
 pub reversed_shape : (shape : List ℕ) (n : ℕ) → length shape ≡ n → transposed_shape n (downward n) shape ≡ reverse shape
 reversed_shape shape n long =
-    let shortest : ℕ → ℕ = λ axis. least (becoming axis (downward n) shape) in
+    let shortest : ℕ → ℕ = λ axis. least (items_onto axis (downward n) shape) in
     ext_get_or 0 (map shortest (range_with_len 0 n)) (reverse shape) (length-map-range_with_len shortest 0 n ∙ sym (length-reverse shape ∙ long))
     (λ k inside.
     let below : k < n = omega (arith, inside, length-map-range_with_len shortest 0 n) in

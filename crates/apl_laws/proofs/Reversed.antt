@@ -6,7 +6,7 @@ use Rattle.apl_array.specs.Axes.{axis_of}
 use Rattle.apl_array.specs.Array.{ArrayValue, IsArray, element_at}
 use Rattle.apl_answer.specs.Arguments.{rank_of}
 use Rattle.apl_struct.specs.Gathering.{along_axis}
-use Rattle.apl_struct.specs.Moving.{reversed_index, reverse_row}
+use Rattle.apl_struct.specs.Rearranging.{reversed_index, reverse_row}
 use Rattle.apl_laws.specs.Giving.{Gives}
 use Rattle.apl_laws.proofs.Given.{Places, array_by, given, element_by, gives_array}
 use Rattle.apl_laws.proofs.AlongAxes.{ReplacedLaw, along_lawful, along_back}

@@ -13,7 +13,7 @@ use Rattle.apl_array.specs.Array.{ArrayValue, IsArray, element_at}
 use Rattle.apl_answer.specs.Arguments.{rank_of, number_of, has_one_element, only_element}
 use Rattle.apl_answer.specs.Rows.{HavePassed}
 use Rattle.apl_struct.specs.Gathering.{along_axis}
-use Rattle.apl_struct.specs.Moving.{rotation_at, rotated_index, rotate_row}
+use Rattle.apl_struct.specs.Rearranging.{rotation_at, rotated_index, rotate_row}
 use Rattle.apl_laws.specs.Giving.{Gives}
 use Rattle.apl_laws.specs.Turning.{opposite}
 use Rattle.apl_laws.proofs.Given.{Places, array_by, given, element_by, gives_array}

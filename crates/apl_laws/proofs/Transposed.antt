@@ -4,7 +4,7 @@ use Rattle.std.proofs.lemmas.List.{reverse-reverse}
 use Rattle.apl_array.specs.declared.array.Elem.{Elem}
 use Rattle.apl_array.specs.Shape.{IsIndexOf}
 use Rattle.apl_array.specs.Array.{ArrayValue, IsArray, element_at}
-use Rattle.apl_struct.specs.Moving.{transpose_row}
+use Rattle.apl_struct.specs.Rearranging.{transpose_row}
 use Rattle.apl_laws.specs.Giving.{Gives}
 use Rattle.apl_laws.proofs.Given.{Places, array_by, given, element_by, gives_array}
 

@@ -17,7 +17,7 @@ use Rattle.apl_answer.specs.Arguments.{rank_of, size_of, is_list, is_numbers, is
 use Rattle.apl_answer.specs.Rows.{Row, HavePassed}
 use Rattle.apl_struct.specs.Gathering.{gathered_row, along_axis}
 use Rattle.apl_struct.specs.Building.{shape_of_row, iota_row}
-use Rattle.apl_struct.specs.Moving.{reversed_index, reverse_row, transpose_row, named_axes, are_all_named, transpose_by_row}
+use Rattle.apl_struct.specs.Rearranging.{reversed_index, reverse_row, transpose_row, named_axes, are_all_named, transpose_by_row}
 use Rattle.apl_laws.specs.Giving.{Gives}
 use Rattle.apl_laws.proofs.Given.{Places, array_by, given, gives, same_arrays}
 use Rattle.apl_laws.proofs.Lists.{vector, at_index, vector_given}

@@ -2,16 +2,16 @@
 #![tactic(auto)]
 
 mod choosing;
-mod moving;
 mod ordering;
 mod parts;
+mod rearranging;
 mod shaping;
 
 pub use choosing::{all_indexes_choose_whole, compress_undoes_expand};
-pub use moving::{
+pub use ordering::{grade_orders, grade_permutes_indexes};
+pub use parts::{joined_can_be_taken_apart, taken_and_left_make_whole};
+pub use rearranging::{
     reverse_undoes_itself, rotate_undoes_opposite, transpose_names_axes_in_reverse,
     transpose_undoes_itself,
 };
-pub use ordering::{grade_orders, grade_permutes_indexes};
-pub use parts::{joined_can_be_taken_apart, taken_and_left_make_whole};
 pub use shaping::reshape_undoes_ravel;

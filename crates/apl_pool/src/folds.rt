@@ -12,7 +12,7 @@ use super::gate::Gate;
 use super::kernel::{Kernel, Stop};
 use super::pass::{Pass, fill_rooms};
 use super::pieces::{Piece, Pieces};
-use super::rows::{Folds, Row, Rows};
+use super::rows::{Row, RowSummaries, Rows};
 use super::summary::{LONGEST_RUN, Summary};
 use super::tasks::Summaries;
 use super::work::{next_piece, stop_at};
@@ -197,7 +197,7 @@ fn join_rows<S: Summary + Drop, K: Rows<Out = S::Item>, G: Gate>(
     parts: &mut [Option<S>],
     room: Vec<S>,
     copies: Vec<i64>,
-) -> Folds<S>
+) -> RowSummaries<S>
     requires some { 0 < K.place_count rows.now }
     requires places { pieces.now.places ≡ K.place_count rows.now }
     requires parts { K.row_count rows.now * pieces.now.count ≡ length parts.old }
@@ -216,7 +216,7 @@ fn join_rows<S: Summary + Drop, K: Rows<Out = S::Item>, G: Gate>(
             Ok(Some(summary)) => summaries.push_reserved(summary),
             Ok(None) => unreachable!(),
             Err(stop) => {
-                return Folds {
+                return RowSummaries {
                     summaries,
                     end: Err(stop),
                     copies,
@@ -224,7 +224,7 @@ fn join_rows<S: Summary + Drop, K: Rows<Out = S::Item>, G: Gate>(
             }
         }
     }
-    Folds {
+    RowSummaries {
         summaries,
         end: Ok(()),
         copies,
@@ -240,7 +240,7 @@ pub(crate) fn fold_rows_alone<S: Summary + Drop, K: Rows<Out = S::Item>, C: Cut,
     end: usize,
     room: Vec<S>,
     copies: Vec<i64>,
-) -> Folds<S>
+) -> RowSummaries<S>
     requires some { 0 < end }
     requires within { end ≤ K.place_count rows.now }
     requires empty { vec_len room ≡ 0 }
@@ -254,7 +254,7 @@ pub(crate) fn fold_rows_alone<S: Summary + Drop, K: Rows<Out = S::Item>, C: Cut,
             Ok(Some(summary)) => summaries.push_reserved(summary),
             Ok(None) => unreachable!(),
             Err(stop) => {
-                return Folds {
+                return RowSummaries {
                     summaries,
                     end: Err(stop),
                     copies,
@@ -262,7 +262,7 @@ pub(crate) fn fold_rows_alone<S: Summary + Drop, K: Rows<Out = S::Item>, C: Cut,
             }
         }
     }
-    Folds {
+    RowSummaries {
         summaries,
         end: Ok(()),
         copies,
@@ -293,7 +293,7 @@ fn fold_into_parts<
     parts: &mut [Option<S>],
     room: Vec<S>,
     copies: Copies,
-) -> Result<Folds<S>, AllocError>
+) -> Result<RowSummaries<S>, AllocError>
     requires some { 0 < K.place_count rows.now }
     requires rows { pass.now.shares.now.rows ≡ K.row_count rows.now }
     requires places { pass.now.shares.now.pieces.places ≡ K.place_count rows.now }
@@ -325,7 +325,7 @@ pub(crate) fn fold_rows_together<
     S: Summary + Drop + Send,
     K: Rows<Out = S::Item> + Sync,
     G: Gate + Sync,
->(pass: &Pass<R, G>, rows: &K, room: Vec<S>, copies: Copies) -> Result<Folds<S>, AllocError>
+>(pass: &Pass<R, G>, rows: &K, room: Vec<S>, copies: Copies) -> Result<RowSummaries<S>, AllocError>
     requires some { 0 < K.place_count rows.now }
     requires rows { pass.now.shares.now.rows ≡ K.row_count rows.now }
     requires places { pass.now.shares.now.pieces.places ≡ K.place_count rows.now }

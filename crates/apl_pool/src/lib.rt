@@ -30,6 +30,6 @@ pub use cut::{Cut, Every};
 pub use gate::{Gate, Open};
 pub use kernel::{Fault, Kernel, MOST_PLACES, Stop};
 pub use pool::{MOST_WORKERS, Pool};
-pub use rows::{Folds, Rows};
+pub use rows::{RowSummaries, Rows};
 pub use schedule::Schedule;
 pub use summary::{LONGEST_RUN, Summary};

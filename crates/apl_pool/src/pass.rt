@@ -29,7 +29,7 @@ pub(crate) struct Pass<'a, R, G> {
 
 /// What the workers of a pass bring: a mark for each piece whose values are right, and a list of copies.
 #[derive(Drop)]
-pub(crate) struct Brought {
+pub(crate) struct PassOutput {
     pub marks: Vec<bool>,
     pub copies: Vec<i64>,
 }
@@ -46,7 +46,7 @@ fn fill_row<T: Send, R: Threads + Sync, F: Task<T> + Sync, G: Gate + Sync>(
     ends: Vec<Ends>,
     copies: Copies,
     row: Slots<T>,
-) -> (Slots<T>, Option<Brought>)
+) -> (Slots<T>, Option<PassOutput>)
     requires full { IsFull row }
     requires all { F.start_of task.now (F.piece_count task.now) ≡ slots_len row }
     requires pieces { F.piece_count task.now ≡ shares.now.rows * shares.now.pieces.count }
@@ -68,7 +68,7 @@ fn fill_row<T: Send, R: Threads + Sync, F: Task<T> + Sync, G: Gate + Sync>(
             );
             let (row, marks) = rooms.close(seats.rooms);
             let copies = seats.copies;
-            (row, Some(Brought { marks, copies }))
+            (row, Some(PassOutput { marks, copies }))
         }
         Err(row) => (row, None),
     }
@@ -81,7 +81,7 @@ pub(crate) fn fill_rooms<T: Send, R: Threads + Sync, F: Task<T> + Sync, G: Gate 
     task: &F,
     values: &mut [T],
     copies: Copies,
-) -> Result<Brought, AllocError>
+) -> Result<PassOutput, AllocError>
     requires all { F.start_of task.now (F.piece_count task.now) ≡ length values.old }
     requires pieces { F.piece_count task.now ≡ pass.now.shares.now.rows * pass.now.shares.now.pieces.count }
     ensures len { length values.new ≡ length values.old }
@@ -99,7 +99,7 @@ pub(crate) fn fill_rooms<T: Send, R: Threads + Sync, F: Task<T> + Sync, G: Gate 
             values,
             &mut (),
             pass.rt,
-            |row: Slots<T>, _: (), rt: &R| -> (Slots<T>, (), Option<Brought>)
+            |row: Slots<T>, _: (), rt: &R| -> (Slots<T>, (), Option<PassOutput>)
                 requires { IsSync F.row × IsSync G.row × IsFull row × (F.start_of task.now (F.piece_count task.now) ≡ slots_len row) × (F.piece_count task.now ≡ shares.now.rows * shares.now.pieces.count)
                     × IsSeatOf board seat × ((view seat).share ≡ shares.now.tasks) }
                 ensures { Refills row result.0 × IfSome result.2 (λ b. AreMarks (F.is_right task.entry.now) (F.start_of task.entry.now) (F.piece_count task.entry.now) (slots_items result.0) b.marks.items)

@@ -13,7 +13,7 @@ use super::gate::Gate;
 use super::kernel::{Kernel, MOST_PLACES, Stop};
 use super::pass::Pass;
 use super::pieces::piece_end;
-use super::rows::{Folds, OneRow, Rows};
+use super::rows::{OneRow, RowSummaries, Rows};
 use super::schedule::Schedule;
 use super::shares::Shares;
 use super::summary::Summary;
@@ -166,7 +166,7 @@ impl<C: Cut + Sync, G: Gate + Sync> Pool<C, G> {
         rt: &R,
         alloc: Global,
         rows: &K,
-    ) -> Folds<S>
+    ) -> RowSummaries<S>
         requires some { 0 < K.place_count rows.now }
         ensures { AreFolds S.step S.item_count S.outcome (K.outcome rows.now) (K.row_count rows.now) (K.place_count rows.now) result.summaries.items result.end }
     {
@@ -179,14 +179,14 @@ impl<C: Cut + Sync, G: Gate + Sync> Pool<C, G> {
         R: Threads + Sync,
         S: Summary + Drop + Send,
         K: Rows<Out = S::Item> + Sync,
-    >(&self, rt: &R, alloc: Global, rows: &K, number: i64, count: usize) -> Folds<S>
+    >(&self, rt: &R, alloc: Global, rows: &K, number: i64, count: usize) -> RowSummaries<S>
         requires some { 0 < K.place_count rows.now }
         ensures folds { AreFolds S.step S.item_count S.outcome (K.outcome rows.now) (K.row_count rows.now) (K.place_count rows.now) result.summaries.items result.end }
         ensures copies { (result.copies.items ≡ []) ⊎ (result.copies.items ≡ replicate count number) }
     {
         match self.fold_pieces(rt, alloc, rows, number, count) {
             Ok(folds) => folds,
-            Err(AllocError) => Folds {
+            Err(AllocError) => RowSummaries {
                 summaries: Vec::new(alloc),
                 end: Err(Stop::Memory),
                 copies: Vec::new(alloc),
@@ -202,7 +202,7 @@ impl<C: Cut + Sync, G: Gate + Sync> Pool<C, G> {
         rows: &K,
         number: i64,
         count: usize,
-    ) -> Result<Folds<S>, AllocError>
+    ) -> Result<RowSummaries<S>, AllocError>
         requires some { 0 < K.place_count rows.now }
         ensures folds { IfOk result (λ f. AreFolds S.step S.item_count S.outcome (K.outcome rows.now) (K.row_count rows.now) (K.place_count rows.now) f.summaries.items f.end) }
         ensures copies { IfOk result (λ f. (f.copies.items ≡ []) ⊎ (f.copies.items ≡ replicate count number)) }

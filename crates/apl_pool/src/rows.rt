@@ -92,7 +92,7 @@ impl<X, K: Kernel<Out = X>> Rows for OneRow<'_, K> {
 
 /// The summaries of the rows before the first that has none, why that has none, and the copies beside them.
 #[derive(Drop)]
-pub struct Folds<S> {
+pub struct RowSummaries<S> {
     /// The summaries of the rows from the first on.
     pub summaries: Vec<S>,
     /// `Ok` if each row has one.

@@ -8,8 +8,8 @@ use Rattle.std.specs.Ordering.{int_eq}
 use Rattle.std.proofs.Math.Seq.{drop-cons}
 use Rattle.apl_array.specs.Range.{IsInRange}
 use Rattle.apl_scalar.specs.Arithmetic.{floor_quotient}
-use Rattle.apl_reduce.specs.declared.behind.Behind.{Behind}
-use Rattle.apl_reduce.specs.declared.behind.Behind.TheVariants.{Product}
+use Rattle.apl_reduce.specs.declared.carry_divisor.CarryDivisor.{CarryDivisor}
+use Rattle.apl_reduce.specs.declared.carry_divisor.CarryDivisor.TheVariants.{Product}
 use Rattle.apl_reduce.specs.Encoding.{carried, carry_past}
 use Rattle.apl_reduce.specs.Carrying.{carry_by, is_above_zero, StandsFor}
 use Rattle.apl_reduce.proofs.Quotients.{floor_twice, floor_near}
@@ -50,7 +50,7 @@ some_natural : (n : ℕ) → pos (suc n) ≡ pos 0 → ⊥
 some_natural n e = absurd (omega (arith, ints, e))
 
 -- one radix more, in front of the others
-pub in_front : (behind next : Behind) (a : ℤ) (radices : List ℤ) → StandsFor behind radices → is_above_zero next ≡ true
+pub in_front : (behind next : CarryDivisor) (a : ℤ) (radices : List ℤ) → StandsFor behind radices → is_above_zero next ≡ true
     → ((b : ℤ) → IsInRange b → carry_by next b ≡ carried a (carry_by behind b)) → StandsFor next (a ∷ radices)
 in_front behind next a radices stands above is = record {
   above = above;

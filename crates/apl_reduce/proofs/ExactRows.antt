@@ -22,7 +22,7 @@ use Rattle.apl_pool.specs.declared.kernel.Fault.TheVariants.{Limit}
 use Rattle.apl_answer.specs.declared.fault.OpFault.{OpFault}
 use Rattle.apl_answer.specs.declared.fault.OpFault.TheVariants.{Limit as Refused}
 use Rattle.apl_answer.specs.Arguments.{number_of, only_element, is_scalar, rank_of}
-use Rattle.apl_answer.specs.Pointwise.{index_lists, all_or_first, answer_of}
+use Rattle.apl_answer.specs.Pointwise.{index_lists, collect_outcomes, answer_of}
 use Rattle.apl_answer.specs.Rows.{Check, HavePassed, first_failure_or, result_of}
 use Rattle.apl_scalar.specs.Scalar.{exact, as_element}
 use Rattle.apl_reduce.specs.Folding.{pair_of, reduction}
@@ -137,7 +137,7 @@ module _ (decided : (z : ℤ) → (in_range z ≡ true) ↔ IsInRange z) where
             (cases_Bool (in_range (exact_item h a b index j))))
 
         judged_told : (index : List ℕ) → IsRefusedOr Limit (HasItemOutside h a b index ⊎ HasEndOutside e identity (exact_items h a b index)) (Int (exact_fold_of e identity (exact_items h a b index)))
-            (judged_reduction f (all_or_first (items_of g a b index)))
+            (judged_reduction f (collect_outcomes (items_of g a b index)))
         judged_told index =
             let n = common_length a b in
             let item = exact_item h a b index in
@@ -148,7 +148,7 @@ module _ (decided : (z : ℤ) → (in_range z ≡ true) ↔ IsInRange z) where
             (λ one. inl (inl (one.0.0, omega (arith, one.0.2), one.0.3), ap (judged_reduction f) one.1))
             (λ all.
             let none : HasItemOutside h a b index → ⊥ = λ w. all.0 (w.0, omega arith, omega (arith, w.1), w.2) in
-            let judged : judged_reduction f (all_or_first (items_of g a b index)) ≡ reduction f (map Int items) = ap (judged_reduction f) all.1 in
+            let judged : judged_reduction f (collect_outcomes (items_of g a b index)) ≡ reduction f (map Int items) = ap (judged_reduction f) all.1 in
             ⊎_elim
             (λ end. inl (inr end.0, judged ∙ end.1))
             (λ value. inr (λ w. ⊎_elim none value.0 w, judged ∙ value.1))

@@ -7,7 +7,7 @@ use Rattle.apl_array.specs.declared.array.Elem.{Elem}
 use Rattle.apl_array.specs.declared.array.Elem.TheVariants.{Int}
 use Rattle.apl_array.specs.declared.function.ScalarFunction.{ScalarFunction}
 use Rattle.apl_pool.specs.declared.kernel.Fault.{Fault}
-use Rattle.apl_answer.specs.Pointwise.{and_first, all_or_first}
+use Rattle.apl_answer.specs.Pointwise.{and_first, collect_outcomes}
 use Rattle.apl_scalar.specs.Scalar.{as_element, identity_of}
 use Rattle.apl_reduce.specs.Folding.{fold_step, right_fold, identity_or_fault}
 use Rattle.apl_reduce.specs.Items.{as_number, number_step, or_next_fault, folded_from, first_fault, judged_items}
@@ -28,8 +28,8 @@ and_unless x None items = refl
 and_unless x (Some fault) items = refl
 
 judged_once : (r : Result ℤ Fault) (first : Option Fault) (items : List Elem) (outcomes : List (Result Elem Fault))
-    → all_or_first outcomes ≡ unless_fault first items
-    → all_or_first (as_element r ∷ outcomes) ≡ unless_fault (or_next_fault r first) (Int (number_or_zero r) ∷ items)
+    → collect_outcomes outcomes ≡ unless_fault first items
+    → collect_outcomes (as_element r ∷ outcomes) ≡ unless_fault (or_next_fault r first) (Int (number_or_zero r) ∷ items)
 judged_once (Ok z) first items outcomes is = ap (and_first (Int z)) is ∙ and_unless (Int z) first items
 judged_once (Err fault) first items outcomes is = refl
 
@@ -65,7 +65,7 @@ module _ (item : ℕ → Result ℤ Fault) where
   items_from : ℕ → ℕ → List Elem
   items_from k n = map (λ i. Int (number_or_zero (item i))) (range_with_len k n)
 
-  judged_from : (k n : ℕ) → all_or_first (map (λ i. as_element (item i)) (range_with_len k n)) ≡ unless_fault (first_fault item k n) (items_from k n)
+  judged_from : (k n : ℕ) → collect_outcomes (map (λ i. as_element (item i)) (range_with_len k n)) ≡ unless_fault (first_fault item k n) (items_from k n)
   unfolding items_from
   judged_from k zero = refl
   judged_from k (suc n) = judged_once (item k) (first_fault item (k + 1) n) (items_from (k + 1) n) (map (λ i. as_element (item i)) (range_with_len (k + 1) n)) (judged_from (k + 1) n)

@@ -12,7 +12,7 @@ use Rattle.apl_array.specs.Shape.{IsIndexOf, count_of, place_of, index_at}
 use Rattle.apl_pool.specs.declared.kernel.Fault.{Fault}
 use Rattle.apl_pool.specs.declared.kernel.Fault.TheVariants.{Limit}
 use Rattle.apl_answer.specs.declared.fault.OpFault.TheVariants.{Limit as Refused}
-use Rattle.apl_answer.specs.Pointwise.{index_lists, all_or_first, shaped, answer_of}
+use Rattle.apl_answer.specs.Pointwise.{index_lists, collect_outcomes, shaped, answer_of}
 use Rattle.apl_reduce.specs.Refusals.{IsRefusedOr}
 
 -- the refusal for one reason is that for another
@@ -28,7 +28,7 @@ module _ (outcome : ℕ → Result Elem Fault) (Outside : ℕ → Type 0) (value
   Told place = IsRefusedOr Limit (Outside place) (Int (value place)) (outcome place)
 
   abbrev AllTold : (a n : ℕ) → Type 0
-  AllTold a n = IsRefusedOr Limit (IsAtSome Outside a n) (map Int (map value (range_with_len a n))) (all_or_first (map outcome (range_with_len a n)))
+  AllTold a n = IsRefusedOr Limit (IsAtSome Outside a n) (map Int (map value (range_with_len a n))) (collect_outcomes (map outcome (range_with_len a n)))
 
   later : (a n : ℕ) → IsAtSome Outside (a + 1) n → IsAtSome Outside a (suc n)
   later a n w = (w.0, omega (arith, w.1), omega (arith, w.2), w.3)
@@ -69,10 +69,10 @@ module _ (below : (shape index : List ℕ) → IsIndexOf shape index → place_o
       let told = all_told (λ place. outcome (index_at shape place)) (λ place. Outside (index_at shape place)) (λ place. value (index_at shape place)) 0 n
       (λ place from inside. each (index_at shape place) (lawful shape place (omega (arith, inside)))) in
       ⊎_elim
-      (λ one. inl ((index_at shape one.0.0, lawful shape one.0.0 (omega (arith, one.0.2)), one.0.3), ap (λ r. shaped shape Number (all_or_first r)) outcomes ∙ ap (shaped shape Number) one.1))
+      (λ one. inl ((index_at shape one.0.0, lawful shape one.0.0 (omega (arith, one.0.2)), one.0.3), ap (λ r. shaped shape Number (collect_outcomes r)) outcomes ∙ ap (shaped shape Number) one.1))
       (λ none. inr (
         λ w. none.0 (place_of shape w.0, omega arith, omega (arith, below shape w.0 w.1), subst Outside (sym (same_index shape w.0 w.1)) w.2),
-        ap (λ r. shaped shape Number (all_or_first r)) outcomes ∙ ap (shaped shape Number) none.1 ∙ ap (λ ns. Ok (number_array shape ns)) (sym values),
+        ap (λ r. shaped shape Number (collect_outcomes r)) outcomes ∙ ap (shaped shape Number) none.1 ∙ ap (λ ns. Ok (number_array shape ns)) (sym values),
       ))
       told
 

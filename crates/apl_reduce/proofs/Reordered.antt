@@ -9,7 +9,7 @@ use Rattle.std.specs.List.{range_with_len}
 use Rattle.apl_array.specs.declared.array.Elem.{Elem}
 use Rattle.apl_array.specs.declared.array.Elem.TheVariants.{Int}
 use Rattle.apl_array.specs.declared.function.ScalarFunction.{ScalarFunction}
-use Rattle.apl_answer.specs.Pointwise.{all_or_first}
+use Rattle.apl_answer.specs.Pointwise.{collect_outcomes}
 use Rattle.apl_pool.specs.declared.kernel.Fault.{Fault}
 use Rattle.apl_pool.specs.declared.kernel.Stop.{Stop}
 use Rattle.apl_pool.specs.declared.kernel.Stop.TheVariants.{Fault as FaultAt, Memory}
@@ -52,7 +52,7 @@ module _ (p q : ℕ → Result ℤ Fault) where
       ∙ ap (λ xs. as_element (q start) ∷ xs) (elements_same (start + 1) n (λ k from below. same k (omega arith) (omega arith)))
 
   judged_same : (f : ScalarFunction) (n : ℕ) → ((k : ℕ) → k < n → p k ≡ q k) → judged_items p f n ≡ judged_items q f n
-  judged_same f n same = ap (λ xs. judged_reduction f (all_or_first xs)) (elements_same 0 n (λ k from below. same k (omega arith)))
+  judged_same f n same = ap (λ xs. judged_reduction f (collect_outcomes xs)) (elements_same 0 n (λ k from below. same k (omega arith)))
 
 -- ---- an inner product
 

@@ -20,7 +20,7 @@ use Rattle.apl_array.specs.Array.{ArrayValue, element_in, element_at}
 use Rattle.apl_array.specs.Range.{IsInRange, in_range, IsElementInRange, HasNumbersInRange}
 use Rattle.apl_array.specs.Limits.{IsWithinLimits}
 use Rattle.apl_answer.specs.Arguments.{rank_of, size_of, is_scalar, has_one_element, number_of, numbers_of, only_element}
-use Rattle.apl_answer.specs.Pointwise.{and_first, all_or_first}
+use Rattle.apl_answer.specs.Pointwise.{and_first, collect_outcomes}
 use Rattle.apl_answer.specs.Rows.{Row, HavePassed, result_of}
 use Rattle.apl_pool.specs.declared.kernel.Fault.{Fault}
 use Rattle.apl_scalar.specs.Arithmetic.{residue}
@@ -124,9 +124,9 @@ module _ (law : RowLaw) (decided : (lengths : List ℕ) → (is_shape lengths �
 
   -- ---- inner products
 
-  judged_in : (outcomes : List (Result Elem Fault)) → All (λ outcome. IfOk outcome IsElementInRange) outcomes → IfOk (all_or_first outcomes) (All IsElementInRange)
+  judged_in : (outcomes : List (Result Elem Fault)) → All (λ outcome. IfOk outcome IsElementInRange) outcomes → IfOk (collect_outcomes outcomes) (All IsElementInRange)
   judged_in [] all = λ i d inside. absurd (omega (arith, inside))
-  judged_in (Ok x ∷ outcomes) all = and_first_in x (all_or_first outcomes) (all 0 (Ok x) (omega arith)) (judged_in outcomes (λ i d inside. all (suc i) d (omega (arith, inside))))
+  judged_in (Ok x ∷ outcomes) all = and_first_in x (collect_outcomes outcomes) (all 0 (Ok x) (omega arith)) (judged_in outcomes (λ i d inside. all (suc i) d (omega (arith, inside))))
     where
       and_first_in : (x : Elem) (found : Result (List Elem) Fault) → IsElementInRange x → IfOk found (All IsElementInRange) → IfOk (and_first x found) (All IsElementInRange)
       and_first_in x (Ok xs) h k = front
@@ -145,7 +145,7 @@ module _ (law : RowLaw) (decided : (lengths : List ℕ) → (is_shape lengths �
   inner_within f g a b r k h =
       law (inner_row f g a b) r (λ passed. (decided (inner_row f g a b).shape).0 passed.1.0)
       (λ passed index inside.
-      reduced_in f (all_or_first (items_of g a b index)) (judged_in (items_of g a b index)
+      reduced_in f (collect_outcomes (items_of g a b index)) (judged_in (items_of g a b index)
       (All-map (λ outcome. IfOk outcome IsElementInRange) (λ i. pair_of g (left_element a index i) (right_element a b index i)) (range_with_len 0 (common_length a b))
       (λ i d within.
       let n = get_or (range_with_len 0 (common_length a b)) i d in

@@ -5,8 +5,8 @@ use Rattle.apl_array.specs.Range.{IsInRange}
 use Rattle.apl_pool.specs.declared.kernel.Fault.{Fault}
 use Rattle.apl_scalar.specs.Arithmetic.{floor_quotient, residue}
 use Rattle.apl_scalar.specs.Scalar.{exact, as_element}
-use Rattle.apl_reduce.specs.declared.behind.Behind.{Behind}
-use Rattle.apl_reduce.specs.declared.behind.Behind.TheVariants.{Nothing, Product, Rounded}
+use Rattle.apl_reduce.specs.declared.carry_divisor.CarryDivisor.{CarryDivisor}
+use Rattle.apl_reduce.specs.declared.carry_divisor.CarryDivisor.TheVariants.{Nothing, Product, Rounded}
 use Rattle.apl_reduce.specs.declared.quotient.Quotient.{Quotient}
 use Rattle.apl_reduce.specs.Encoding.{carry_past}
 
@@ -27,18 +27,18 @@ abbrev pub quotient_of : Quotient → ℤ → ℤ
 quotient_of q b = floor_quotient (signed q.is_negated b +ℤ q.added) q.divisor
 
 -- what is carried of a number
-abbrev pub carry_by : Behind → ℤ → ℤ
+abbrev pub carry_by : CarryDivisor → ℤ → ℤ
 carry_by Nothing b = pos 0
 carry_by (Product p) b = floor_quotient b p
 carry_by (Rounded q) b = quotient_of q b
 
 -- a product that numbers are divided by is above 0
-abbrev pub is_above_zero : Behind → Bool
+abbrev pub is_above_zero : CarryDivisor → Bool
 is_above_zero Nothing = true
 is_above_zero (Product p) = int_lt (pos 0) p
 is_above_zero (Rounded q) = true
 
 -- it carries what these radices carry, of each number in the range
-pub record StandsFor (behind : Behind) (radices : List ℤ) : Type 0 where
+pub record StandsFor (behind : CarryDivisor) (radices : List ℤ) : Type 0 where
   pub above : is_above_zero behind ≡ true
   pub carries : (b : ℤ) → IsInRange b → carry_by behind b ≡ carry_past radices b

@@ -6,7 +6,7 @@ use Rattle.apl_array.specs.declared.array.Elem.TheVariants.{Int}
 use Rattle.apl_array.specs.declared.function.ScalarFunction.{ScalarFunction}
 use Rattle.apl_pool.specs.declared.kernel.Fault.{Fault}
 use Rattle.apl_answer.specs.Arguments.{number_of}
-use Rattle.apl_answer.specs.Pointwise.{all_or_first}
+use Rattle.apl_answer.specs.Pointwise.{collect_outcomes}
 use Rattle.apl_scalar.specs.Scalar.{dyadic_of, dyadic_numbers, as_element}
 use Rattle.apl_reduce.specs.Products.{judged_reduction}
 
@@ -51,4 +51,4 @@ module _ (item : ℕ → Result ℤ Fault) where
 
   -- the reduction of n items, all of them judged before the fold
   abbrev pub judged_items : ScalarFunction → ℕ → Result Elem Fault
-  judged_items f n = judged_reduction f (all_or_first (map (λ k. as_element (item k)) (range_with_len 0 n)))
+  judged_items f n = judged_reduction f (collect_outcomes (map (λ k. as_element (item k)) (range_with_len 0 n)))

@@ -9,7 +9,7 @@ use Rattle.apl_array.specs.Array.{ArrayValue, element_at}
 use Rattle.apl_pool.specs.declared.kernel.Fault.{Fault}
 use Rattle.apl_answer.specs.declared.fault.OpFault.TheVariants.{Length, Limit}
 use Rattle.apl_answer.specs.Arguments.{rank_of, is_list, has_one_element, only_element}
-use Rattle.apl_answer.specs.Pointwise.{all_or_first}
+use Rattle.apl_answer.specs.Pointwise.{collect_outcomes}
 use Rattle.apl_answer.specs.Rows.{Row}
 use Rattle.apl_reduce.specs.Folding.{pair_of, reduction}
 
@@ -82,5 +82,5 @@ inner_row f g a b =
       checks = (is_common a b, Length) ∷ (is_shape shape, Limit) ∷ [];
       shape = shape;
       kind = Number;
-      outcome = λ index. judged_reduction f (all_or_first (items_of g a b index));
+      outcome = λ index. judged_reduction f (collect_outcomes (items_of g a b index));
     }

@@ -11,7 +11,7 @@ use crate::folded_rows::{fold_last_rows, fold_rows, from_place};
 use crate::folding::fold_along;
 use crate::pairs::NARROW;
 use crate::workers::shares_items;
-use apl_answer::Element;
+use apl_answer::ElementType;
 use apl_array::{
     Array, ScalarFunction, Shape, inserted_index_has_place, places_match_index_lists,
     replaced_index_has_place,
@@ -43,7 +43,7 @@ pub(crate) struct AxisItems<'a, T> {
     ghost within: { (place : ℕ) → place < count → place / inner * block + place % inner + (items - 1) * inner < length elements.now },
 }
 
-impl<'a, T: Element> AxisItems<'a, T> {
+impl<'a, T: ElementType> AxisItems<'a, T> {
     /// The items along axis `k`, at the places of the shape without it.
     pub(crate) fn new(b: &Array, elements: &'a [T], k: usize, shape: &Shape) -> AxisItems<'a, T>
         requires axis { k < length b.now.shape }
@@ -109,12 +109,12 @@ impl<T> AxisItems<'_, T> {
 
 /// The folds of the items at each place.
 #[derive(Drop)]
-struct Folds<'a, T, F> {
+struct AxisFolds<'a, T, F> {
     axis: &'a AxisItems<'a, T>,
     function: PhantomData<F>,
 }
 
-impl<T: Element, F: Function> Kernel for Folds<'_, T, F> {
+impl<T: ElementType, F: Function> Kernel for AxisFolds<'_, T, F> {
     ghost use Rattle.std.specs.Prelude.{map};
     ghost use Rattle.apl_reduce.specs.Folded.{fold_at, number_of_axis};
 
@@ -143,7 +143,7 @@ impl<T: Element, F: Function> Kernel for Folds<'_, T, F> {
     }
 }
 
-impl<T: Element, F: Function> Folds<'_, T, F> {
+impl<T: ElementType, F: Function> AxisFolds<'_, T, F> {
     /// Puts the folds at the places from `from` on, all of them in a row, in place of the totals. It
     /// says whether no place has a fault.
     fn fold_run(&self, from: usize, totals: &mut [i64]) -> bool
@@ -223,7 +223,7 @@ impl FoldedRows for AxisRows<'_> {
 
 fn fill_folds<
     F: Function + Sync,
-    T: Element + Sync,
+    T: ElementType + Sync,
     R: Threads + Sync,
     C: Cut + Sync,
     G: Gate + Sync,
@@ -231,7 +231,7 @@ fn fill_folds<
     ensures values { IfOk result (λ v. AreValues (λ place. fold_at F.FUNCTION (map T.elem_of axis.now.elements.now) axis.now.items axis.now.block axis.now.inner place) axis.now.count v.items) }
     ensures stop { IfErr result (IsStopOf (λ place. fold_at F.FUNCTION (map T.elem_of axis.now.elements.now) axis.now.items axis.now.block axis.now.inner place) axis.now.count) }
 {
-    let kernel = Folds::<T, F> {
+    let kernel = AxisFolds::<T, F> {
         axis,
         function: PhantomData,
     };

@@ -19,7 +19,7 @@ impl Layout {
         let by_rows = self.right.line == 1 && self.right.item == self.columns;
         by_rows
             && self.items > 0
-            && self.repays_a_pass()
+            && self.is_pass_worthwhile()
             && self.columns * self.items <= MOST_PLACES
     }
 

@@ -8,11 +8,11 @@ ghost use Rattle.apl_pool.specs.declared.kernel.TheConstants.{MOST_PLACES};
 ghost use Rattle.apl_answer.specs.declared.fault.OpFault.TheVariants.{Limit, Memory};
 ghost use Rattle.apl_answer.specs.Pointwise.{answer_of, IsAnswerOf};
 ghost use Rattle.apl_answer.specs.Rows.{Answers};
-ghost use Rattle.apl_reduce.specs.declared.behind.Behind.TheVariants.{Nothing};
+ghost use Rattle.apl_reduce.specs.declared.carry_divisor.CarryDivisor.TheVariants.{Nothing};
 ghost use Rattle.apl_reduce.specs.Encoding.{encode_row};
 ghost use Rattle.apl_reduce.specs.Carrying.{digit_in, digit_number, StandsFor};
 
-use crate::behind::{Behind, behind_each};
+use crate::carry_divisor::{CarryDivisor, carry_divisors};
 use crate::carrying::digit_left;
 use crate::shapes::joined_shape;
 use crate::workers::Workers;
@@ -27,7 +27,7 @@ use std::thread::Threads;
 #[derive(Drop)]
 struct Encoding<'a> {
     radices: &'a [i64],
-    behind: &'a [Behind],
+    behind: &'a [CarryDivisor],
     numbers: &'a [i64],
     /// How many numbers there are, where there is a place.
     width: Divisor,
@@ -85,7 +85,7 @@ impl<R: Threads + Sync, C: Cut + Sync, G: Gate + Sync> Workers<'_, R, C, G> {
         ensures { (outcome : List ℕ → Result Elem Fault) → ((place : ℕ) → place < count_of shape → digit_in radices.now numbers.now place ≡ outcome (index_at shape place))
             → IsAnswerOf (answer_of shape outcome Number) result }
     {
-        let behind = behind_each(self.alloc, radices)?;
+        let behind = carry_divisors(self.alloc, radices)?;
         let kernel = Encoding {
             radices,
             behind: behind.as_slice(),
@@ -101,7 +101,7 @@ impl<R: Threads + Sync, C: Cut + Sync, G: Gate + Sync> Workers<'_, R, C, G> {
         ensures { (outcome : List ℕ → Result Elem Fault) → ((place : ℕ) → place < count_of shape → Result.Err Fault.Domain ≡ outcome (index_at shape place))
             → IsAnswerOf (answer_of shape outcome Number) result }
     {
-        self.everywhere(shape, Err(Fault::Domain))
+        self.constant_array(shape, Err(Fault::Domain))
     }
 }
 

@@ -8,7 +8,7 @@ ghost use Rattle.apl_reduce.specs.Items.{item_in};
 
 use crate::folding::{element_at, fold_step};
 use crate::pairs::put;
-use apl_answer::Element;
+use apl_answer::ElementType;
 use apl_pool::Fault;
 use apl_scalar::dyadic_elements;
 use apl_scalar::function_types::Function;
@@ -24,7 +24,7 @@ pub(crate) fn from_place<T>(elements: &[T], place: usize) -> &[T]
 
 /// What the function gives of an item of the last row but one and that below it.
 #[inline(always)]
-fn last_total<F: Function, T: Element>(left: &[T], right: &[T], j: usize) -> Result<i64, Fault>
+fn last_total<F: Function, T: ElementType>(left: &[T], right: &[T], j: usize) -> Result<i64, Fault>
     requires left { j < length left.now }
     requires right { j < length right.now }
     ensures { result ≡ dyadic_of F.FUNCTION (item_in (map T.elem_of left.now) j) (item_in (map T.elem_of right.now) j) }
@@ -34,7 +34,11 @@ fn last_total<F: Function, T: Element>(left: &[T], right: &[T], j: usize) -> Res
 
 /// A total with one more item on the left.
 #[inline(always)]
-fn next_total<F: Function, T: Element>(row: &[T], totals: &[i64], j: usize) -> Result<i64, Fault>
+fn next_total<F: Function, T: ElementType>(
+    row: &[T],
+    totals: &[i64],
+    j: usize,
+) -> Result<i64, Fault>
     requires row { j < length row.now }
     requires totals { j < length totals.now }
     ensures { result ≡ number_step F.FUNCTION (item_in (map T.elem_of row.now) j) (Ok (slice_index_or totals.now j (pos 0))) }
@@ -45,7 +49,7 @@ fn next_total<F: Function, T: Element>(row: &[T], totals: &[i64], j: usize) -> R
 /// Puts what the function gives of each item of the last two rows in place of the totals. It says
 /// whether no place has a fault.
 #[inline(always)]
-pub(crate) fn fold_last_rows<F: Function, T: Element>(
+pub(crate) fn fold_last_rows<F: Function, T: ElementType>(
     left: &[T],
     right: &[T],
     totals: &mut [i64],
@@ -66,7 +70,7 @@ pub(crate) fn fold_last_rows<F: Function, T: Element>(
 
 /// Folds the items of one more row on the left into the totals. It says whether no place has a fault.
 #[inline(always)]
-fn fold_row<F: Function, T: Element>(row: &[T], totals: &mut [i64]) -> bool
+fn fold_row<F: Function, T: ElementType>(row: &[T], totals: &mut [i64]) -> bool
     requires { length totals.old ≤ length row.now }
     ensures values { result ≡ true → AreWritten (λ j. number_step F.FUNCTION (item_in (map T.elem_of row.now) j) (Ok (slice_index_or totals.old j (pos 0)))) 0 (length totals.old) totals.new }
     ensures len { length totals.new ≡ length totals.old }
@@ -82,7 +86,7 @@ fn fold_row<F: Function, T: Element>(row: &[T], totals: &mut [i64]) -> bool
 
 /// Folds the items of the first `more` rows into the totals of those after them. It says whether no place has a fault.
 #[inline(always)]
-pub(crate) fn fold_rows<F: Function, T: Element>(
+pub(crate) fn fold_rows<F: Function, T: ElementType>(
     elements: &[T],
     first: usize,
     stride: usize,

@@ -4,7 +4,7 @@ ghost use Rattle.apl_array.specs.declared.array.Elem.TheVariants.{Int};
 ghost use Rattle.apl_pool.specs.declared.kernel.TheConstants.{MOST_PLACES};
 ghost use Rattle.apl_reduce.specs.Folded.{number_step, folded, element_along};
 
-use apl_answer::Element;
+use apl_answer::ElementType;
 use apl_array::Elem;
 use apl_pool::Fault;
 use apl_scalar::dyadic_elements;
@@ -12,7 +12,7 @@ use apl_scalar::function_types::Function;
 
 /// The element at a place, of either kind.
 #[inline(always)]
-pub(crate) fn element_at<T: Element>(elements: &[T], place: usize) -> Elem
+pub(crate) fn element_at<T: ElementType>(elements: &[T], place: usize) -> Elem
     requires { place < length elements.now }
     ensures { result ≡ slice_index_or (map T.elem_of elements.now) place (Int (pos 0)) }
 {
@@ -32,7 +32,7 @@ pub(crate) fn fold_step<F: Function>(item: Elem, total: Result<i64, Fault>) -> R
 
 /// The right fold of `count` elements that are `stride` apart from place `first` on.
 #[inline(never)]
-pub(crate) fn fold_along<F: Function, T: Element>(
+pub(crate) fn fold_along<F: Function, T: ElementType>(
     elements: &[T],
     first: usize,
     stride: usize,

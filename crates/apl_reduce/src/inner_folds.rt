@@ -7,7 +7,7 @@ use crate::dyadic::Dyadic;
 use crate::inner_products::LineItems;
 use crate::items::Items;
 use crate::layouts::Layout;
-use apl_answer::Element;
+use apl_answer::ElementType;
 use apl_divisor::Divisor;
 use apl_pool::{Fault, Rows};
 use apl_summary::FoldedRows;
@@ -26,7 +26,7 @@ pub(crate) struct LineRows<'a, T, U, P: Dyadic> {
     ghost all: { layout.now.count * layout.now.items ≤ MOST_PLACES },
 }
 
-impl<T: Element, U: Element, P: Dyadic> LineRows<'_, T, U, P> {
+impl<T: ElementType, U: ElementType, P: Dyadic> LineRows<'_, T, U, P> {
     /// Item `k` of a place.
     #[inline(always)]
     fn item(&self, place: usize, k: usize) -> Result<i64, Fault>
@@ -39,7 +39,7 @@ impl<T: Element, U: Element, P: Dyadic> LineRows<'_, T, U, P> {
     }
 }
 
-impl<T: Element, U: Element, P: Dyadic> Rows for LineRows<'_, T, U, P> {
+impl<T: ElementType, U: ElementType, P: Dyadic> Rows for LineRows<'_, T, U, P> {
     ghost use Rattle.std.specs.Prelude.{◌-◌, map};
     ghost use Rattle.apl_reduce.specs.Layouts.{inner_item};
 
@@ -65,7 +65,7 @@ impl<T: Element, U: Element, P: Dyadic> Rows for LineRows<'_, T, U, P> {
     }
 }
 
-impl<T: Element, U: Element, P: Dyadic> FoldedRows for LineRows<'_, T, U, P> {
+impl<T: ElementType, U: ElementType, P: Dyadic> FoldedRows for LineRows<'_, T, U, P> {
     ghost use Rattle.std.specs.Prelude.{◌-◌, map};
     ghost use Rattle.apl_reduce.specs.Layouts.{inner_item};
 

@@ -10,16 +10,16 @@ ghost use Rattle.apl_answer.specs.Rows.{Answers};
 ghost use Rattle.apl_reduce.specs.Layouts.{IsWithin, inner_number};
 ghost use Rattle.apl_reduce.specs.Products.{inner_row};
 
+use crate::conformability::{common_length, layout_of, left_lengths, right_lengths};
 use crate::dyadic::{Chosen, Dyadic, Typed};
 use crate::inner_folds::LineRows;
 use crate::items::{Items, reduced};
 use crate::layouts::Layout;
 use crate::magnitudes::{are_narrow, sums_are_small};
-use crate::meeting::{common_length, layout_of, left_lengths, right_lengths};
 use crate::shapes::{characters_of, joined_shape};
 use crate::sums::Sums;
 use crate::workers::{Workers, shares_items};
-use apl_answer::{Element, OpFault, array_from_fill};
+use apl_answer::{ElementType, OpFault, array_from_fill};
 use apl_array::{Array, ScalarFunction};
 use apl_divisor::Divisor;
 use apl_pool::{Cut, Fault, Gate, Kernel, Pool, Stop};
@@ -47,7 +47,7 @@ pub(crate) struct LineItems<'a, T, U, P: Dyadic> {
     ghost right_within: { (k : ℕ) → k < count → right_start + k * right_stride < length right.now },
 }
 
-impl<T: Element, U: Element, P: Dyadic> Items for LineItems<'_, T, U, P> {
+impl<T: ElementType, U: ElementType, P: Dyadic> Items for LineItems<'_, T, U, P> {
     ghost use Rattle.std.specs.Prelude.{◌+◌, ◌*◌, map};
     ghost use Rattle.apl_scalar.specs.Scalar.{dyadic_of};
     ghost use Rattle.apl_reduce.specs.Items.{item_in};
@@ -114,7 +114,7 @@ struct Reductions<'a, T, U, F: Dyadic, P: Dyadic> {
     ghost within: { IsWithin layout.now (length left.now) (length right.now) },
 }
 
-impl<T: Element, U: Element, F: Dyadic, P: Dyadic> Kernel for Reductions<'_, T, U, F, P> {
+impl<T: ElementType, U: ElementType, F: Dyadic, P: Dyadic> Kernel for Reductions<'_, T, U, F, P> {
     ghost use Rattle.std.specs.Prelude.{map};
     ghost use Rattle.apl_reduce.specs.Layouts.{inner_number};
 
@@ -144,7 +144,7 @@ impl<T: Element, U: Element, F: Dyadic, P: Dyadic> Kernel for Reductions<'_, T, 
 
 impl<R: Threads + Sync, C: Cut + Sync, G: Gate + Sync> Workers<'_, R, C, G> {
     /// The reduction of the items at each place.
-    fn fill_inner<T: Element + Sync, U: Element + Sync, F: Dyadic + Sync, P: Dyadic + Sync>(
+    fn fill_inner<T: ElementType + Sync, U: ElementType + Sync, F: Dyadic + Sync, P: Dyadic + Sync>(
         &self,
         layout: &Layout,
         left: &[T],
@@ -168,7 +168,7 @@ impl<R: Threads + Sync, C: Cut + Sync, G: Gate + Sync> Workers<'_, R, C, G> {
     }
 
     /// The reduction of the items at each place, compiled for two functions.
-    fn typed<T: Element + Sync, F: Function + Copy + Sync, P: Function + Copy + Sync>(
+    fn typed<T: ElementType + Sync, F: Function + Copy + Sync, P: Function + Copy + Sync>(
         &self,
         layout: &Layout,
         left: &[T],
@@ -188,7 +188,7 @@ impl<R: Threads + Sync, C: Cut + Sync, G: Gate + Sync> Workers<'_, R, C, G> {
         ensures values { IfOk result (λ v. AreValues (inner_number layout.now (map Int left.now) (map Int right.now) PlusNamed TimesNamed) layout.now.count v.items) }
         ensures stop { IfErr result (IsStopOf (inner_number layout.now (map Int left.now) (map Int right.now) PlusNamed TimesNamed) layout.now.count) }
     {
-        if !layout.repays_a_pass() || !sums_are_small(left, right, layout.items) {
+        if !layout.is_pass_worthwhile() || !sums_are_small(left, right, layout.items) {
             return self.typed::<i64, Plus, Times>(layout, left, right);
         }
         let is_near = layout.left.item == 1 && layout.right.item == 1;
@@ -275,7 +275,7 @@ impl<R: Threads + Sync, C: Cut + Sync, G: Gate + Sync> Workers<'_, R, C, G> {
     }
 
     /// The reduction of the items at each place, which the workers share.
-    fn share_lines<T: Element + Sync, U: Element + Sync, P: Dyadic + Sync>(
+    fn share_lines<T: ElementType + Sync, U: ElementType + Sync, P: Dyadic + Sync>(
         &self,
         layout: &Layout,
         left: &[T],

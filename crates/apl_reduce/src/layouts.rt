@@ -44,7 +44,7 @@ pub(crate) struct Layout {
 
 impl Layout {
     /// Whether both arguments have enough lines for a pass over their elements to pay.
-    pub(crate) fn repays_a_pass(&self) -> bool
+    pub(crate) fn is_pass_worthwhile(&self) -> bool
         ensures { IsTrue result ↔ (1 < self.now.columns) × (SEVERAL_LINES * self.now.columns ≤ self.now.count) }
     {
         self.columns > 1 && self.count >= SEVERAL_LINES * self.columns

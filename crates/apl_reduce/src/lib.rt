@@ -8,9 +8,10 @@
 #![tactic(auto)]
 
 mod axis_items;
-mod behind;
+mod carry_divisor;
 mod carrying;
 mod columns;
+mod conformability;
 mod decoding;
 mod digit_laws;
 mod dyadic;
@@ -24,7 +25,6 @@ mod items;
 mod laws;
 mod layouts;
 mod magnitudes;
-mod meeting;
 mod outer_products;
 mod pairs;
 mod quotient;

@@ -13,7 +13,7 @@ use crate::dyadic::{Chosen, Dyadic, Typed};
 use crate::pairs::{NARROW, write_pairs};
 use crate::shapes::{characters_of, joined_shape};
 use crate::workers::Workers;
-use apl_answer::{Element, OpFault, array_from_fill};
+use apl_answer::{ElementType, OpFault, array_from_fill};
 use apl_array::{Array, ScalarFunction, joined_index_has_place, places_match_index_lists};
 use apl_divisor::Divisor;
 use apl_pool::{Cut, Fault, Gate, Kernel, Pool, Stop};
@@ -36,7 +36,7 @@ struct EachPair<'a, T, U, F: Dyadic> {
     ghost columns_are: { columns ≡ length right.now },
 }
 
-impl<T: Element, U: Element, F: Dyadic> EachPair<'_, T, U, F> {
+impl<T: ElementType, U: ElementType, F: Dyadic> EachPair<'_, T, U, F> {
     /// The left element of a place's row, and the right ones from that place on. They end before another place, or at the end of the row.
     #[inline(always)]
     fn row_from(&self, from: usize, to: usize) -> (T, &[U])
@@ -53,7 +53,7 @@ impl<T: Element, U: Element, F: Dyadic> EachPair<'_, T, U, F> {
     }
 }
 
-impl<T: Element, U: Element, F: Dyadic> Kernel for EachPair<'_, T, U, F> {
+impl<T: ElementType, U: ElementType, F: Dyadic> Kernel for EachPair<'_, T, U, F> {
     ghost use Rattle.std.specs.Prelude.{map};
     ghost use Rattle.apl_reduce.specs.Items.{outer_number};
 
@@ -87,7 +87,7 @@ impl<T: Element, U: Element, F: Dyadic> Kernel for EachPair<'_, T, U, F> {
 
 impl<R: Threads + Sync, C: Cut + Sync, G: Gate + Sync> Workers<'_, R, C, G> {
     /// A function of each element of one list and each element of another.
-    fn fill_outer<T: Element + Sync, U: Element + Sync, F: Dyadic + Sync>(
+    fn fill_outer<T: ElementType + Sync, U: ElementType + Sync, F: Dyadic + Sync>(
         &self,
         left: &[T],
         right: &[U],

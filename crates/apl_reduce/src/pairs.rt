@@ -4,7 +4,7 @@ ghost use Rattle.apl_pool.specs.Runs.{AreWritten};
 ghost use Rattle.apl_reduce.specs.Items.{pair_number};
 
 use crate::dyadic::Dyadic;
-use apl_answer::Element;
+use apl_answer::ElementType;
 use apl_pool::Fault;
 
 /// Rows of fewer elements are gone through place by place.
@@ -12,7 +12,7 @@ pub(crate) const NARROW: usize = 8;
 
 /// What a function gives of one element and one of others.
 #[inline(always)]
-fn pair_at<T: Element, U: Element, F: Dyadic>(
+fn pair_at<T: ElementType, U: ElementType, F: Dyadic>(
     x: T,
     others: &[U],
     k: usize,
@@ -36,7 +36,7 @@ pub(crate) fn put<X: Copy>(room: &mut [X], place: usize, value: X)
 /// Writes what a function gives of one element and each of others into the room for them. It ends before the first that has a fault, and
 /// answers how many they are.
 #[inline(always)]
-pub(crate) fn write_pairs<T: Element, U: Element, F: Dyadic>(
+pub(crate) fn write_pairs<T: ElementType, U: ElementType, F: Dyadic>(
     x: T,
     others: &[U],
     function: F,

@@ -35,7 +35,7 @@ fn identity_or_fault(f: ScalarFunction) -> Result<i64, Fault>
 
 impl<R: Threads + Sync, C: Cut + Sync, G: Gate + Sync> Workers<'_, R, C, G> {
     /// The array of this shape with one number at all places, or the fault.
-    pub(crate) fn everywhere(
+    pub(crate) fn constant_array(
         &self,
         shape: Shape,
         outcome: Result<i64, Fault>,
@@ -57,7 +57,7 @@ impl<R: Threads + Sync, C: Cut + Sync, G: Gate + Sync> Workers<'_, R, C, G> {
         inserted_index_has_place();
         places_match_index_lists();
         if shape.count() == 0 {
-            return self.everywhere(shape, Ok(0));
+            return self.constant_array(shape, Ok(0));
         }
         let filled = match b.numbers() {
             Some(numbers) => {
@@ -92,7 +92,7 @@ pub fn reduce<R: Threads + Sync, C: Cut + Sync, G: Gate + Sync>(
     ensures { Answers (reduce_row f b.now axis) result }
 {
     let workers = Workers { rt, alloc, pool };
-    let Some(k) = axis.among(b.shape().rank()) else {
+    let Some(k) = axis.resolve(b.shape().rank()) else {
         return Err(OpFault::Index);
     };
     if b.shape().rank() == 0 {
@@ -104,7 +104,7 @@ pub fn reduce<R: Threads + Sync, C: Cut + Sync, G: Gate + Sync>(
     inserted_index_has_place();
     replaced_index_has_place();
     match b.shape().axis(k) {
-        0 => workers.everywhere(shape, identity_or_fault(f)),
+        0 => workers.constant_array(shape, identity_or_fault(f)),
         1 => array_of_elements(rt, alloc, pool, shape, b),
         _ => workers.fold(shape, f, b, k),
     }

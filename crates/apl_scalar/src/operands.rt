@@ -6,7 +6,7 @@ ghost use Rattle.apl_array.specs.Shape.{count_of, index_at};
 ghost use Rattle.apl_scalar.specs.Extension.{extended_shape, source_index};
 ghost use Rattle.apl_scalar.specs.Operands.{operand_at};
 
-use apl_answer::Element;
+use apl_answer::ElementType;
 use apl_array::{Array, Elem, Shape, places_match_index_lists};
 
 /// An argument at each place.
@@ -28,7 +28,7 @@ pub(crate) trait Operand: Copy {
 #[derive(Clone, Copy)]
 pub(crate) struct Whole<'a, T>(pub &'a [T]);
 
-impl<T: Element> Operand for Whole<'_, T> {
+impl<T: ElementType> Operand for Whole<'_, T> {
     ghost use Rattle.std.specs.Prelude.{length, map, pos, slice_index_or};
     ghost use Rattle.apl_array.specs.declared.array.Elem.TheVariants.{Int};
 
@@ -46,7 +46,7 @@ impl<T: Element> Operand for Whole<'_, T> {
 #[derive(Clone, Copy)]
 pub(crate) struct Value<T>(pub T);
 
-impl<T: Element> Operand for Value<T> {
+impl<T: ElementType> Operand for Value<T> {
     ghost element = { λ k place. T.elem_of k.0 };
 
     ghost served = { λ k. MOST_PLACES };
@@ -74,7 +74,7 @@ pub(crate) struct Pairs<'a, T> {
     ghost one_whole: { left_is_whole ≡ false → right_is_whole ≡ true },
 }
 
-impl<'a, T: Element> Pairs<'a, T> {
+impl<'a, T: ElementType> Pairs<'a, T> {
     ghost use Rattle.apl_array.specs.Array.{element_at};
 
     /// The pairs of the elements of two arrays, which `shape` extends.

@@ -10,7 +10,7 @@ use crate::function_types::{Equal, Function, NotEqual};
 use crate::kernels::{NumberResults, PairResults, ResultsKernel};
 use crate::operands::{Operand, Pairs, Value, Whole};
 use crate::with_type;
-use apl_answer::{Element, fill_uniform};
+use apl_answer::{ElementType, fill_uniform};
 use apl_array::ScalarFunction;
 use apl_pool::{Cut, Fault, Gate, Pool, Stop};
 use std::alloc::Global;
@@ -71,7 +71,7 @@ fn fill_operands<
 /// A pass is compiled for each way in which the arguments may be extended.
 fn fill_pairs<
     F: Function + Copy + Sync,
-    T: Element + Sync,
+    T: ElementType + Sync,
     R: Threads + Sync,
     C: Cut + Sync,
     G: Gate + Sync,

@@ -4,9 +4,9 @@ ghost use Rattle.apl_pool.specs.declared.kernel.TheConstants.{MOST_PLACES};
 ghost use Rattle.apl_scan.specs.declared.chunks.TheConstants.{CHUNK};
 ghost use Rattle.apl_scan.specs.Running.{chunk_start, AreOfChunks, AreUpToChunks};
 
-use crate::kept::Kept;
+use crate::bounded_summary::BoundedSummary;
 use apl_divisor::Divisor;
-use apl_pool::{Cut, Fault, Folds, Gate, Pool, Rows, Stop, Summary};
+use apl_pool::{Cut, Fault, Gate, Pool, RowSummaries, Rows, Stop, Summary};
 use std::alloc::Global;
 use std::thread::Threads;
 
@@ -58,7 +58,10 @@ impl Rows for Chunks<'_> {
 }
 
 /// Joins to the summary of each chunk those in front of it in its line.
-fn carry_on<S: Summary<Item = i64> + Copy + Drop>(chunks: &Chunks, summaries: &mut [Kept<S>])
+fn carry_on<S: Summary<Item = i64> + Copy + Drop>(
+    chunks: &Chunks,
+    summaries: &mut [BoundedSummary<S>],
+)
     requires rows { length summaries.old ≡ chunks.now.rows }
     requires alone { AreOfChunks S.step (λ k. S.item_count k.summary) (λ k. S.outcome k.summary) chunks.now.numbers.now chunks.now.items chunks.now.per_line chunks.now.rows summaries.old }
     ensures rows { length summaries.new ≡ chunks.now.rows }
@@ -66,7 +69,7 @@ fn carry_on<S: Summary<Item = i64> + Copy + Drop>(chunks: &Chunks, summaries: &m
 {
     for row in 1..summaries.len() {
         if chunks.per_line.remainder(row) != 0 {
-            summaries[row] = Kept::join(&summaries[row - 1], &summaries[row]);
+            summaries[row] = BoundedSummary::join(&summaries[row - 1], &summaries[row]);
         }
     }
 }
@@ -78,14 +81,21 @@ pub(crate) fn summarize<
     R: Threads + Sync,
     C: Cut + Sync,
     G: Gate + Sync,
->(rt: &R, alloc: Global, pool: &Pool<C, G>, chunks: &Chunks) -> Result<Folds<Kept<S>>, Stop>
+>(
+    rt: &R,
+    alloc: Global,
+    pool: &Pool<C, G>,
+    chunks: &Chunks,
+) -> Result<RowSummaries<BoundedSummary<S>>, Stop>
     ensures rows { IfOk result (λ f. vec_len f.summaries ≡ chunks.now.rows) }
     ensures joined { IfOk result (λ f. AreUpToChunks S.step (λ k. S.item_count k.summary) (λ k. S.outcome k.summary) chunks.now.numbers.now chunks.now.items chunks.now.per_line chunks.now.rows f.summaries.items) }
     ensures memory { IfErr result (λ stop. stop ≡ Stop.Memory) }
 {
     let count = chunks.numbers.len();
     // 1 and not 0: for a number of equal bytes the compiler calls `memset`, which takes longer than a loop.
-    let mut folds: Folds<Kept<S>> = pool.fold_rows_beside(rt, alloc, chunks, 1, count);
+    let mut folds: RowSummaries<BoundedSummary<S>> = pool.fold_rows_beside(
+        rt, alloc, chunks, 1, count,
+    );
     folds.end?;
     carry_on(chunks, folds.summaries.as_mut_slice());
     Ok(folds)

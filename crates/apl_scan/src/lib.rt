@@ -7,8 +7,8 @@
 //! Begin with `specs/Scanning.antt`, and then `scanning.rt` and `lines.rt`.
 #![tactic(auto)]
 
+mod bounded_summary;
 mod chunks;
-mod kept;
 mod laws;
 mod lined;
 mod lines;

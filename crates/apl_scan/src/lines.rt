@@ -85,12 +85,12 @@ fn fold_up_to<F: Function>(
 
 /// The folds up to each place.
 #[derive(Drop)]
-struct Folds<'a, F> {
+struct PrefixFolds<'a, F> {
     lines: &'a AxisLines<'a>,
     function: PhantomData<F>,
 }
 
-impl<F: Function> Kernel for Folds<'_, F> {
+impl<F: Function> Kernel for PrefixFolds<'_, F> {
     ghost use Rattle.std.specs.Prelude.{length};
     ghost use Rattle.apl_scalar.specs.Scalar.{dyadic_numbers};
     ghost use Rattle.apl_scan.specs.Lines.{scan_at};
@@ -121,7 +121,7 @@ fn fill_folds<F: Function + Sync, R: Threads + Sync, C: Cut + Sync, G: Gate + Sy
     ensures values { IfOk result (λ v. AreValues (scan_at (dyadic_numbers F.FUNCTION) lines.now.numbers.now lines.now.items lines.now.inner) (length lines.now.numbers.now) v.items) }
     ensures stop { IfErr result (IsStopOf (scan_at (dyadic_numbers F.FUNCTION) lines.now.numbers.now lines.now.items lines.now.inner) (length lines.now.numbers.now)) }
 {
-    let kernel = Folds::<F> {
+    let kernel = PrefixFolds::<F> {
         lines,
         function: PhantomData,
     };

@@ -4,30 +4,30 @@ ghost use Rattle.apl_pool.specs.declared.kernel.TheConstants.{MOST_PLACES};
 ghost use Rattle.apl_pool.specs.Summaries.{fold_onto, IsSummaryOf};
 ghost use Rattle.apl_summary.specs.Running.{IsSummaryOrNone};
 
-use crate::kept::Kept;
+use crate::bounded_summary::BoundedSummary;
 use apl_pool::{Fault, Summary};
 
 /// The summary of numbers, of which there may be none, and one more after them.
 #[inline(always)]
 pub(crate) fn with_next<S: Summary<Item = i64> + Drop>(
-    before: &Option<Kept<S>>,
+    before: &Option<BoundedSummary<S>>,
     number: i64,
-) -> Kept<S>
+) -> BoundedSummary<S>
     requires { IfSome before.now (λ s. S.item_count s.summary + 1 ≤ MOST_PLACES) }
     ensures { (numbers : List ℤ) → IsSummaryOrNone S.step (λ k. S.item_count k.summary) (λ k. S.outcome k.summary) numbers before.now
         → IsSummaryOf S.step (λ k. S.item_count k.summary) (λ k. S.outcome k.summary) result (numbers ++ number ∷ []) }
 {
-    let next = Kept::<S>::one(number);
+    let next = BoundedSummary::<S>::one(number);
     match before {
         None => next,
-        Some(before) => Kept::join(before, &next),
+        Some(before) => BoundedSummary::join(before, &next),
     }
 }
 
 /// The fold of numbers, of which there may be none, and one more after them.
 #[inline(always)]
 pub(crate) fn fold_behind<S: Summary<Item = i64> + Drop>(
-    before: &Option<Kept<S>>,
+    before: &Option<BoundedSummary<S>>,
     number: i64,
 ) -> Result<i64, Fault>
     ensures { (numbers : List ℤ) → IsSummaryOrNone S.step (λ k. S.item_count k.summary) (λ k. S.outcome k.summary) numbers before.now

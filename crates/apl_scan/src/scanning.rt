@@ -23,7 +23,7 @@ use std::alloc::Global;
 use std::thread::Threads;
 
 /// The array of this shape with one number at all places, or the fault.
-fn everywhere<R: Threads + Sync, C: Cut + Sync, G: Gate + Sync>(
+fn constant_array<R: Threads + Sync, C: Cut + Sync, G: Gate + Sync>(
     rt: &R,
     alloc: Global,
     pool: &Pool<C, G>,
@@ -73,11 +73,11 @@ fn scan_items<R: Threads + Sync, C: Cut + Sync, G: Gate + Sync>(
     ensures { IsAnswerOf (answer_of b.now.shape (λ index. scanned f b.now.kind (items_up_to b.now k index)) Number) result }
 {
     if b.shape().count() == 0 {
-        return everywhere(rt, alloc, pool, b.shape().copy(alloc)?, Ok(0));
+        return constant_array(rt, alloc, pool, b.shape().copy(alloc)?, Ok(0));
     }
     match b.numbers() {
         Some(numbers) => scan_numbers(rt, alloc, pool, f, b, numbers, k),
-        None => everywhere(rt, alloc, pool, b.shape().copy(alloc)?, Err(Fault::Domain)),
+        None => constant_array(rt, alloc, pool, b.shape().copy(alloc)?, Err(Fault::Domain)),
     }
 }
 
@@ -97,7 +97,7 @@ pub fn scan<R: Threads + Sync, C: Cut + Sync, G: Gate + Sync>(
     ensures { Answers (scan_row f b.now axis) result }
 {
     let rank = b.shape().rank();
-    let Some(k) = axis.among(rank) else {
+    let Some(k) = axis.resolve(rank) else {
         return Err(OpFault::Index);
     };
     if rank == 0 || b.shape().axis(k) < 2 {

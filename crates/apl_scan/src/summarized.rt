@@ -10,12 +10,12 @@ ghost use Rattle.apl_scan.specs.declared.chunks.TheConstants.{CHUNK};
 ghost use Rattle.apl_scan.specs.Lines.{scan_at};
 ghost use Rattle.apl_scan.specs.Running.{stretch, IsChunkBefore, AreUpToChunks};
 
+use crate::bounded_summary::BoundedSummary;
 use crate::chunks::{CHUNK, Chunks, summarize};
-use crate::kept::Kept;
 use crate::running::{fold_behind, with_next};
 use apl_array::ScalarFunction;
 use apl_divisor::Divisor;
-use apl_pool::{Cut, Fault, Folds, Gate, Kernel, Pool, Stop, Summary};
+use apl_pool::{Cut, Fault, Gate, Kernel, Pool, RowSummaries, Stop, Summary};
 use apl_summary::{Running, with_summary};
 use std::alloc::{AllocError, Global};
 use std::thread::Threads;
@@ -28,7 +28,7 @@ struct Scans<'a, S: Summary<Item = i64>> {
     items: Divisor,
     /// How many beginnings of a line have a summary: that of one chunk, of two and so on.
     per_line: usize,
-    beginnings: &'a [Kept<S>],
+    beginnings: &'a [BoundedSummary<S>],
     ghost most: { length numbers.now ≤ MOST_PLACES },
     ghost beginnings_most: { length beginnings.now ≤ MOST_PLACES },
     ghost chunks: { items ≤ (per_line + 1) * CHUNK },
@@ -62,7 +62,7 @@ impl<S: Running + Copy + Drop> Scans<'_, S> {
     }
 
     /// The summary of the whole chunks of a line before a place, if there are some.
-    fn chunks_before(&self, place: usize) -> Option<Kept<S>>
+    fn chunks_before(&self, place: usize) -> Option<BoundedSummary<S>>
         requires { place < length self.now.numbers.now }
         ensures { IsSummaryOrNone S.step (λ k. S.item_count k.summary) (λ k. S.outcome k.summary) (stretch self.now.numbers.now (place - place % self.now.items) (place % self.now.items / CHUNK * CHUNK)) result }
     {
@@ -74,7 +74,7 @@ impl<S: Running + Copy + Drop> Scans<'_, S> {
     }
 
     /// The summary of the numbers of a line before a place, if there are some.
-    fn before(&self, place: usize) -> Option<Kept<S>>
+    fn before(&self, place: usize) -> Option<BoundedSummary<S>>
         requires { place < length self.now.numbers.now }
         ensures { IsSummaryOrNone S.step (λ k. S.item_count k.summary) (λ k. S.outcome k.summary) (stretch self.now.numbers.now (place - place % self.now.items) (place % self.now.items)) result }
     {
@@ -102,7 +102,12 @@ impl<S: Running + Copy + Drop> Scans<'_, S> {
     /// Puts the folds up to the places from `from` on into the room, if the summaries do so themselves. All places are in one line. It says
     /// how many folds they are.
     #[inline(always)]
-    fn put_folds(&self, running: &Option<Kept<S>>, from: usize, room: &mut [i64]) -> usize
+    fn scan_by_summary(
+        &self,
+        running: &Option<BoundedSummary<S>>,
+        from: usize,
+        room: &mut [i64],
+    ) -> usize
         requires within { from + length room.old ≤ length self.now.numbers.now }
         requires line { from % self.now.items + length room.old ≤ self.now.items }
         requires running { IsSummaryOrNone S.step (λ k. S.item_count k.summary) (λ k. S.outcome k.summary) (stretch self.now.numbers.now (from - from % self.now.items) (from % self.now.items)) running.now }
@@ -111,7 +116,7 @@ impl<S: Running + Copy + Drop> Scans<'_, S> {
         ensures len { length room.new ≡ length room.old }
     {
         let numbers = &self.numbers[from..from + room.len()];
-        S::put_folds(&Kept::summary_of(running), numbers, room)
+        S::scan_run(&BoundedSummary::summary_of(running), numbers, room)
     }
 
     /// Puts the folds up to the places from `from` on into the room, up to before the first that has a fault. All places are in one line.
@@ -125,7 +130,7 @@ impl<S: Running + Copy + Drop> Scans<'_, S> {
         ensures len { length room.new ≡ length room.old }
     {
         let mut running = self.before(from);
-        let done = self.put_folds(&running, from, room);
+        let done = self.scan_by_summary(&running, from, room);
         if done > 0 {
             return done;
         }
@@ -182,7 +187,7 @@ fn summarize_lines<
     numbers: &[i64],
     items: usize,
     per_line: usize,
-) -> Result<Folds<Kept<S>>, Stop>
+) -> Result<RowSummaries<BoundedSummary<S>>, Stop>
     requires most { length numbers.now ≤ MOST_PLACES }
     requires items { (0 < items) × (items ≤ MOST_PLACES) }
     requires within { per_line * CHUNK < items }
@@ -191,7 +196,7 @@ fn summarize_lines<
     ensures memory { IfErr result (λ stop. stop ≡ Stop.Memory) }
 {
     if per_line == 0 {
-        return Ok(Folds {
+        return Ok(RowSummaries {
             summaries: Vec::new(alloc),
             end: Ok(()),
             copies: Vec::new(alloc),
@@ -213,12 +218,12 @@ fn put_line<S: Running>(alloc: Global, numbers: &[i64]) -> Result<Option<Vec<i64
     ensures { IfOk result (λ line. IfSome line (λ v. AreValues (scan_at S.step numbers.now (length numbers.now) 1) (length numbers.now) v.items)) }
 {
     let mut first = [0];
-    if S::put_folds(&None, &numbers[..1], &mut first) == 0 {
+    if S::scan_run(&None, &numbers[..1], &mut first) == 0 {
         return Ok(None);
     }
     let mut values = Vec::with_capacity(alloc, numbers.len())?;
     append_ones(&mut values, numbers.len());
-    if S::put_folds(&None, numbers, values.as_mut_slice()) < numbers.len() {
+    if S::scan_run(&None, numbers, values.as_mut_slice()) < numbers.len() {
         return Ok(None);
     }
     Ok(Some(values))
@@ -266,7 +271,9 @@ fn fill_summarized<
         }
     }
     let per_line = (items - 1) / CHUNK;
-    let before: Folds<Kept<S>> = summarize_lines(rt, alloc, pool, numbers, items, per_line)?;
+    let before: RowSummaries<BoundedSummary<S>> = summarize_lines(
+        rt, alloc, pool, numbers, items, per_line,
+    )?;
     let beginnings = before.summaries;
     let room = before.copies;
     let scans = Scans {

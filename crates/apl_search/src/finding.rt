@@ -6,11 +6,11 @@ ghost use Rattle.apl_search.specs.Ordering.{upwards};
 ghost use Rattle.apl_search.specs.Sorting.{AreInOrder};
 
 use crate::sorting::{Keyed, Placed, Upwards, in_order};
-use apl_answer::Element;
+use apl_answer::ElementType;
 use std::alloc::{AllocError, Global};
 
 /// An element that is found by a number: elements are the same exactly where their numbers are.
-pub(crate) trait Sought: Element + Keyed {
+pub(crate) trait Searchable: ElementType + Keyed {
     ghost use Rattle.std.specs.Prelude.{◌≡◌};
     ghost use Rattle.std.specs.Ordering.{int_eq};
     ghost use Rattle.apl_search.specs.Searching.{is_same_element};
@@ -19,17 +19,17 @@ pub(crate) trait Sought: Element + Keyed {
         ensures { (x y : Self) → is_same_element (Self.elem_of x) (Self.elem_of y) ≡ int_eq (Self.key x) (Self.key y) };
 }
 
-impl Sought for i64 {
+impl Searchable for i64 {
     fn key_decides() {}
 }
 
-impl Sought for char {
+impl Searchable for char {
     fn key_decides() {}
 }
 
 /// A list whose elements are found in their order.
 #[derive(Drop)]
-pub(crate) struct Sorted<'a, T: Sought> {
+pub(crate) struct Sorted<'a, T: Searchable> {
     elements: &'a [T],
     placed: Vec<Placed>,
     ghost most: { length elements.now ≤ MOST_PLACES },
@@ -38,7 +38,7 @@ pub(crate) struct Sorted<'a, T: Sought> {
     ghost below: { All (λ p. p.place < length elements.now) placed.items },
 }
 
-impl<'a, T: Sought> Sorted<'a, T> {
+impl<'a, T: Searchable> Sorted<'a, T> {
     /// The list, with its elements' places in the order of their numbers.
     pub(crate) fn new(alloc: Global, elements: &'a [T]) -> Result<Self, AllocError>
         requires { length elements.now ≤ MOST_PLACES }

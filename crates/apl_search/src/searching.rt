@@ -11,7 +11,7 @@ ghost use Rattle.apl_answer.specs.Rows.{Answers};
 ghost use Rattle.apl_search.specs.Finding.{found_outcome, member_outcome};
 ghost use Rattle.apl_search.specs.Searching.{index_of_row, member_row};
 
-use crate::finding::{Sorted, Sought};
+use crate::finding::{Searchable, Sorted};
 use crate::workers::Workers;
 use apl_answer::{OpFault, array_from_fill, fill_array, fill_uniform};
 use apl_array::{Array, Origin, places_match_index_lists};
@@ -21,7 +21,7 @@ use std::thread::Threads;
 
 /// The first place of each element in a list, counted from `first`.
 #[derive(Drop)]
-struct FirstPlaces<'a, T: Sought> {
+struct FirstPlaces<'a, T: Searchable> {
     elements: &'a [T],
     list: Sorted<'a, T>,
     first: usize,
@@ -29,7 +29,7 @@ struct FirstPlaces<'a, T: Sought> {
     ghost origin: { first ≤ 1 },
 }
 
-impl<T: Sought> Kernel for FirstPlaces<'_, T> {
+impl<T: Searchable> Kernel for FirstPlaces<'_, T> {
     ghost use Rattle.std.specs.Prelude.{Ok, pos, ◌+◌};
     ghost use Rattle.apl_search.specs.Finding.{first_place, element_of};
 
@@ -52,13 +52,13 @@ impl<T: Sought> Kernel for FirstPlaces<'_, T> {
 
 /// 1 for each element that is in a list, else 0.
 #[derive(Drop)]
-struct Members<'a, T: Sought> {
+struct Members<'a, T: Searchable> {
     elements: &'a [T],
     list: Sorted<'a, T>,
     ghost most: { length elements.now ≤ MOST_PLACES },
 }
 
-impl<T: Sought> Kernel for Members<'_, T> {
+impl<T: Searchable> Kernel for Members<'_, T> {
     ghost use Rattle.std.specs.Prelude.{Ok, pos};
     ghost use Rattle.apl_search.specs.Finding.{member_number, element_of};
 
@@ -81,7 +81,7 @@ impl<T: Sought> Kernel for Members<'_, T> {
 
 impl<R: Threads + Sync, C: Cut + Sync, G: Gate + Sync> Workers<'_, R, C, G> {
     /// The first place in a list of each of an array's elements, counted from the origin.
-    fn first_places<T: Sought + Sync>(
+    fn first_places<T: Searchable + Sync>(
         &self,
         list: &[T],
         b: &Array,
@@ -105,7 +105,7 @@ impl<R: Threads + Sync, C: Cut + Sync, G: Gate + Sync> Workers<'_, R, C, G> {
     }
 
     /// 1 for each of an array's elements that is in a list, else 0.
-    fn members<T: Sought + Sync>(
+    fn members<T: Searchable + Sync>(
         &self,
         a: &Array,
         elements: &[T],
@@ -123,7 +123,7 @@ impl<R: Threads + Sync, C: Cut + Sync, G: Gate + Sync> Workers<'_, R, C, G> {
     }
 
     /// One number at all places of an array's shape.
-    fn everywhere(&self, b: &Array, number: usize) -> Result<Array, OpFault>
+    fn constant_array(&self, b: &Array, number: usize) -> Result<Array, OpFault>
         requires fits { number ≤ MOST_PLACES + 1 }
         ensures { (outcome : List ℕ → Result Elem Fault) → ((place : ℕ) → place < count_of b.now.shape → Ok (Int (pos number)) ≡ outcome (index_at b.now.shape place))
             → IsAnswerOf (answer_of b.now.shape outcome Number) result }
@@ -156,7 +156,7 @@ pub fn index_of<R: Threads + Sync, C: Cut + Sync, G: Gate + Sync>(
     let past = origin.number() as usize + a.shape().count();
     if let Some(list) = a.numbers() {
         let Some(elements) = b.numbers() else {
-            return workers.everywhere(b, past);
+            return workers.constant_array(b, past);
         };
         return workers.first_places(list, b, elements, origin);
     }
@@ -164,7 +164,7 @@ pub fn index_of<R: Threads + Sync, C: Cut + Sync, G: Gate + Sync>(
         unreachable!()
     };
     let Some(elements) = b.characters() else {
-        return workers.everywhere(b, past);
+        return workers.constant_array(b, past);
     };
     workers.first_places(list, b, elements, origin)
 }
@@ -185,7 +185,7 @@ pub fn member<R: Threads + Sync, C: Cut + Sync, G: Gate + Sync>(
     places_match_index_lists();
     if let Some(list) = b.numbers() {
         let Some(elements) = a.numbers() else {
-            return workers.everywhere(a, 0);
+            return workers.constant_array(a, 0);
         };
         return workers.members(a, elements, list);
     }
@@ -193,7 +193,7 @@ pub fn member<R: Threads + Sync, C: Cut + Sync, G: Gate + Sync>(
         unreachable!()
     };
     let Some(elements) = a.characters() else {
-        return workers.everywhere(a, 0);
+        return workers.constant_array(a, 0);
     };
     workers.members(a, elements, list)
 }

@@ -6,7 +6,7 @@ pub mod Axes
 pub mod Building
 pub mod Joining
 pub mod Taking
-pub mod Moving
+pub mod Rearranging
 pub mod Compressing
 pub mod Indexing
 

@@ -7,7 +7,7 @@ use Rattle.std.proofs.lemmas.List.Sums.{AllPass-from_list_all}
 use Rattle.std.proofs.lemmas.Map.Views.{Contains-from_any}
 use Rattle.apl_array.specs.Shape.{IsShape}
 use Rattle.apl_array.specs.Transposition.{transposed_shape}
-use Rattle.apl_struct.specs.Moving.{named_axes, are_all_named}
+use Rattle.apl_struct.specs.Rearranging.{named_axes, are_all_named}
 
 pub names_below : (axes : List ℕ) (k d : ℕ) → k < length axes → get_or axes k d < named_axes axes
 names_below [] k d inside = absurd (omega (arith, inside))

@@ -8,36 +8,36 @@ use Rattle.std.proofs.lemmas.List.{get_or-reverse, length-reverse, ext_get_or}
 use Rattle.std.proofs.lemmas.List.FromFn.{length-range_with_len, get_or-range_with_len}
 use Rattle.std.proofs.Math.Nat.{mod-lt, mul-le-mul_right}
 use Rattle.apl_array.specs.Shape.{IsShape, count_of, index_at}
-use Rattle.apl_array.specs.Transposition.{AreAxesInto, strides, becoming, inner_product}
+use Rattle.apl_array.specs.Transposition.{AreAxesInto, strides, items_onto, inner_product}
 use Rattle.apl_walk.specs.declared.window.Window.{Window}
 use Rattle.apl_walk.specs.Steps.{and_step}
 use Rattle.apl_walk.specs.Maps.{step_of}
 use Rattle.apl_struct.proofs.Taken.{pos_left, pos_right}
 
-sum-becoming : (axis a x : ℕ) (axes items : List ℕ)
-    → sum (becoming axis (a ∷ axes) (x ∷ items)) ≡ (if a == axis then x else 0) + sum (becoming axis axes items)
-sum-becoming axis a x axes items = by_test (a == axis)
+sum-items_onto : (axis a x : ℕ) (axes items : List ℕ)
+    → sum (items_onto axis (a ∷ axes) (x ∷ items)) ≡ (if a == axis then x else 0) + sum (items_onto axis axes items)
+sum-items_onto axis a x axes items = by_test (a == axis)
   where
-    by_test : (b : Bool) → sum (if b then x ∷ becoming axis axes items else becoming axis axes items) ≡ (if b then x else 0) + sum (becoming axis axes items)
-    by_test true = sum_by-cons (λ n. n) x (becoming axis axes items)
+    by_test : (b : Bool) → sum (if b then x ∷ items_onto axis axes items else items_onto axis axes items) ≡ (if b then x else 0) + sum (items_onto axis axes items)
+    by_test true = sum_by-cons (λ n. n) x (items_onto axis axes items)
     by_test false = omega arith
 
 pub stride_more : (axis a n : ℕ) (axes ns : List ℕ) → a ≡ axis
-    → sum (becoming axis (a ∷ axes) (strides (n ∷ ns))) ≡ sum (becoming axis axes (strides ns)) + count_of ns
+    → sum (items_onto axis (a ∷ axes) (strides (n ∷ ns))) ≡ sum (items_onto axis axes (strides ns)) + count_of ns
 stride_more axis a n axes ns is =
     let own : (if a == axis then count_of ns else 0) ≡ count_of ns = ap (λ b. if b then count_of ns else 0) (eq-eqb a axis is) in
-    omega (arith, sum-becoming axis a (count_of ns) axes (strides ns), own)
+    omega (arith, sum-items_onto axis a (count_of ns) axes (strides ns), own)
 
 pub stride_other : (axis a n : ℕ) (axes ns : List ℕ) → (a ≡ axis → ⊥)
-    → sum (becoming axis (a ∷ axes) (strides (n ∷ ns))) ≡ sum (becoming axis axes (strides ns))
+    → sum (items_onto axis (a ∷ axes) (strides (n ∷ ns))) ≡ sum (items_onto axis axes (strides ns))
 stride_other axis a n axes ns other =
     let own : (if a == axis then count_of ns else 0) ≡ 0 = ap (λ b. if b then count_of ns else 0) (ne_eqb a axis other) in
-    omega (arith, sum-becoming axis a (count_of ns) axes (strides ns), own)
+    omega (arith, sum-items_onto axis a (count_of ns) axes (strides ns), own)
 
 -- the steps along an axis of the result stay near
 pub stride_near : (axis m : ℕ) (axes source : List ℕ) → length axes ≡ length source
     → ((k : ℕ) → k < length source → slice_index axes k ≡ axis → m ≤ slice_index source k) → 0 < count_of source → count_of source ≤ 2 ^ 30
-    → m * sum (becoming axis axes (strides source)) ≤ length source * 2 ^ 30
+    → m * sum (items_onto axis axes (strides source)) ≤ length source * 2 ^ 30
 stride_near axis m [] [] len fits some most = omega arith
 stride_near axis m [] (n ∷ ns) len fits some most = absurd (omega (arith, len))
 stride_near axis m (a ∷ axes) [] len fits some most = absurd (omega (arith, len))
@@ -47,16 +47,16 @@ stride_near axis m (a ∷ axes) (n ∷ ns) len fits some most =
     let rest = stride_near axis m axes ns (omega (arith, len)) (λ k inside is. fits (suc k) (omega arith) is) (pos_right n (count_of ns) some) (omega (arith, less, most)) in
     near (a == axis) refl rest
   where
-    near : (b : Bool) → (a == axis) ≡ b → m * sum (becoming axis axes (strides ns)) ≤ length ns * 2 ^ 30
-        → m * sum (becoming axis (a ∷ axes) (strides (n ∷ ns))) ≤ length (n ∷ ns) * 2 ^ 30
+    near : (b : Bool) → (a == axis) ≡ b → m * sum (items_onto axis axes (strides ns)) ≤ length ns * 2 ^ 30
+        → m * sum (items_onto axis (a ∷ axes) (strides (n ∷ ns))) ≤ length (n ∷ ns) * 2 ^ 30
     near true test rest =
         let own : (if a == axis then count_of ns else 0) ≡ count_of ns = ap (λ b. if b then count_of ns else 0) test in
-        let all : sum (becoming axis (a ∷ axes) (strides (n ∷ ns))) ≡ count_of ns + sum (becoming axis axes (strides ns)) = omega (arith, sum-becoming axis a (count_of ns) axes (strides ns), own) in
+        let all : sum (items_onto axis (a ∷ axes) (strides (n ∷ ns))) ≡ count_of ns + sum (items_onto axis axes (strides ns)) = omega (arith, sum-items_onto axis a (count_of ns) axes (strides ns), own) in
         let short : m * count_of ns ≤ n * count_of ns = mul-le-mul_right (count_of ns) (fits 0 (omega arith) (eqb-true a axis test)) in
         omega (arith, rest, short, most, ap (λ s. m * s) all)
     near false test rest =
         let own : (if a == axis then count_of ns else 0) ≡ 0 = ap (λ b. if b then count_of ns else 0) test in
-        let all : sum (becoming axis (a ∷ axes) (strides (n ∷ ns))) ≡ sum (becoming axis axes (strides ns)) = omega (arith, sum-becoming axis a (count_of ns) axes (strides ns), own) in
+        let all : sum (items_onto axis (a ∷ axes) (strides (n ∷ ns))) ≡ sum (items_onto axis axes (strides ns)) = omega (arith, sum-items_onto axis a (count_of ns) axes (strides ns), own) in
         omega (arith, rest, ap (λ s. m * s) all)
 
 -- one more axis, all of whose indexes are taken

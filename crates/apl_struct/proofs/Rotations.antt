@@ -6,7 +6,7 @@ use Rattle.apl_array.specs.declared.array.Elem.TheVariants.{Int}
 use Rattle.apl_array.specs.Array.{ArrayValue}
 use Rattle.apl_array.specs.Shape.{place_of}
 use Rattle.apl_answer.specs.Arguments.{number_of, numbers_of, has_one_element}
-use Rattle.apl_struct.specs.Moving.{rotation_at}
+use Rattle.apl_struct.specs.Rearranging.{rotation_at}
 
 pub number_in : (elements : List Elem) (place : ℕ) → number_of (slice_index_or elements place (Int (pos 0))) ≡ slice_index_or (map number_of elements) place (pos 0)
 number_in [] place = refl

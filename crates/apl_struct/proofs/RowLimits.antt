@@ -15,7 +15,7 @@ use Rattle.apl_answer.specs.Rows.{Row, HavePassed, result_of}
 use Rattle.apl_struct.specs.Building.{shape_of_row, ravel_row, reshape_row, iota_row}
 use Rattle.apl_struct.specs.Joining.{joined_rank, slices_shape, catenate_row}
 use Rattle.apl_struct.specs.Taking.{take_row, drop_row}
-use Rattle.apl_struct.specs.Moving.{reverse_row, rotate_row, transpose_row, are_all_named, transpose_by_row}
+use Rattle.apl_struct.specs.Rearranging.{reverse_row, rotate_row, transpose_row, are_all_named, transpose_by_row}
 use Rattle.apl_struct.specs.Compressing.{as_vector, replicate_row, expand_row}
 use Rattle.apl_struct.specs.Indexing.{Slots, selected_shape, last_choice, select_row, replace_row}
 use Rattle.apl_struct.proofs.LawfulShapes.{lawful_vector, lawful_reverse, axis_most}

@@ -6,7 +6,7 @@ use Rattle.std.proofs.lemmas.Bool.{cases_lt}
 use Rattle.std.proofs.lemmas.Int.{ints, int_rem_euclid_is}
 use Rattle.std.proofs.Math.Nat.{div-one, div-div-eq-div-mul, mod-one, mod-lt, mod-eq_of_lt, mod-eq-sub-mod, add-mod-mod, mod-add-div'}
 use Rattle.apl_array.specs.Axes.{place_number}
-use Rattle.apl_struct.specs.Moving.{rotated_index}
+use Rattle.apl_struct.specs.Rearranging.{rotated_index}
 use Rattle.apl_struct.specs.Rotation.{rotation_of, turned_place}
 use Rattle.apl_walk.specs.Steps.{wrapped, rotated_place}
 

@@ -3,7 +3,7 @@ pub mod Gathering
 pub mod Building
 pub mod Joining
 pub mod Taking
-pub mod Moving
+pub mod Rearranging
 pub mod Compressing
 pub mod Expanding
 pub mod Replicating

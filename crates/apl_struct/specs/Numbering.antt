@@ -8,9 +8,9 @@ use Rattle.apl_answer.specs.declared.fault.OpFault.TheVariants.{Rank, Length, Do
 use Rattle.apl_answer.specs.Rows.{Check}
 
 -- the place that a walk reaches, and 0 where it reaches none
-abbrev pub reached : Option ℕ → ℕ
-reached (Some place) = place
-reached None = 0
+abbrev pub place_or_zero : Option ℕ → ℕ
+place_or_zero (Some place) = place
+place_or_zero None = 0
 
 -- it reaches a place below n
 abbrev pub IsReached : ℕ → Option ℕ → Type 0

@@ -15,10 +15,10 @@ ghost use Rattle.apl_struct.specs.Building.{shape_of_row, ravel_row, reshape_sou
 
 use crate::arguments::numbers_among;
 use crate::workers::Workers;
-use apl_answer::{Element, OpFault, fill_array};
+use apl_answer::{ElementType, OpFault, fill_array};
 use apl_array::{Array, MOST_AXES, MOST_ELEMENTS, Origin, Shape, places_match_index_lists};
 use apl_pool::{Cut, Fault, Gate, Kernel, Pool};
-use apl_walk::{ByLines, Round};
+use apl_walk::{ByLines, Cyclic};
 use smallvec::SmallVec;
 use std::alloc::Global;
 use std::thread::Threads;
@@ -91,7 +91,7 @@ pub fn ravel<R: Threads + Sync, C: Cut + Sync, G: Gate + Sync>(
 }
 
 impl<R: Threads + Sync, C: Cut + Sync, G: Gate + Sync> Workers<'_, R, C, G> {
-    fn repeat_elements<T: Element + Send + Sync>(
+    fn repeat_elements<T: ElementType + Send + Sync>(
         &self,
         shape: Shape,
         b: &Array,
@@ -104,7 +104,7 @@ impl<R: Threads + Sync, C: Cut + Sync, G: Gate + Sync> Workers<'_, R, C, G> {
     {
         // An array that was asked something is known to be lawful.
         let _size = b.shape().count();
-        let kernel = ByLines::new(Round::new(elements, T::fill(), shape.count()));
+        let kernel = ByLines::new(Cyclic::new(elements, T::fill(), shape.count()));
         fill_array(self.rt, self.alloc, self.pool, shape, &kernel)
     }
 

@@ -63,7 +63,7 @@ pub fn expand<R: Threads + Sync, C: Cut + Sync, G: Gate + Sync>(
     ensures { Answers (expand_row a.now b.now axis) result }
 {
     let workers = Workers { rt, alloc, pool };
-    let Some(k) = axis.among(vector_rank(b)) else {
+    let Some(k) = axis.resolve(vector_rank(b)) else {
         return Err(OpFault::Index);
     };
     if a.shape().rank() > 1 {

@@ -6,7 +6,7 @@ ghost use Rattle.apl_array.specs.Array.{element_at};
 ghost use Rattle.apl_answer.specs.Pointwise.{answer_of, IsAnswerOf};
 ghost use Rattle.apl_answer.specs.Rows.{Answers};
 ghost use Rattle.apl_struct.specs.Indexing.{is_slot_of_numbers, is_slot_within, are_slots_within, selected_shape, selection_checks, select_source, select_row};
-ghost use Rattle.apl_struct.specs.Selecting.{IsJudged, IsSelection};
+ghost use Rattle.apl_struct.specs.Selecting.{IsCheckedResult, IsSelection};
 
 use crate::arguments::numbers_among;
 use crate::selecting::{are_arrays, selected_walk};
@@ -111,7 +111,7 @@ pub(crate) fn selected_shape(
     slots: &[Option<&Array>],
     origin: Origin,
 ) -> Result<Shape, OpFault>
-    ensures { IsJudged (selection_checks a.now (map option_copied slots.now) origin) (IsSelection a.now (map option_copied slots.now) origin) result }
+    ensures { IsCheckedResult (selection_checks a.now (map option_copied slots.now) origin) (IsSelection a.now (map option_copied slots.now) origin) result }
 {
     let lengths = a.shape().lengths();
     if slots.len() != lengths.len() {

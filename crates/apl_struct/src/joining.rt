@@ -12,7 +12,7 @@ ghost use Rattle.apl_struct.specs.Joining.{joined_rank, can_join, slices_shape, 
 
 use crate::slices::{Joint, joint_of};
 use crate::workers::Workers;
-use apl_answer::{Element, OpFault, fill_array};
+use apl_answer::{ElementType, OpFault, fill_array};
 use apl_array::{
     Array, Axis, Kind, MOST_AXES, Shape, changed_axis_has_place, places_match_index_lists,
     replaced_index_has_place,
@@ -109,7 +109,7 @@ fn seam_along(shape: &Shape, k: usize, left: usize, right: usize) -> Seam
 
 impl<R: Threads + Sync, C: Cut + Sync, G: Gate + Sync> Workers<'_, R, C, G> {
     /// The array of this shape whose lines have the elements of two arguments by turns.
-    fn join_elements<T: Element + Send + Sync>(
+    fn join_elements<T: ElementType + Send + Sync>(
         &self,
         shape: Shape,
         a: &Array,
@@ -183,7 +183,7 @@ pub fn catenate<R: Threads + Sync, C: Cut + Sync, G: Gate + Sync>(
 {
     let workers = Workers { rt, alloc, pool };
     let rank = joined_rank(a, b);
-    let Some(k) = axis.among(rank) else {
+    let Some(k) = axis.resolve(rank) else {
         return Err(OpFault::Index);
     };
     if !can_join(a, b) {

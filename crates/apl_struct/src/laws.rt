@@ -8,7 +8,7 @@ ghost use Rattle.apl_answer.specs.Rows.{result_of};
 ghost use Rattle.apl_struct.specs.Building.{shape_of_row, ravel_row, reshape_row, iota_row};
 ghost use Rattle.apl_struct.specs.Joining.{catenate_row};
 ghost use Rattle.apl_struct.specs.Taking.{take_row, drop_row};
-ghost use Rattle.apl_struct.specs.Moving.{reverse_row, rotate_row, transpose_row, transpose_by_row};
+ghost use Rattle.apl_struct.specs.Rearranging.{reverse_row, rotate_row, transpose_row, transpose_by_row};
 ghost use Rattle.apl_struct.specs.Compressing.{replicate_row, expand_row};
 ghost use Rattle.apl_struct.specs.Indexing.{Slots, select_row, replace_row};
 

@@ -3,7 +3,7 @@ ghost use Rattle.std.specs.Prelude.{◌≡◌, ◌==◌, ◌<◌, ◌^◌, All, 
 ghost use Rattle.std.specs.List.{list_all, list_any};
 ghost use Rattle.apl_array.specs.Axes.{from_origin, place_number};
 ghost use Rattle.apl_answer.specs.Arguments.{is_natural};
-ghost use Rattle.apl_struct.specs.Moving.{named_axes, are_all_named};
+ghost use Rattle.apl_struct.specs.Rearranging.{named_axes, are_all_named};
 
 use apl_array::Origin;
 use std::alloc::{AllocError, Global};

@@ -4,12 +4,12 @@ ghost use Rattle.std.specs.List.{range_with_len};
 ghost use Rattle.apl_array.specs.declared.array.Elem.{Elem};
 ghost use Rattle.apl_array.specs.Array.{element_at};
 ghost use Rattle.apl_array.specs.Shape.{IsShape, IsIndexOf, count_of, index_at};
-ghost use Rattle.apl_array.specs.Transposition.{AreAxesInto, strides, becoming, least, inner_product, source_index, transposed_shape, source_strides};
+ghost use Rattle.apl_array.specs.Transposition.{AreAxesInto, strides, items_onto, least, inner_product, source_index, transposed_shape, source_strides};
 ghost use Rattle.apl_pool.specs.declared.kernel.TheConstants.{MOST_PLACES};
 ghost use Rattle.apl_answer.specs.Pointwise.{answer_of, IsAnswerOf};
 ghost use Rattle.apl_answer.specs.Rows.{Answers};
 ghost use Rattle.apl_walk.specs.declared.map.TheConstants.{MOST_STEP};
-ghost use Rattle.apl_struct.specs.Moving.{are_all_named, named_axes, transpose_row, transpose_by_row};
+ghost use Rattle.apl_struct.specs.Rearranging.{are_all_named, named_axes, transpose_row, transpose_by_row};
 ghost use Rattle.apl_walk.specs.Maps.{extent_of, walked};
 ghost use Rattle.apl_walk.specs.Walks.{maps_of};
 
@@ -32,7 +32,7 @@ use std::thread::Threads;
 fn stride_along(argument: &Shape, axes: &[usize], j: usize) -> usize
     requires some { 0 < count_of argument.now }
     requires len { length axes.now ≡ length argument.now }
-    ensures sum { result ≡ sum (becoming j axes.now (strides argument.now)) }
+    ensures sum { result ≡ sum (items_onto j axes.now (strides argument.now)) }
     ensures lawful { IsShape argument.now }
 {
     let mut stride = 0;
@@ -183,8 +183,8 @@ fn transposed_lengths(
 
 /// The least of the lengths of the axes that become axis `j`, where there is one.
 fn least_becoming(j: usize, axes: &[usize], lengths: &[usize]) -> Option<usize>
-    ensures { MatchOption result (becoming j axes.now lengths.now ≡ [])
-        (λ n. (0 < length (becoming j axes.now lengths.now)) × (least (becoming j axes.now lengths.now) ≡ n)) }
+    ensures { MatchOption result (items_onto j axes.now lengths.now ≡ [])
+        (λ n. (0 < length (items_onto j axes.now lengths.now)) × (least (items_onto j axes.now lengths.now) ≡ n)) }
 {
     let [axis, axes @ ..] = axes else {
         return None;

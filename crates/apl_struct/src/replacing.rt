@@ -12,14 +12,14 @@ ghost use Rattle.apl_struct.specs.Indexing.{last_choice, replaced_element, repla
 ghost use Rattle.apl_walk.specs.declared.maps.TheConstants.{MOST_MAPS};
 ghost use Rattle.apl_walk.specs.Maps.{map_extent, map_step, extent_of, walked};
 ghost use Rattle.apl_walk.specs.Steps.{and_step};
-ghost use Rattle.apl_struct.specs.Selecting.{IsJudged, IsSelection};
-ghost use Rattle.apl_struct.specs.Numbering.{reached, IsReached, last_number, value_numbered, element_numbered, replacement_checks, value_step, IsReplacement};
+ghost use Rattle.apl_struct.specs.Selecting.{IsCheckedResult, IsSelection};
+ghost use Rattle.apl_struct.specs.Numbering.{place_or_zero, IsReached, last_number, value_numbered, element_numbered, replacement_checks, value_step, IsReplacement};
 
 use crate::arguments::is_same_shape;
 use crate::indexing::selected_shape;
 use crate::selecting::{are_arrays, selected_walk};
 use crate::workers::Workers;
-use apl_answer::{Element, OpFault, array_from_fill, array_of_elements};
+use apl_answer::{ElementType, OpFault, array_from_fill, array_of_elements};
 use apl_array::{Array, Origin, Shape, places_match_index_lists};
 use apl_pool::{Cut, Gate, Pool, Stop};
 use apl_walk::{AxisMap, ByLines, Gathered, Map, Window, element_or, start_at};
@@ -40,7 +40,7 @@ fn write_line<T: Copy>(
     requires step { step ≤ 1 }
     requires most { from + map_extent last ≤ MOST_PLACES }
     requires within { (i : ℕ) → i < map_extent last → IsReached (length room.old) (and_step (map_step last i) (Some base)) }
-    ensures values { (choice : ℕ → ℕ) (elements : List T) → ((i : ℕ) → i < map_extent last.entry → reached (and_step (map_step last.entry i) (Some base)) ≡ choice (from + i))
+    ensures values { (choice : ℕ → ℕ) (elements : List T) → ((i : ℕ) → i < map_extent last.entry → place_or_zero (and_step (map_step last.entry i) (Some base)) ≡ choice (from + i))
         → ((p : ℕ) → p < length room.old → slice_index_or room.old p fill ≡ value_numbered elements values.now fill (last_number choice step p from) p)
         → (p : ℕ) → p < length room.old → slice_index_or room.new p fill ≡ value_numbered elements values.now fill (last_number choice step p (from + map_extent last.entry)) p }
     ensures len { length room.new ≡ length room.old }
@@ -69,7 +69,7 @@ fn write_lines<T: Copy>(
     requires step { step ≤ 1 }
     requires within { (place : ℕ) → place < extent_of (last.now ∷ outer.now) → IsReached (length room.old) (walked (last.now ∷ outer.now) place) }
     ensures values { (p : ℕ) → p < length room.old → slice_index_or room.new p fill
-        ≡ value_numbered room.old values.now fill (last_number (λ place. reached (walked (last.now ∷ outer.now) place)) step p (extent_of (last.now ∷ outer.now))) p }
+        ≡ value_numbered room.old values.now fill (last_number (λ place. place_or_zero (walked (last.now ∷ outer.now) place)) step p (extent_of (last.now ∷ outer.now))) p }
     ensures len { length room.new ≡ length room.old }
 {
     let extent = last.extent();
@@ -83,7 +83,7 @@ fn write_lines<T: Copy>(
 
 impl<R: Threads + Sync, C: Cut + Sync, G: Gate + Sync> Workers<'_, R, C, G> {
     /// The elements again.
-    fn copied<T: Element + Send + Sync>(&self, elements: &[T]) -> Result<Vec<T>, Stop>
+    fn copied<T: ElementType + Send + Sync>(&self, elements: &[T]) -> Result<Vec<T>, Stop>
         requires some { 0 < length elements.now }
         requires most { length elements.now ≤ MOST_PLACES }
         ensures len { IfOk result (λ v. vec_len v ≡ length elements.now) }
@@ -97,7 +97,7 @@ impl<R: Threads + Sync, C: Cut + Sync, G: Gate + Sync> Workers<'_, R, C, G> {
     }
 
     /// The elements, but at each place that is chosen the value of the last choice of it.
-    fn replace_elements<T: Element + Send + Sync>(
+    fn replace_elements<T: ElementType + Send + Sync>(
         &self,
         shape: Shape,
         elements: &[T],
@@ -116,7 +116,7 @@ impl<R: Threads + Sync, C: Cut + Sync, G: Gate + Sync> Workers<'_, R, C, G> {
         requires within { (place : ℕ) → place < count → IsReached (count_of shape) (walked (last.now ∷ outer.now) place) }
         ensures { (element : List ℕ → Elem) → ((place : ℕ) → place < count_of shape
             → value_numbered (map T.elem_of elements.now) (map T.elem_of values.now) (fill_of T.kind)
-            (last_number (λ p. reached (walked (last.now ∷ outer.now) p)) step place count) place ≡ element (index_at shape place))
+            (last_number (λ p. place_or_zero (walked (last.now ∷ outer.now) p)) step place count) place ≡ element (index_at shape place))
             → IsAnswerOf (answer_of shape (λ index. Ok (element index)) T.kind) result }
     {
         let mut all = self.copied(elements)?;
@@ -152,7 +152,7 @@ impl<R: Threads + Sync, C: Cut + Sync, G: Gate + Sync> Workers<'_, R, C, G> {
         requires within { (place : ℕ) → place < count → IsReached (count_of shape) (walked (last.now ∷ outer.now) place) }
         requires kinds { a.now.kind ≡ b.now.kind }
         ensures { (element : List ℕ → Elem) → ((place : ℕ) → place < count_of shape
-            → element_numbered a.now b.now (last_number (λ p. reached (walked (last.now ∷ outer.now) p)) step place count) place ≡ element (index_at shape place))
+            → element_numbered a.now b.now (last_number (λ p. place_or_zero (walked (last.now ∷ outer.now) p)) step place count) place ≡ element (index_at shape place))
             → IsAnswerOf (answer_of shape (λ index. Ok (element index)) a.now.kind) result }
     {
         // An array that was asked something is known to be lawful.
@@ -175,7 +175,7 @@ impl<R: Threads + Sync, C: Cut + Sync, G: Gate + Sync> Workers<'_, R, C, G> {
 /// is judged by its rank (`Rank`), then its lengths (`Length`). They are of the kind of the elements,
 /// unless there are none (`Domain`).
 fn judge_values(a: &Array, b: &Array, selected: &Shape) -> Result<(), OpFault>
-    ensures { IsJudged (replacement_checks a.now b.now selected.now) (λ u. IsReplacement a.now b.now selected.now) result }
+    ensures { IsCheckedResult (replacement_checks a.now b.now selected.now) (λ u. IsReplacement a.now b.now selected.now) result }
 {
     let count = b.shape().count();
     if count != 1 && b.shape().rank() != selected.rank() {

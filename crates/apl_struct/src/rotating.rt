@@ -8,7 +8,7 @@ ghost use Rattle.apl_answer.specs.Arguments.{is_same_shape, has_one_element, ran
 ghost use Rattle.apl_answer.specs.Pointwise.{answer_of, IsAnswerOf};
 ghost use Rattle.apl_answer.specs.Rows.{Answers};
 ghost use Rattle.apl_struct.specs.Gathering.{along_axis};
-ghost use Rattle.apl_struct.specs.Moving.{rotated_index, rotate_row};
+ghost use Rattle.apl_struct.specs.Rearranging.{rotated_index, rotate_row};
 ghost use Rattle.apl_struct.specs.Rotation.{rotation_of, turned_place};
 ghost use Rattle.apl_walk.specs.Gathered.{filled_at};
 ghost use Rattle.apl_walk.specs.Steps.{wrapped};
@@ -16,7 +16,7 @@ ghost use Rattle.apl_walk.specs.Steps.{wrapped};
 use crate::along::{Steps, steps_along};
 use crate::arguments::{is_without_axis, numbers_among};
 use crate::workers::Workers;
-use apl_answer::{Element, OpFault, fill_array};
+use apl_answer::{ElementType, OpFault, fill_array};
 use apl_array::{
     Array, Axis, Shape, inserted_index_has_place, places_match_index_lists,
     replaced_index_has_place, split_index_has_place,
@@ -77,7 +77,7 @@ impl<R: Threads + Sync, C: Cut + Sync, G: Gate + Sync> Workers<'_, R, C, G> {
     }
 
     /// An argument whose lines along an axis are rotated, where neighbours along it are `inner` apart.
-    fn rotate_elements<T: Element + Send + Sync>(
+    fn rotate_elements<T: ElementType + Send + Sync>(
         &self,
         shape: Shape,
         b: &Array,
@@ -177,7 +177,7 @@ pub fn rotate<R: Threads + Sync, C: Cut + Sync, G: Gate + Sync>(
     ensures { Answers (rotate_row a.now b.now axis) result }
 {
     let workers = Workers { rt, alloc, pool };
-    let Some(k) = axis.among(b.shape().rank()) else {
+    let Some(k) = axis.resolve(b.shape().rank()) else {
         return Err(OpFault::Index);
     };
     if !has_rank_of_lines(a, b) {

@@ -5,7 +5,7 @@ ghost use Rattle.apl_scalar.specs.Scalar.{dyadic_numbers};
 ghost use Rattle.apl_summary.specs.Running.{AreFoldsBehind};
 ghost use Rattle.apl_summary.specs.Fronts.{IsRunningSum, IsBoundedSum};
 
-use crate::running::{Front, put_folds_behind};
+use crate::running::{PrefixState, scan_run_after};
 use crate::running_sum::RunningSum;
 
 /// The total of numbers, and how far every sum of an end of them stays within the range.
@@ -61,7 +61,7 @@ impl BoundedSum {
     }
 }
 
-impl Front for BoundedSum {
+impl PrefixState for BoundedSum {
     ghost use Rattle.apl_array.specs.declared.function.ScalarFunction.TheVariants.{Plus};
     ghost use Rattle.apl_scalar.specs.Scalar.{dyadic_numbers};
     ghost use Rattle.apl_summary.specs.Fronts.{IsBoundedSum};
@@ -88,10 +88,10 @@ pub fn put_sums_behind(front: RunningSum, numbers: &[i64], room: &mut [i64]) -> 
     ensures len { length room.new ≡ length room.old }
 {
     if let Some(bounded) = BoundedSum::of(&front) {
-        let done = put_folds_behind(bounded, numbers, room);
+        let done = scan_run_after(bounded, numbers, room);
         if done == room.len() {
             return done;
         }
     }
-    put_folds_behind(front, numbers, room)
+    scan_run_after(front, numbers, room)
 }

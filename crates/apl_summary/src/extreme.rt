@@ -3,7 +3,7 @@ ghost use Rattle.std.specs.Prelude.{◌≡◌, ℕ};
 ghost use Rattle.apl_pool.specs.Summaries.{IsI64};
 
 use crate::extremum::{Extremum, extremum_of_run};
-use crate::running::{Running, put_folds_behind};
+use crate::running::{Running, scan_run_after};
 use crate::running_extreme::RunningExtreme;
 use apl_pool::{Fault, Kernel, Summary};
 
@@ -55,13 +55,13 @@ impl<const GREATEST: u8> Summary for Extreme<GREATEST> {
 }
 
 impl<const GREATEST: u8> Running for Extreme<GREATEST> {
-    fn put_folds(before: &Option<Self>, numbers: &[i64], room: &mut [i64]) -> usize {
+    fn scan_run(before: &Option<Self>, numbers: &[i64], room: &mut [i64]) -> usize {
         let front = match before {
             None => RunningExtreme::<GREATEST>::none(),
             Some(before) => RunningExtreme {
                 item: before.extremum.item,
             },
         };
-        put_folds_behind(front, numbers, room)
+        scan_run_after(front, numbers, room)
     }
 }

@@ -10,7 +10,7 @@ ghost use Rattle.apl_summary.specs.RowFolds.{AreRowFolds, stop_at_row};
 
 use crate::with_summary;
 use apl_array::ScalarFunction;
-use apl_pool::{Cut, Fault, Folds, Gate, Pool, Rows, Stop, Summary};
+use apl_pool::{Cut, Fault, Gate, Pool, RowSummaries, Rows, Stop, Summary};
 use std::alloc::Global;
 use std::thread::Threads;
 
@@ -61,7 +61,7 @@ fn stop_at_row(row: usize, stop: Stop) -> Stop
 fn row_folds<S: Summary<Item = i64> + Drop, K: FoldedRows>(
     alloc: Global,
     rows: &K,
-    folds: Folds<S>,
+    folds: RowSummaries<S>,
 ) -> Result<Vec<i64>, Stop>
     requires most { K.row_count rows.now ≤ MOST_PLACES }
     requires folds { AreFolds S.step S.item_count S.outcome (K.outcome rows.now) (K.row_count rows.now) (K.place_count rows.now) folds.summaries.items folds.end }
@@ -98,7 +98,7 @@ fn fold_rows_by_summary<
     ensures values { (outcome : ℕ → Result ℤ Fault) → AreRowFolds S.step (K.outcome rows.now) (K.row_count rows.now) (K.place_count rows.now) (K.incoming rows.now) outcome → IfOk result (λ v. AreValues outcome (K.row_count rows.now) v.items) }
     ensures stop { (outcome : ℕ → Result ℤ Fault) → AreRowFolds S.step (K.outcome rows.now) (K.row_count rows.now) (K.place_count rows.now) (K.incoming rows.now) outcome → IfErr result (IsStopOf outcome (K.row_count rows.now)) }
 {
-    let folds: Folds<S> = pool.fold_rows(rt, alloc, rows);
+    let folds: RowSummaries<S> = pool.fold_rows(rt, alloc, rows);
     row_folds(alloc, rows, folds)
 }
 

@@ -11,7 +11,7 @@ pub trait Running: Summary<Item = i64> {
     /// Puts into the room the folds of all numbers up to each of these, and answers how many it put. The
     /// summary is of the numbers before these. It is for summaries that do so faster than by `apply` and
     /// `join`. What it leaves out is folded by these. It takes no memory.
-    fn put_folds(_before: &Option<Self>, _numbers: &[i64], _room: &mut [i64]) -> usize
+    fn scan_run(_before: &Option<Self>, _numbers: &[i64], _room: &mut [i64]) -> usize
         requires { length _numbers.now ≡ length _room.old }
         ensures most { result ≤ length _room.old }
         ensures folds { (before : List ℤ) → IsSummaryOrNone Self.Summary.step Self.Summary.item_count Self.Summary.outcome before _before.now
@@ -23,7 +23,7 @@ pub trait Running: Summary<Item = i64> {
 }
 
 /// The numbers before others, by what matters to these.
-pub trait Front: Sized {
+pub trait PrefixState: Sized {
     // What a number does to the one on its right.
     ghost step: { ℤ → ℤ → Result ℤ Fault };
 
@@ -39,7 +39,7 @@ pub trait Front: Sized {
 /// Puts into the room the folds of all numbers up to each of these, and answers how many it put. It stops
 /// before the first that the front can't tell.
 #[inline(always)]
-pub fn put_folds_behind<F: Front + Drop>(front: F, numbers: &[i64], room: &mut [i64]) -> usize
+pub fn scan_run_after<F: PrefixState + Drop>(front: F, numbers: &[i64], room: &mut [i64]) -> usize
     requires { length numbers.now ≡ length room.old }
     ensures most { result ≤ length room.old }
     ensures folds { (before : List ℤ) → F.is_of front before → AreFoldsBehind F.step before numbers.now result room.new }

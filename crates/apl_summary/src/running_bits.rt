@@ -7,7 +7,7 @@ ghost use Rattle.apl_summary.specs.Answers.{two_valued_outcome};
 ghost use Rattle.apl_summary.specs.Fronts.{AreRunningBits, AreBitsFrom};
 
 use crate::answers::{Answers, number};
-use crate::running::Front;
+use crate::running::PrefixState;
 use crate::two_valued::TwoValuedFunction;
 use apl_pool::Kernel;
 use std::marker::PhantomData;
@@ -112,7 +112,7 @@ impl<P: TwoValuedFunction + Drop> RunningBits<P> {
     }
 }
 
-impl<P: TwoValuedFunction + Drop> Front for RunningBits<P> {
+impl<P: TwoValuedFunction + Drop> PrefixState for RunningBits<P> {
     ghost use Rattle.apl_scalar.specs.Scalar.{dyadic_numbers};
     ghost use Rattle.apl_summary.specs.Fronts.{AreRunningBits};
 

@@ -3,7 +3,7 @@ ghost use Rattle.std.specs.Prelude.{◌≡◌, nat_eq, []};
 ghost use Rattle.apl_summary.specs.Fronts.{IsRunningExtreme};
 
 use crate::extremum::extreme_of_two;
-use crate::running::Front;
+use crate::running::PrefixState;
 
 /// The least of numbers if `GREATEST` is 0, else the greatest.
 #[derive(Clone, Copy)]
@@ -22,7 +22,7 @@ impl<const GREATEST: u8> RunningExtreme<GREATEST> {
     }
 }
 
-impl<const GREATEST: u8> Front for RunningExtreme<GREATEST> {
+impl<const GREATEST: u8> PrefixState for RunningExtreme<GREATEST> {
     ghost use Rattle.std.specs.Prelude.{nat_eq};
     ghost use Rattle.apl_scalar.specs.Scalar.{dyadic_numbers};
     ghost use Rattle.apl_summary.specs.Extremes.{extreme_function};

@@ -6,7 +6,7 @@ ghost use Rattle.apl_summary.specs.Fronts.{sum_outcome, IsRunningSum};
 
 use crate::constants::Constants;
 use crate::range::{greater_of, lesser_of, narrow};
-use crate::running::Front;
+use crate::running::PrefixState;
 
 /// The total of numbers, and the least and the greatest sum of an end of them, of which one is of no number.
 #[derive(Clone, Copy)]
@@ -56,7 +56,7 @@ impl RunningSum {
     }
 }
 
-impl Front for RunningSum {
+impl PrefixState for RunningSum {
     ghost use Rattle.apl_array.specs.declared.function.ScalarFunction.TheVariants.{Plus};
     ghost use Rattle.apl_scalar.specs.Scalar.{dyadic_numbers};
     ghost use Rattle.apl_summary.specs.Fronts.{IsRunningSum};

@@ -61,7 +61,7 @@ impl<const MINUS: u8> Summary for SignedSum<MINUS> {
 }
 
 impl<const MINUS: u8> Running for SignedSum<MINUS> {
-    fn put_folds(before: &Option<Self>, numbers: &[i64], room: &mut [i64]) -> usize {
+    fn scan_run(before: &Option<Self>, numbers: &[i64], room: &mut [i64]) -> usize {
         if MINUS != 0 {
             return 0;
         }

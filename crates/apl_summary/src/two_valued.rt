@@ -3,7 +3,7 @@ ghost use Rattle.std.specs.Prelude.{◌≡◌, ℕ, true, refl};
 ghost use Rattle.apl_summary.specs.Answers.{is_two_valued};
 
 use crate::answers::Answers;
-use crate::running::{Running, put_folds_behind};
+use crate::running::{Running, scan_run_after};
 use crate::running_bits::{RunningBits, answers_of_run};
 use apl_pool::{Fault, Kernel, Summary};
 use apl_scalar::function_types::{
@@ -110,12 +110,12 @@ impl<P: TwoValuedFunction + Drop> Summary for TwoValued<P> {
 }
 
 impl<P: TwoValuedFunction + Drop> Running for TwoValued<P> {
-    fn put_folds(before: &Option<Self>, numbers: &[i64], room: &mut [i64]) -> usize {
+    fn scan_run(before: &Option<Self>, numbers: &[i64], room: &mut [i64]) -> usize {
         let Some(before) = before else {
-            return put_folds_behind(RunningBits::<P>::none(), numbers, room);
+            return scan_run_after(RunningBits::<P>::none(), numbers, room);
         };
         match RunningBits::<P>::of(&before.answers) {
-            Some(front) => put_folds_behind(front, numbers, room),
+            Some(front) => scan_run_after(front, numbers, room),
             None => 0,
         }
     }

@@ -78,18 +78,18 @@ one_text characters text other (blanks, blank, split) (others, other_blank, othe
     tail_same close_paren close_paren text other (one_run is_blank blanks (close_paren ∷ text) others (close_paren ∷ other) blank refl other_blank refl (sym split ∙ other_split)).1
 
 -- the longest front of a class
-record Front (p : ℕ → Bool) (xs : List ℕ) : Type 0 where
+record LongestPrefix (p : ℕ → Bool) (xs : List ℕ) : Type 0 where
   front : List ℕ
   rest : List ℕ
   split : xs ≡ front ++ rest
   pass : AllPass p front
   longest : BeginsWithNo p rest
 
-front_of : (p : ℕ → Bool) (xs : List ℕ) → Front p xs
+front_of : (p : ℕ → Bool) (xs : List ℕ) → LongestPrefix p xs
 front_of p [] = record { front = []; rest = []; split = refl; pass = tt; longest = tt }
 front_of p (x ∷ xs) = by_test (p x) refl (front_of p xs)
   where
-    by_test : (b : Bool) → p x ≡ b → Front p xs → Front p (x ∷ xs)
+    by_test : (b : Bool) → p x ≡ b → LongestPrefix p xs → LongestPrefix p (x ∷ xs)
     by_test true e f = record { front = x ∷ f.front; rest = f.rest; split = ap (λ (y : List ℕ). x ∷ y) f.split; pass = (e, f.pass); longest = f.longest }
     by_test false e f = record { front = []; rest = x ∷ xs; split = refl; pass = tt; longest = e }
 
@@ -132,8 +132,8 @@ word_and_argument text word rest gap more argument after whole parted trimmed on
 -- each text has a word and an argument
 pub some_word : (text : List ℕ) → (word argument : List ℕ) × HasWordAndArgument text word argument
 some_word text =
-    let word : Front is_no_blank text = front_of is_no_blank text in
-    let gap : Front is_blank word.rest = front_of is_blank word.rest in
+    let word : LongestPrefix is_no_blank text = front_of is_no_blank text in
+    let gap : LongestPrefix is_blank word.rest = front_of is_blank word.rest in
     let argument : Trimmed gap.rest = trimmed gap.rest in
     (word.front, argument.front, word_and_argument text word.front word.rest gap.front gap.rest argument.front argument.after word.split gap.split argument.split word.pass word.longest gap.pass gap.longest argument.ends argument.blank)
 
@@ -143,7 +143,7 @@ no_command_line characters blanks rest split blank longest not (text, (others, o
 
 -- whether a line is a command line
 pub command_line : (characters : List ℕ) → IsCommandLine characters ⊎ (IsCommandLine characters → ⊥)
-command_line characters = let f : Front is_blank characters = front_of is_blank characters in by_rest f.front f.rest f.split f.pass f.longest
+command_line characters = let f : LongestPrefix is_blank characters = front_of is_blank characters in by_rest f.front f.rest f.split f.pass f.longest
   where
     by_test : (blanks : List ℕ) (c : ℕ) (text : List ℕ) (b : Bool) → (c == close_paren) ≡ b → characters ≡ blanks ++ c ∷ text → AllPass is_blank blanks → BeginsWithNo is_blank (c ∷ text) → IsCommandLine characters ⊎ (IsCommandLine characters → ⊥)
     by_test blanks c text true e split blank longest =

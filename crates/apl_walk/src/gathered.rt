@@ -13,7 +13,7 @@ use crate::lined::Lined;
 use crate::map::AxisMap;
 use crate::maps::{Map, start_at};
 use crate::stretches::element_or;
-use apl_answer::Element;
+use apl_answer::ElementType;
 
 /// A walk over an argument, of whose last axis the map is known by its type.
 #[derive(Drop)]
@@ -30,7 +30,7 @@ pub struct Gathered<'a, T, M: AxisMap> {
     ghost most: { count ≤ MOST_PLACES },
 }
 
-impl<'a, T: Element, M: AxisMap> Gathered<'a, T, M> {
+impl<'a, T: ElementType, M: AxisMap> Gathered<'a, T, M> {
     /// The walk along these axes. The others have `lines` index lists.
     pub fn new(elements: &'a [T], outer: &'a [Map<'a>], lines: usize, last: M) -> Gathered<'a, T, M>
         requires few { length outer.now ≤ MOST_MAPS }
@@ -77,7 +77,7 @@ impl<'a, T: Element, M: AxisMap> Gathered<'a, T, M> {
     }
 }
 
-impl<T: Element, M: AxisMap> Lined for Gathered<'_, T, M> {
+impl<T: ElementType, M: AxisMap> Lined for Gathered<'_, T, M> {
     type Out = T;
 
     ghost place_count = { λ g. g.count };

@@ -15,7 +15,7 @@ use crate::map::AxisMap;
 use crate::maps::{MOST_MAPS, Map};
 use crate::walk::Walk;
 use crate::workers::Workers;
-use apl_answer::{Element, OpFault, fill_array};
+use apl_answer::{ElementType, OpFault, fill_array};
 use apl_array::{Array, Shape};
 use apl_pool::{Cut, Gate, Pool};
 use std::alloc::Global;
@@ -25,7 +25,7 @@ use std::thread::Threads;
 const TILE: usize = 256;
 
 impl<R: Threads + Sync, C: Cut + Sync, G: Gate + Sync> Workers<'_, R, C, G> {
-    fn gather_elements<T: Element + Send + Sync, M: AxisMap + Sync + Drop>(
+    fn gather_elements<T: ElementType + Send + Sync, M: AxisMap + Sync + Drop>(
         &self,
         shape: Shape,
         b: &Array,

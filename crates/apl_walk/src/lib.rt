@@ -1,6 +1,7 @@
 //! Results whose elements are an argument's, made line by line along the last axis.
 #![tactic(auto)]
 
+mod cyclic;
 mod fronts;
 mod gathered;
 mod gathering;
@@ -15,12 +16,12 @@ mod repeated;
 mod reversed;
 mod rotated;
 mod rotated_lines;
-mod round;
 mod stretches;
 mod walk;
 mod window;
 mod workers;
 
+pub use cyclic::Cyclic;
 pub use gathered::Gathered;
 pub use gathering::gather;
 pub use joined::{Joined, Part};
@@ -33,7 +34,6 @@ pub use repeated::Repeated;
 pub use reversed::Reversed;
 pub use rotated::Rotated;
 pub use rotated_lines::{RotatedColumns, RotatedRows, Rotations};
-pub use round::Round;
 pub use stretches::element_or;
 pub use walk::Walk;
 pub use window::Window;

@@ -11,13 +11,13 @@ use std::test::Fail;
 
 /// At each place below the count its number, but a fault from `limit` on.
 #[derive(Drop)]
-struct Places {
+struct PlaceNumbers {
     count: usize,
     limit: usize,
     ghost few: { count ≤ MOST_PLACES },
 }
 
-impl Kernel for Places {
+impl Kernel for PlaceNumbers {
     ghost use Rattle.std.specs.Prelude.{pos, nat_lt, Ok, Err, if◌then◌else◌};
     ghost use Rattle.apl_pool.specs.declared.kernel.Fault.TheVariants.{Limit};
 
@@ -79,7 +79,13 @@ fn numbers(rt: HostRuntime) -> Result<(), Fail> {
             };
             let shape = Shape::new(rt.alloc(), lengths)?;
             let count = shape.count();
-            let answer = fill_array(&rt, rt.alloc(), &pool, shape, &Places { count, limit });
+            let answer = fill_array(
+                &rt,
+                rt.alloc(),
+                &pool,
+                shape,
+                &PlaceNumbers { count, limit },
+            );
             assert!(rt; is_answer(answer, wanted), "{lengths:?} {limit}");
         }
     }

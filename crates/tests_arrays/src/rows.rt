@@ -2,7 +2,9 @@
 ghost use Rattle.std.specs.Prelude.{◌*◌, ◌≤◌, length};
 ghost use Rattle.apl_pool.specs.declared.kernel.TheConstants.{MOST_PLACES};
 
-use apl_pool::{Every, Fault, Folds, MOST_PLACES, Open, Pool, Rows, Schedule, Stop, Summary};
+use apl_pool::{
+    Every, Fault, MOST_PLACES, Open, Pool, RowSummaries, Rows, Schedule, Stop, Summary,
+};
 use apl_scalar::Prim;
 use apl_summary::{FoldedRows, SignedSum, fold_rows};
 use std::test::Fail;
@@ -158,7 +160,7 @@ fn copies_beside_folds(rt: HostRuntime) {
                 incoming: incoming.as_slice(),
             };
             let pool = Pool::with(workers, schedule, Every(4096), Open);
-            let folds: Folds<SignedSum<0>> = pool.fold_rows_beside(
+            let folds: RowSummaries<SignedSum<0>> = pool.fold_rows_beside(
                 &rt,
                 rt.alloc(),
                 &rows,

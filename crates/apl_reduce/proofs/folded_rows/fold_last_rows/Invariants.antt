@@ -6,5 +6,5 @@ use Rattle.apl_reduce.proofs.folded_rows.fold_last_rows.Given as goal
 
 abbrev pub invariant-loop-j : goal.invariant-loop-j
 invariant-loop-j g l =
-    AreWritten (λ j. dyadic_of g.F.Function.FUNCTION (item_in (map g.T.Element.elem_of l.left) j) (item_in (map g.T.Element.elem_of l.right) j)) 0 l.j l.totals
+    AreWritten (λ j. dyadic_of g.F.Function.FUNCTION (item_in (map g.T.ElementType.elem_of l.left) j) (item_in (map g.T.ElementType.elem_of l.right) j)) 0 l.j l.totals
     × (length l.totals ≡ length l.initial.totals)

@@ -6,6 +6,6 @@ use Rattle.apl_reduce.proofs.folded_rows.fold_row.Given as goal
 
 abbrev pub invariant-loop-j : goal.invariant-loop-j
 invariant-loop-j g l =
-    AreWritten (λ j. number_step g.F.Function.FUNCTION (item_in (map g.T.Element.elem_of l.row) j) (Ok (slice_index_or l.initial.totals j (pos 0)))) 0 l.j l.totals
+    AreWritten (λ j. number_step g.F.Function.FUNCTION (item_in (map g.T.ElementType.elem_of l.row) j) (Ok (slice_index_or l.initial.totals j (pos 0)))) 0 l.j l.totals
     × (length l.totals ≡ length l.initial.totals)
     × ((j : ℕ) → l.j ≤ j → slice_index_or l.totals j (pos 0) ≡ slice_index_or l.initial.totals j (pos 0))

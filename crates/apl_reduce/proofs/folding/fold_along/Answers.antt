@@ -6,7 +6,7 @@ use Rattle.apl_reduce.proofs.folding.fold_along.Goals as goal
 
 pub returns-in-Err : goal.returns-in-Err
 returns-in-Err g c =
-    let elements = map g.T.Element.elem_of c.args.elements.now in
+    let elements = map g.T.ElementType.elem_of c.args.elements.now in
     let first = c.args.first in
     let stride = c.args.stride in
     let k = c.args.count - 2 in
@@ -18,7 +18,7 @@ returns-in-Err g c =
 
 pub loop-more-init : goal.loop-more-init
 loop-more-init g c =
-    let elements = map g.T.Element.elem_of c.args.elements.now in
+    let elements = map g.T.ElementType.elem_of c.args.elements.now in
     let first = c.args.first in
     let stride = c.args.stride in
     let k = c.args.count - 2 in
@@ -33,7 +33,7 @@ loop-more-init g c =
 
 pub returns-in-Err-dyadic_elements : goal.returns-in-Err-dyadic_elements
 returns-in-Err-dyadic_elements g c =
-    let elements = map g.T.Element.elem_of c.args.elements.now in
+    let elements = map g.T.ElementType.elem_of c.args.elements.now in
     let first = c.args.first in
     let stride = c.args.stride in
     let m = c.loop-more._more in
@@ -49,7 +49,7 @@ returns-in-Err-dyadic_elements g c =
 
 pub loop-more-preserved : goal.loop-more-preserved
 loop-more-preserved g c =
-    let elements = map g.T.Element.elem_of c.args.elements.now in
+    let elements = map g.T.ElementType.elem_of c.args.elements.now in
     let first = c.args.first in
     let stride = c.args.stride in
     let m = c.loop-more._more in

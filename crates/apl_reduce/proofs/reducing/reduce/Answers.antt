@@ -40,9 +40,9 @@ returns-in-0 g c =
     let none : slice_index b.shape k ≡ 0 = sym n ∙ search rules in
     let outcome = λ (index : List ℕ). reduction c.args.f (items_along b k index) in
     let kind = kind_of_others b k (λ one. omega (arith, one, none)) axis in
-    row_answer c.args.f b c.args.axis k c.everywhere.result has is lawful
-    (rw kind (subst (λ s. IsAnswerOf (answer_of s outcome Number) c.everywhere.result) shape
-    (c.everywhere.ensures outcome (λ place inside. c.identity_or_fault.ensures ∙ sym (no_items c.args.f b k (index_at c.in_ok-shape.shape place) axis none)))))
+    row_answer c.args.f b c.args.axis k c.constant_array.result has is lawful
+    (rw kind (subst (λ s. IsAnswerOf (answer_of s outcome Number) c.constant_array.result) shape
+    (c.constant_array.ensures outcome (λ place inside. c.identity_or_fault.ensures ∙ sym (no_items c.args.f b k (index_at c.in_ok-shape.shape place) axis none)))))
 
 pub array_of_elements-requires-in-1-after_bounds : goal.array_of_elements-requires-in-1-after_bounds
 array_of_elements-requires-in-1-after_bounds g c κs within =

@@ -2,7 +2,7 @@ use Rattle.std.proofs.Common.{◌≡◌, ℕ, ◌-◌, ◌*◌, ◌/◌, ◌%◌
 use Rattle.std.specs.Prelude.{sum}
 use Rattle.std.proofs.lemmas.List.FromFn.{length-map-range_with_len, get_or-map-range_with_len}
 use Rattle.apl_array.specs.Shape.{count_of}
-use Rattle.apl_array.specs.Transposition.{strides, becoming, source_strides}
+use Rattle.apl_array.specs.Transposition.{strides, items_onto, source_strides}
 use Rattle.apl_walk.specs.Steps.{and_step}
 use Rattle.apl_walk.specs.Maps.{step_of, extent_of, walked}
 use Rattle.apl_walk.specs.Walks.{maps_of}
@@ -38,7 +38,7 @@ loop-j-preserved c =
     let shape = c.args.shape.now in
     let axes = c.args.axes.now in
     let argument = c.args.argument.now in
-    let f : ℕ → ℕ = λ axis. sum (becoming axis axes (strides argument)) in
+    let f : ℕ → ℕ = λ axis. sum (items_onto axis axes (strides argument)) in
     let all_strides = source_strides (length shape) axes argument in
     let m = slice_index shape (j - 1) in
     let w = c.whole.result in

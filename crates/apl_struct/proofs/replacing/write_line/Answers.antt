@@ -2,7 +2,7 @@ use Rattle.std.proofs.Common.{◌≡◌, suc, ◌+◌, ◌*◌, ◌<◌, length,
 use Rattle.std.specs.Prelude.{Some}
 use Rattle.apl_walk.specs.Steps.{and_step}
 use Rattle.apl_walk.specs.Maps.{map_extent, map_step}
-use Rattle.apl_struct.specs.Numbering.{reached, IsReached, last_number, value_numbered}
+use Rattle.apl_struct.specs.Numbering.{place_or_zero, IsReached, last_number, value_numbered}
 use Rattle.apl_struct.proofs.Replacement.{value_more}
 use Rattle.apl_struct.proofs.replacing.write_line.Goals as goal
 
@@ -18,7 +18,7 @@ loop-i-preserved g c = record {
       let len : length room ≡ length c.args.room.now = c.loop-i.invariant.len in
       let here : i < map_extent c.args.last = omega arith in
       let step : map_step c.args.last i ≡ Some c.in-Some.taken = sym c.step.ensures.value ∙ c.in-Some.is in
-      let place : c.in-Some.taken + base ≡ choice n = ap (λ s. reached (and_step s (Some base))) (sym step) ∙ steps i here in
+      let place : c.in-Some.taken + base ≡ choice n = ap (λ s. place_or_zero (and_step s (Some base))) (sym step) ∙ steps i here in
       let within : IsReached (length c.args.room.now) (and_step (Some c.in-Some.taken) (Some base)) =
       subst (λ s. IsReached (length c.args.room.now) (and_step s (Some base))) step (c.requires.within i here) in
       let below : c.in-Some.taken + base < length room = omega (arith, within, len) in

@@ -2,7 +2,7 @@ use Rattle.std.proofs.Common.{◌≡◌, ℕ, ◌+◌, ◌*◌, ◌<◌, ◌∷�
 use Rattle.std.specs.Prelude.{Option, Some, None}
 use Rattle.apl_walk.specs.Steps.{and_step}
 use Rattle.apl_walk.specs.Maps.{map_extent, map_step, extent_of, walked}
-use Rattle.apl_struct.specs.Numbering.{reached, IsReached, last_number, value_numbered}
+use Rattle.apl_struct.specs.Numbering.{place_or_zero, IsReached, last_number, value_numbered}
 use Rattle.apl_struct.proofs.Replacement.{line_reached, line_within, not_reached}
 use Rattle.apl_struct.proofs.replacing.write_lines.Goals as goal
 
@@ -37,14 +37,14 @@ loop-line-preserved g c = record {
       let line = c.loop-line.line in
       let step = c.args.step in
       let first = c.args.room.now in
-      let chosen : ℕ → ℕ = λ place. reached (walked (last ∷ outer) place) in
+      let chosen : ℕ → ℕ = λ place. place_or_zero (walked (last ∷ outer) place) in
       let value : ℕ → ℕ → g.row.T.Denot = λ n q. value_numbered first c.args.values.now c.args.fill (last_number chosen step q n) q in
       let len : length c.loop-line.room ≡ length first = c.loop-line.invariant.len in
       let extent : c.extent-extent.result ≡ map_extent last = c.extent-extent.ensures.value in
       let base : walked outer line ≡ Some c.in-Some.base = sym c.start_at.ensures.value ∙ c.in-Some.is in
       let whole : line * c.extent-extent.result + map_extent last ≡ (line + 1) * map_extent last = omega (arith, ap (λ e. line * e) extent) in
       c.write_line.ensures.values chosen first
-      (λ i low. ap reached (sym (line_reached last outer line i low ∙ ap (and_step (map_step last i)) base)) ∙ ap (λ e. chosen (line * e + i)) (sym extent))
+      (λ i low. ap place_or_zero (sym (line_reached last outer line i low ∙ ap (and_step (map_step last i)) base)) ∙ ap (λ e. chosen (line * e + i)) (sym extent))
       (λ q low. c.loop-line.invariant.values q (omega (arith, low, len)) ∙ ap (λ e. value (line * e) q) (sym extent)) p (omega (arith, inside, len))
       ∙ ap (λ n. value n p) whole;
   len = omega (arith, c.write_line.ensures.len, c.loop-line.invariant.len);

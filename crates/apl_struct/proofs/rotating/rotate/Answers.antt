@@ -5,7 +5,7 @@ use Rattle.apl_array.specs.Axes.{has_axis, axis_of}
 use Rattle.apl_array.specs.Shape.{count_of, place_of}
 use Rattle.apl_answer.specs.Arguments.{rank_of, has_one_element, is_same_shape, is_numbers}
 use Rattle.apl_struct.specs.Gathering.{along_axis}
-use Rattle.apl_struct.specs.Moving.{rotated_index, rotation_at}
+use Rattle.apl_struct.specs.Rearranging.{rotated_index, rotation_at}
 use Rattle.apl_struct.proofs.Rotations.{rotation_of_all, rotation_of_line}
 use Rattle.apl_struct.proofs.Without.{same_from_test}
 use Rattle.apl_struct.proofs.rotating.rotate.Goals as goal

@@ -1,6 +1,6 @@
 use Rattle.apl_answer.specs.Rows as rows
 use Rattle.apl_struct.specs.Joining.{catenate_row}
-use Rattle.apl_struct.specs.Moving.{rotate_row}
+use Rattle.apl_struct.specs.Rearranging.{rotate_row}
 use Rattle.apl_struct.specs.Compressing.{replicate_row, expand_row}
 use Rattle.apl_eval.proofs.functions.Context.dyadic_along.Goals as goal
 

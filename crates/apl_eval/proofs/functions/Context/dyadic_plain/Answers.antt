@@ -3,7 +3,7 @@ use Rattle.apl_scalar.specs.Dyadic.{dyadic_answer}
 use Rattle.apl_search.specs.Searching.{index_of_row, member_row}
 use Rattle.apl_struct.specs.Building.{reshape_row}
 use Rattle.apl_struct.specs.Taking.{take_row, drop_row}
-use Rattle.apl_struct.specs.Moving.{transpose_by_row}
+use Rattle.apl_struct.specs.Rearranging.{transpose_by_row}
 use Rattle.apl_reduce.specs.Decoding.{decode_row}
 use Rattle.apl_reduce.specs.Encoding.{encode_row}
 use Rattle.apl_eval.proofs.functions.Context.dyadic_plain.Goals as goal

@@ -2,7 +2,7 @@ use Rattle.apl_answer.specs.Rows as rows
 use Rattle.apl_scalar.specs.Monadic.{monadic_answer}
 use Rattle.apl_search.specs.Ordering.{grade_up_row, grade_down_row}
 use Rattle.apl_struct.specs.Building.{shape_of_row, ravel_row, iota_row}
-use Rattle.apl_struct.specs.Moving.{transpose_row}
+use Rattle.apl_struct.specs.Rearranging.{transpose_row}
 use Rattle.apl_eval.proofs.functions.Context.monadic_plain.Goals as goal
 
 pub returns-in-Scalar : goal.returns-in-Scalar

@@ -1,5 +1,5 @@
 use Rattle.apl_answer.specs.Rows as rows
-use Rattle.apl_struct.specs.Moving.{reverse_row}
+use Rattle.apl_struct.specs.Rearranging.{reverse_row}
 use Rattle.apl_eval.specs.Functions.{reversed_along}
 use Rattle.apl_eval.proofs.functions.Context.reversed_along.Goals as goal
 

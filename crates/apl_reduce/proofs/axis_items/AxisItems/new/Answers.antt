@@ -33,7 +33,7 @@ new-requires-clause-some g c =
 pub invariant_of-result : goal.invariant_of-result
 invariant_of-result g c =
     let b = c.args.b.now in
-    let elem_of = g.T.Element.elem_of in
+    let elem_of = g.T.ElementType.elem_of in
     let n = slice_index b.shape c.args.k in
     let items : c.axis-items.result ≡ n = c.axis-items.ensures.length ∙ ap (λ s. slice_index s c.args.k) c.shape.ensures.shape in
     let inner : c.inner-inner.result ≡ count_of (drop (c.args.k + 1) b.shape) = c.inner-inner.ensures.inner ∙ ap (λ s. count_of (drop (c.args.k + 1) s)) c.shape-2.ensures.shape in

@@ -5,8 +5,8 @@ use Rattle.std.proofs.lemmas.Int.{ints, to_z-of_z}
 use Rattle.apl_array.specs.Range.{IsInRange}
 use Rattle.apl_scalar.specs.Arithmetic.{residue}
 use Rattle.apl_scalar.specs.Scalar.{exact}
-use Rattle.apl_reduce.specs.declared.behind.Behind.{Behind}
-use Rattle.apl_reduce.specs.declared.behind.Behind.TheVariants.{Nothing}
+use Rattle.apl_reduce.specs.declared.carry_divisor.CarryDivisor.{CarryDivisor}
+use Rattle.apl_reduce.specs.declared.carry_divisor.CarryDivisor.TheVariants.{Nothing}
 use Rattle.apl_reduce.specs.Encoding.{carry_past}
 use Rattle.apl_reduce.specs.Carrying.{carry_by, StandsFor}
 use Rattle.apl_reduce.proofs.Carries.{get_inside, carry_near}
@@ -16,7 +16,7 @@ use Rattle.apl_reduce.proofs.encoding.Encoding.digit.Goals as goal
 fits_range : (b : ℤ) → FitsSigned w64 b → IsInRange b
 fits_range b fits = record { least = omega (arith, ints); greatest = omega (arith, ints) }
 
-carried_there : (behind : List Behind) (radices : List ℤ) (k : ℕ) (there : Behind) (b carry : ℤ) → FitsSigned w64 b → k < length behind
+carried_there : (behind : List CarryDivisor) (radices : List ℤ) (k : ℕ) (there : CarryDivisor) (b carry : ℤ) → FitsSigned w64 b → k < length behind
     → StandsFor (get_or behind k Nothing) (drop (k + 1) radices) → carry ≡ carry_by (get_or behind k there) (to_z w64 (of_z w64 b))
     → carry ≡ carry_past (drop (k + 1) radices) b
 carried_there behind radices k there b carry fits inside stands is =

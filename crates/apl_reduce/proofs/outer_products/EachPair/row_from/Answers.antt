@@ -7,4 +7,4 @@ returns-clause-pairs g c f k inside =
     let pairs = c.args.self.now in
     let column = c.remainder-column.ensures.value ∙ ap (λ n. c.args.from % n) pairs.columns_are in
     let row = c.quotient.ensures.value ∙ ap (λ n. c.args.from / n) pairs.columns_are in
-    row_pair g.T.Element.elem_of g.U.Element.elem_of f pairs.left.now pairs.right.now c.args.from _ _ _ k _ column row (omega (arith, pairs.count_is)) inside
+    row_pair g.T.ElementType.elem_of g.U.ElementType.elem_of f pairs.left.now pairs.right.now c.args.from _ _ _ k _ column row (omega (arith, pairs.count_is)) inside

@@ -9,7 +9,7 @@ invariant_of-result g c =
     let a = c.args.left_array.now in
     let b = c.args.right_array.now in
     let shape = c.args.shape.now in
-    let elem_of = g.T.Element.elem_of in
+    let elem_of = g.T.ElementType.elem_of in
     let left_same : is_same_shape a.shape shape ≡ c.eq.result = grind (arith, c.eq.ensures, c.lengths.ensures.lengths, c.shape.ensures.shape, c.lengths-2.ensures.lengths) in
     let right_same : is_same_shape b.shape shape ≡ c.eq-2.result = grind (arith, c.eq-2.ensures, c.lengths-3.ensures.lengths, c.shape-2.ensures.shape, c.lengths-4.ensures.lengths) in
     let left_count = count_of_items a elem_of c.args.left.now c.requires.left c.shape.ensures.lawful in
@@ -28,11 +28,11 @@ returns-clause-left g c =
     let a = c.args.left_array.now in
     let shape = c.args.shape.now in
     let same : is_same_shape a.shape shape ≡ c.eq.result = grind (arith, c.eq.ensures, c.lengths.ensures.lengths, c.shape.ensures.shape, c.lengths-2.ensures.lengths) in
-    operand_from_source c.places_match_index_lists.ensures.same_place a (map g.T.Element.elem_of c.args.left.now) shape c.eq.result c.requires.left same
+    operand_from_source c.places_match_index_lists.ensures.same_place a (map g.T.ElementType.elem_of c.args.left.now) shape c.eq.result c.requires.left same
 
 pub returns-clause-right : goal.returns-clause-right
 returns-clause-right g c =
     let b = c.args.right_array.now in
     let shape = c.args.shape.now in
     let same : is_same_shape b.shape shape ≡ c.eq-2.result = grind (arith, c.eq-2.ensures, c.lengths-3.ensures.lengths, c.shape-2.ensures.shape, c.lengths-4.ensures.lengths) in
-    operand_from_source c.places_match_index_lists.ensures.same_place b (map g.T.Element.elem_of c.args.right.now) shape c.eq-2.result c.requires.right same
+    operand_from_source c.places_match_index_lists.ensures.same_place b (map g.T.ElementType.elem_of c.args.right.now) shape c.eq-2.result c.requires.right same

@@ -20,7 +20,7 @@ returns-in_default-clause-place g c =
     let ordered = subst (AreInOrder upwards keys) (search rules) order in
     let parted = point (is_partitioned keys placed ordered key) (λ a r q k. search rules) in
     sym (
-    place_by_key g.T.Element.elem_of g.T.Keyed.key c.key_decides.ensures elements c.args.element
+    place_by_key g.T.ElementType.elem_of g.T.Keyed.key c.key_decides.ensures elements c.args.element
     ∙ missing keys placed ordered key c.partition_point-first.result parted (λ d inside same. omega (arith, inside, outside))
     ∙ length-map elements g.T.Keyed.key))
 
@@ -38,7 +38,7 @@ returns-then-found-key-clause-place g c =
     let ordered = subst (AreInOrder upwards keys) (search rules) order in
     let parted = point (is_partitioned keys placed ordered key) (λ a r q k. search rules) in
     sym (
-    place_by_key g.T.Element.elem_of g.T.Keyed.key c.key_decides.ensures elements c.args.element
+    place_by_key g.T.ElementType.elem_of g.T.Keyed.key c.key_decides.ensures elements c.args.element
     ∙ found keys placed ordered key c.partition_point-first.result parted c.in-Some.found.now inside (ap (λ p. p.value) here ∙ value)
     ∙ ap (λ p. p.place) here))
 
@@ -54,7 +54,7 @@ returns-else-found-key-clause-place g c =
     let ordered = subst (AreInOrder upwards keys) (search rules) order in
     let parted = point (is_partitioned keys placed ordered key) (λ a r q k. search rules) in
     sym (
-    place_by_key g.T.Element.elem_of g.T.Keyed.key c.key_decides.ensures elements c.args.element
+    place_by_key g.T.ElementType.elem_of g.T.Keyed.key c.key_decides.ensures elements c.args.element
     ∙ missing keys placed ordered key c.partition_point-first.result parted (λ d inside same.
     let here : get_or placed c.partition_point-first.result d ≡ c.in-Some.found.now = search rules in
     differs (ap (λ p. p.value) (sym here) ∙ same))

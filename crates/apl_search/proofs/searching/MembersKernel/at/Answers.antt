@@ -8,7 +8,7 @@ use Rattle.apl_search.proofs.searching.MembersKernel.at.Goals as goal
 
 pub returns : goal.returns
 returns g c =
-    let elem_of = g.T.Element.elem_of in
+    let elem_of = g.T.ElementType.elem_of in
     let elements = c.args.self.now.elements.now in
     let list = c.args.self.now.list.elements.now in
     let x = c.index-self-place.result in

@@ -10,7 +10,7 @@ use Rattle.apl_search.proofs.workers.Workers.first_places.Goals as goal
 pub returns : goal.returns
 returns g c =
     let b = c.args.b.now in
-    let elem_of = g.T.Element.elem_of in
+    let elem_of = g.T.ElementType.elem_of in
     let shape = c.in_ok-shape.shape in
     let shapes : shape ≡ b.shape = search rules in
     let P : List ℕ → Type 0 = λ s. IsAnswerOf (answer_of s (found_outcome (map elem_of c.args.list.now) b c.args.origin) Number) c.fill_array.result in

@@ -9,7 +9,7 @@ use Rattle.apl_search.proofs.workers.Workers.members.Goals as goal
 pub returns : goal.returns
 returns g c =
     let b = c.args.a.now in
-    let elem_of = g.T.Element.elem_of in
+    let elem_of = g.T.ElementType.elem_of in
     let shape = c.in_ok-shape.shape in
     let shapes : shape ≡ b.shape = search rules in
     let P : List ℕ → Type 0 = λ s. IsAnswerOf (answer_of s (member_outcome b (map elem_of c.args.list.now)) Number) c.fill_array.result in

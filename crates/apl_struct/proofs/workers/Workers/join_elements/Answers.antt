@@ -12,7 +12,7 @@ pub returns : goal.returns
 returns g c = λ element same.
     let a = c.args.a.now in
     let b = c.args.b.now in
-    let f = g.T.Element.elem_of in
+    let f = g.T.ElementType.elem_of in
     let fill = c.fill-fill.result in
     let l = c.new.result in
     let r = c.new-2.result in

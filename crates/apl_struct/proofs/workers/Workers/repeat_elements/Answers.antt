@@ -11,7 +11,7 @@ pub returns : goal.returns
 returns g c = λ element same.
     let b = c.args.b.now in
     let xs = c.args.elements.now in
-    let f = g.T.Element.elem_of in
+    let f = g.T.ElementType.elem_of in
     let round = c.new.result in
     let size : length xs ≡ size_of b = sym (length-map xs f) ∙ ap length (sym c.requires.ravel) ∙ c.shape.ensures.lawful.len in
     let fill_is : f c.fill.result ≡ fill_of b.kind = c.fill.ensures ∙ ap fill_of (sym c.requires.kind) in

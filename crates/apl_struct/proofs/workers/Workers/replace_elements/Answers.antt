@@ -2,20 +2,20 @@ use Rattle.std.proofs.Math.Seq.{take-append_seam}
 use Rattle.std.proofs.Common.{◌≡◌, ◌<◌, ◌++◌, ◌∷◌, ℕ, length, take, drop, Ok, ap, sym, ◌∙◌, arith, slice_index_or}
 use Rattle.apl_array.specs.Shape.{count_of}
 use Rattle.apl_walk.specs.Maps.{walked}
-use Rattle.apl_struct.specs.Numbering.{reached, last_number, value_numbered}
+use Rattle.apl_struct.specs.Numbering.{place_or_zero, last_number, value_numbered}
 use Rattle.apl_struct.proofs.Filled.{get_or-within}
 use Rattle.apl_struct.proofs.Replacement.{numbered_element}
 use Rattle.apl_struct.proofs.workers.Workers.replace_elements.Goals as goal
 
 pub returns : goal.returns
 returns g c = λ element same.
-    let f = g.T.Element.elem_of in
+    let f = g.T.ElementType.elem_of in
     let elements = c.args.elements.now in
     let values = c.args.values.now in
     let first = c.as_mut_slice.result.now in
     let written = c.write_lines.new.room in
     let fill = c.fill.result in
-    let chosen : ℕ → ℕ = λ p. reached (walked (c.args.last.now ∷ c.args.outer.now) p) in
+    let chosen : ℕ → ℕ = λ p. place_or_zero (walked (c.args.last.now ∷ c.args.outer.now) p) in
     let rest = drop (length written) c.in_ok-all.all.items in
     let long : c.in_ok-all.all.len ≡ length written = omega (arith, c.as_mut_slice.ensures.len, c.write_lines.ensures.len) in
     let whole : length written ≡ count_of c.args.shape = omega (arith, long, c.in_ok-all.ensures.len, c.requires.all) in

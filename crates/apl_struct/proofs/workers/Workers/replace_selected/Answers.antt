@@ -5,7 +5,7 @@ use Rattle.apl_array.specs.Shape.{count_of, index_at}
 use Rattle.apl_answer.specs.Pointwise.{answer_of, IsAnswerOf}
 use Rattle.apl_walk.specs.Maps.{walked}
 use Rattle.apl_struct.specs.Indexing.{Slots, selected_shape, last_choice, replaced_element}
-use Rattle.apl_struct.specs.Numbering.{reached, IsReached, last_number, element_numbered, value_step, IsReplacement}
+use Rattle.apl_struct.specs.Numbering.{place_or_zero, IsReached, last_number, element_numbered, value_step, IsReplacement}
 use Rattle.apl_struct.specs.Selecting.{chosen_place, IsSelection}
 use Rattle.apl_struct.proofs.Sources.{place_within}
 use Rattle.apl_struct.proofs.Replacement.{same_numbers, walked_parts, last_chosen}
@@ -79,8 +79,8 @@ returns g c =
     let here : place < count_of a.shape = rw copied at inside in
     let step = c.value_step-step.result in
     let count : c.count-count.result ≡ count_of shape = c.count-count.ensures.count ∙ ap count_of shape_is in
-    let number : last_number (λ p. reached (walked (last ∷ others) p)) step place c.count-count.result ≡ last_number chosen (value_step b) place (count_of shape) =
-    same_numbers (λ p. reached (walked (last ∷ others) p)) chosen step place c.count-count.result (λ m below. ap reached (reaches m))
+    let number : last_number (λ p. place_or_zero (walked (last ∷ others) p)) step place c.count-count.result ≡ last_number chosen (value_step b) place (count_of shape) =
+    same_numbers (λ p. place_or_zero (walked (last ∷ others) p)) chosen step place c.count-count.result (λ m below. ap place_or_zero (reaches m))
     ∙ ap (last_number chosen step place) count ∙ ap (λ s. last_number chosen s place (count_of shape)) c.value_step-step.ensures.value in
     let whole : count_of shape ≤ count_of shape = omega arith in
     ap (λ n. element_numbered a b n place) number

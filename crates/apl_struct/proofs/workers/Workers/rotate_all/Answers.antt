@@ -2,7 +2,7 @@ use Rattle.std.proofs.Common.{◌≡◌, ℕ, List, Ok, Some, ◌<◌, ◌+◌, 
 use Rattle.apl_array.specs.Array.{element_at}
 use Rattle.apl_array.specs.Shape.{count_of}
 use Rattle.apl_answer.specs.Pointwise.{answer_of, IsAnswerOf}
-use Rattle.apl_struct.specs.Moving.{rotated_index}
+use Rattle.apl_struct.specs.Rearranging.{rotated_index}
 use Rattle.apl_walk.specs.Steps.{wrapped}
 use Rattle.apl_struct.proofs.Wrapping.{wrapped_below}
 use Rattle.apl_struct.proofs.workers.Workers.rotate_all.Goals as goal

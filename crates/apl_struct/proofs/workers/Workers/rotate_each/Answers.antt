@@ -5,7 +5,7 @@ use Rattle.apl_array.specs.Array.{element_at}
 use Rattle.apl_array.specs.Shape.{IsIndexOf, count_of, place_of, index_at}
 use Rattle.apl_answer.specs.Pointwise.{answer_of, IsAnswerOf}
 use Rattle.apl_struct.specs.Along.{line_index, line_number, line_place}
-use Rattle.apl_struct.specs.Moving.{rotated_index}
+use Rattle.apl_struct.specs.Rearranging.{rotated_index}
 use Rattle.apl_struct.specs.Rotation.{rotation_of}
 use Rattle.apl_walk.specs.Gathered.{filled_at}
 use Rattle.apl_walk.specs.Steps.{wrapped}

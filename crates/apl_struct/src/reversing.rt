@@ -1,0 +1,41 @@
+//! Reversed, rotated and permuted axes.
+ghost use Rattle.std.specs.Prelude.{◌≡◌};
+ghost use Rattle.apl_answer.specs.Rows.{Answers};
+ghost use Rattle.apl_struct.specs.Rearranging.{reverse_row};
+
+use crate::along::{Steps, steps_along};
+use crate::workers::Workers;
+use apl_answer::OpFault;
+use apl_array::{Array, Axis};
+use apl_pool::{Cut, Gate, Pool};
+use apl_walk::{Map, Reversed};
+use std::alloc::Global;
+use std::thread::Threads;
+
+/// `⌽B` and `⊖B`, reverse: the elements along an axis, the last one first.
+/// Shape and kind: those of `B`. Errors: INDEX of the axis. A scalar is answered as it is.
+/// Source: APL\360 User's Manual, reversal.
+pub fn reverse<R: Threads + Sync, C: Cut + Sync, G: Gate + Sync>(
+    rt: &R,
+    alloc: Global,
+    pool: &Pool<C, G>,
+    b: &Array,
+    axis: Axis,
+) -> Result<Array, OpFault>
+    ensures { Answers (reverse_row b.now axis) result }
+{
+    let workers = Workers { rt, alloc, pool };
+    let Some(k) = axis.resolve(b.shape().rank()) else {
+        return Err(OpFault::Index);
+    };
+    if b.shape().rank() == 0 {
+        return workers.gather_scalar(b);
+    }
+    let shape = b.shape().copy(alloc)?;
+    if shape.count() == 0 {
+        return workers.empty(shape, b);
+    }
+    let Steps { length, inner, .. } = steps_along(b.shape(), &shape, k);
+    let map = Map::Reversed(Reversed::new(length, inner));
+    workers.gather_mapped(shape, b, k, map)
+}

@@ -1,0 +1,76 @@
+//! Lines that are all the same.
+ghost use Rattle.std.specs.Prelude.{◌≡◌, ℕ, ◌%◌, ◌<◌, ◌≤◌, length, slice_index_or};
+ghost use Rattle.apl_pool.specs.declared.kernel.TheConstants.{MOST_PLACES};
+
+use crate::lined::Lined;
+use crate::stretches::{element_or, write_or};
+
+/// The elements of an argument in each line, and past the last of them always the same.
+#[derive(Drop)]
+pub struct Cyclic<'a, T> {
+    pub elements: &'a [T],
+    pub past: T,
+    pub extent: usize,
+    pub count: usize,
+    ghost some: { 0 < extent },
+    ghost extent_most: { extent ≤ MOST_PLACES },
+    ghost count_most: { count ≤ MOST_PLACES },
+}
+
+/// How long the lines are: an only element makes one line.
+fn cyclic_extent(size: usize, count: usize) -> usize
+    requires size { size ≤ MOST_PLACES }
+    requires most { count ≤ MOST_PLACES }
+    ensures several { 1 < size → result ≡ size }
+    ensures one { size ≤ 1 → count ≤ result }
+    ensures some { 0 < result }
+    ensures most { result ≤ MOST_PLACES }
+{
+    if size > 1 { size } else { count.max(1) }
+}
+
+impl<'a, T: Copy> Cyclic<'a, T> {
+    /// The elements in row order, again and again.
+    pub fn new(elements: &'a [T], fill: T, count: usize) -> Cyclic<'a, T>
+        requires size { length elements.now ≤ MOST_PLACES }
+        requires most { count ≤ MOST_PLACES }
+        ensures count { result.count ≡ count }
+        ensures elements { result.elements.now ≡ elements.now }
+        ensures values { (place : ℕ) → place < count → slice_index_or elements.now (place % result.extent) result.past ≡ slice_index_or elements.now (place % length elements.now) fill }
+    {
+        Cyclic {
+            elements,
+            past: element_or(elements, 0, fill),
+            extent: cyclic_extent(elements.len(), count),
+            count,
+        }
+    }
+}
+
+impl<T: Copy> Lined for Cyclic<'_, T> {
+    type Out = T;
+
+    ghost place_count = { λ r. r.count };
+
+    ghost extent = { λ r. r.extent };
+
+    ghost value = { λ r line index. slice_index_or r.elements.now index r.past };
+
+    fn count(&self) -> usize {
+        self.count
+    }
+
+    fn extent(&self) -> usize {
+        self.extent
+    }
+
+    #[inline(always)]
+    fn at(&self, _line: usize, index: usize) -> T {
+        element_or(self.elements, index, self.past)
+    }
+
+    #[inline(always)]
+    fn write(&self, _line: usize, from: usize, count: usize, room: &mut [T]) {
+        write_or(self.elements, self.past, from, count, room);
+    }
+}
