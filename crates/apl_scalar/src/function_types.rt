@@ -44,14 +44,42 @@ pub trait Function {
     /// Whether the monadic function has no branches, so that a run of its results is quick.
     #[inline(always)]
     fn has_monadic_runs() -> bool {
-        false
+        has_monadic_runs(Self::FUNCTION)
     }
 
     /// Whether the likely results have no branches, so that a run of them is quick.
     #[inline(always)]
     fn has_runs() -> bool {
-        false
+        has_dyadic_runs(Self::FUNCTION)
     }
+}
+
+/// The functions of one argument that have no branches.
+#[inline(always)]
+fn has_monadic_runs(f: ScalarFunction) -> bool {
+    matches!(
+        f,
+        ScalarFunction::Plus
+            | ScalarFunction::Minus
+            | ScalarFunction::Times
+            | ScalarFunction::Stile
+            | ScalarFunction::Floor
+            | ScalarFunction::Ceiling
+            | ScalarFunction::Tilde
+    )
+}
+
+/// The functions of two arguments whose likely results have no branches.
+#[inline(always)]
+fn has_dyadic_runs(f: ScalarFunction) -> bool {
+    !matches!(
+        f,
+        ScalarFunction::Divide
+            | ScalarFunction::Stile
+            | ScalarFunction::Star
+            | ScalarFunction::Bang
+            | ScalarFunction::Tilde
+    )
 }
 
 /// The call of a generic function at the type of a scalar function: `F` is first among the type arguments. No other code lists
@@ -108,16 +136,6 @@ impl Function for Plus {
     fn identity() -> Option<i64> {
         Some(0)
     }
-
-    #[inline(always)]
-    fn has_monadic_runs() -> bool {
-        true
-    }
-
-    #[inline(always)]
-    fn has_runs() -> bool {
-        true
-    }
 }
 
 /// `-`: the number with the other sign, and the difference.
@@ -143,16 +161,6 @@ impl Function for Minus {
 
     fn identity() -> Option<i64> {
         Some(0)
-    }
-
-    #[inline(always)]
-    fn has_monadic_runs() -> bool {
-        true
-    }
-
-    #[inline(always)]
-    fn has_runs() -> bool {
-        true
     }
 }
 
@@ -184,16 +192,6 @@ impl Function for Times {
     #[inline(always)]
     fn likely(left: i64, right: i64) -> (i64, bool) {
         likely_product(left, right)
-    }
-
-    #[inline(always)]
-    fn has_monadic_runs() -> bool {
-        true
-    }
-
-    #[inline(always)]
-    fn has_runs() -> bool {
-        true
     }
 }
 
@@ -246,11 +244,6 @@ impl Function for Stile {
 
     fn identity() -> Option<i64> {
         Some(0)
-    }
-
-    #[inline(always)]
-    fn has_monadic_runs() -> bool {
-        true
     }
 }
 
@@ -330,16 +323,6 @@ impl Function for Floor {
     fn identity() -> Option<i64> {
         Some(i64::MAX)
     }
-
-    #[inline(always)]
-    fn has_monadic_runs() -> bool {
-        true
-    }
-
-    #[inline(always)]
-    fn has_runs() -> bool {
-        true
-    }
 }
 
 /// `⌈`: the number itself, and the greater.
@@ -365,16 +348,6 @@ impl Function for Ceiling {
 
     fn identity() -> Option<i64> {
         Some(i64::MIN)
-    }
-
-    #[inline(always)]
-    fn has_monadic_runs() -> bool {
-        true
-    }
-
-    #[inline(always)]
-    fn has_runs() -> bool {
-        true
     }
 }
 
@@ -402,11 +375,6 @@ impl Function for And {
     fn identity() -> Option<i64> {
         Some(1)
     }
-
-    #[inline(always)]
-    fn has_runs() -> bool {
-        true
-    }
 }
 
 /// `∨` of truth values.
@@ -432,11 +400,6 @@ impl Function for Or {
 
     fn identity() -> Option<i64> {
         Some(0)
-    }
-
-    #[inline(always)]
-    fn has_runs() -> bool {
-        true
     }
 }
 
@@ -464,11 +427,6 @@ impl Function for Nand {
     fn identity() -> Option<i64> {
         None
     }
-
-    #[inline(always)]
-    fn has_runs() -> bool {
-        true
-    }
 }
 
 /// `⍱` of truth values.
@@ -494,11 +452,6 @@ impl Function for Nor {
 
     fn identity() -> Option<i64> {
         None
-    }
-
-    #[inline(always)]
-    fn has_runs() -> bool {
-        true
     }
 }
 
@@ -526,11 +479,6 @@ impl Function for Less {
     fn identity() -> Option<i64> {
         Some(0)
     }
-
-    #[inline(always)]
-    fn has_runs() -> bool {
-        true
-    }
 }
 
 /// `≤`: 1 if the left number is less or equal, else 0.
@@ -556,11 +504,6 @@ impl Function for LessOrEqual {
 
     fn identity() -> Option<i64> {
         Some(1)
-    }
-
-    #[inline(always)]
-    fn has_runs() -> bool {
-        true
     }
 }
 
@@ -588,11 +531,6 @@ impl Function for Equal {
     fn identity() -> Option<i64> {
         Some(1)
     }
-
-    #[inline(always)]
-    fn has_runs() -> bool {
-        true
-    }
 }
 
 /// `≥`: 1 if the left number is greater or equal, else 0.
@@ -618,11 +556,6 @@ impl Function for GreaterOrEqual {
 
     fn identity() -> Option<i64> {
         Some(1)
-    }
-
-    #[inline(always)]
-    fn has_runs() -> bool {
-        true
     }
 }
 
@@ -650,11 +583,6 @@ impl Function for Greater {
     fn identity() -> Option<i64> {
         Some(0)
     }
-
-    #[inline(always)]
-    fn has_runs() -> bool {
-        true
-    }
 }
 
 /// `≠`: 1 if the numbers differ, else 0.
@@ -681,11 +609,6 @@ impl Function for NotEqual {
     fn identity() -> Option<i64> {
         Some(0)
     }
-
-    #[inline(always)]
-    fn has_runs() -> bool {
-        true
-    }
 }
 
 /// `~`: the negation of a truth value.
@@ -711,10 +634,5 @@ impl Function for Tilde {
 
     fn identity() -> Option<i64> {
         None
-    }
-
-    #[inline(always)]
-    fn has_monadic_runs() -> bool {
-        true
     }
 }

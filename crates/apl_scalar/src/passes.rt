@@ -1,10 +1,10 @@
 //! The passes over numbers and over characters, one compiled for each function.
-ghost use Rattle.std.specs.Prelude.{◌≡◌, ℕ, pos, ◌≤◌, length, map, IfOk, IfErr, slice_index_or};
+ghost use Rattle.std.specs.Prelude.{◌≡◌, ℕ, pos, ◌≤◌, length, IfOk, IfErr, slice_index_or};
 ghost use Rattle.apl_pool.specs.declared.kernel.TheConstants.{MOST_PLACES};
 ghost use Rattle.apl_array.specs.declared.array.Elem.TheVariants.{Int, Chr};
 ghost use Rattle.apl_pool.specs.Pool.{AreValues, IsStopOf};
 ghost use Rattle.apl_scalar.specs.Scalar.{monadic_number, dyadic_of};
-ghost use Rattle.apl_scalar.specs.Operands.{pair_at};
+ghost use Rattle.apl_scalar.specs.Operands.{pair_in};
 
 use crate::function_types::{Equal, Function, NotEqual};
 use crate::kernels::{NumberResults, PairResults, ResultsKernel};
@@ -76,8 +76,8 @@ fn fill_pairs<
     C: Cut + Sync,
     G: Gate + Sync,
 >(rt: &R, alloc: Global, pool: &Pool<C, G>, pairs: &Pairs<T>) -> Result<Vec<i64>, Stop>
-    ensures values { IfOk result (λ v. AreValues (λ place. pair_at F.FUNCTION (map T.elem_of pairs.now.left.now) pairs.now.left_is_whole (map T.elem_of pairs.now.right.now) pairs.now.right_is_whole place) pairs.now.count v.items) }
-    ensures stop { IfErr result (IsStopOf (λ place. pair_at F.FUNCTION (map T.elem_of pairs.now.left.now) pairs.now.left_is_whole (map T.elem_of pairs.now.right.now) pairs.now.right_is_whole place) pairs.now.count) }
+    ensures values { IfOk result (λ v. AreValues (pair_in F.FUNCTION T.elem_of pairs.now) pairs.now.count v.items) }
+    ensures stop { IfErr result (IsStopOf (pair_in F.FUNCTION T.elem_of pairs.now) pairs.now.count) }
 {
     let (left, right) = (Whole(pairs.left), Whole(pairs.right));
     if pairs.left_is_whole && pairs.right_is_whole {
@@ -114,8 +114,8 @@ pub(crate) fn fill_number_pairs<R: Threads + Sync, C: Cut + Sync, G: Gate + Sync
     f: ScalarFunction,
     pairs: &Pairs<i64>,
 ) -> Result<Vec<i64>, Stop>
-    ensures values { IfOk result (λ v. AreValues (λ place. pair_at f (map Int pairs.now.left.now) pairs.now.left_is_whole (map Int pairs.now.right.now) pairs.now.right_is_whole place) pairs.now.count v.items) }
-    ensures stop { IfErr result (IsStopOf (λ place. pair_at f (map Int pairs.now.left.now) pairs.now.left_is_whole (map Int pairs.now.right.now) pairs.now.right_is_whole place) pairs.now.count) }
+    ensures values { IfOk result (λ v. AreValues (pair_in f Int pairs.now) pairs.now.count v.items) }
+    ensures stop { IfErr result (IsStopOf (pair_in f Int pairs.now) pairs.now.count) }
 {
     with_type!(f, fill_pairs::<F, i64, R, C, G>(rt, alloc, pool, pairs))
 }
@@ -128,8 +128,8 @@ pub(crate) fn fill_character_pairs<R: Threads + Sync, C: Cut + Sync, G: Gate + S
     f: ScalarFunction,
     pairs: &Pairs<char>,
 ) -> Result<Vec<i64>, Stop>
-    ensures values { IfOk result (λ v. AreValues (λ place. pair_at f (map Chr pairs.now.left.now) pairs.now.left_is_whole (map Chr pairs.now.right.now) pairs.now.right_is_whole place) pairs.now.count v.items) }
-    ensures stop { IfErr result (IsStopOf (λ place. pair_at f (map Chr pairs.now.left.now) pairs.now.left_is_whole (map Chr pairs.now.right.now) pairs.now.right_is_whole place) pairs.now.count) }
+    ensures values { IfOk result (λ v. AreValues (pair_in f Chr pairs.now) pairs.now.count v.items) }
+    ensures stop { IfErr result (IsStopOf (pair_in f Chr pairs.now) pairs.now.count) }
 {
     match f {
         ScalarFunction::Equal => fill_pairs::<Equal, char, R, C, G>(rt, alloc, pool, pairs),

@@ -72,7 +72,8 @@ fn write_before_fault<P: Results>(results: P, from: usize, count: usize, room: &
 }
 
 /// Writes a run of results into the room for the places from `from` up to before `to`. It answers the place at which it stopped: that of a
-/// fault, or where the run ends.
+/// fault, or where the run ends. If one of the run is not sure, the results up to `to` are written one by one, since the next runs tend to
+/// be like this one.
 #[inline(always)]
 pub(crate) fn write_results<P: Results>(
     results: P,
@@ -93,5 +94,5 @@ pub(crate) fn write_results<P: Results>(
     if write_likely(results, from, count, room) {
         return from + count;
     }
-    write_before_fault(results, from, count, room)
+    write_before_fault(results, from, to - from, room)
 }

@@ -15,9 +15,6 @@ use apl_walk::{ByLines, Gathered, Map, Window};
 use std::alloc::Global;
 use std::thread::Threads;
 
-/// How many numbers of a line are taken before those of the next one, since their cache lines are near.
-const TILE: usize = 256;
-
 /// Numbers of lines that are one after the other, in the order in which neighbours in a line are `inner` apart. With `items` and `inner`
 /// exchanged it is the way back.
 fn exchange<R: Threads + Sync, C: Cut + Sync, G: Gate + Sync>(
@@ -42,7 +39,7 @@ fn exchange<R: Threads + Sync, C: Cut + Sync, G: Gate + Sync>(
     let outer = [rows, Map::Window(Window::whole(blocks, block))];
     let columns = Window::whole(inner, items);
     let walk = Gathered::new(numbers, &outer, blocks * items, columns);
-    let kernel = ByLines::tiled(walk, TILE);
+    let kernel = ByLines::new(walk);
     pool.fill(rt, alloc, &kernel)
 }
 

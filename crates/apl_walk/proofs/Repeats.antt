@@ -4,26 +4,21 @@ use Rattle.std.proofs.Math.Nat.{lt_of_mul-lt-mul_right, mul-le-mul_right}
 use Rattle.std.proofs.lemmas.Nat.{mod-mul-add, div-mul-add, div-add-mod'}
 
 module _ (n times left : ℕ) (is : left + n % times ≡ times) where
-  same_quotient : 1 < left → n + 1 ≡ n / times * times + (n % times + 1)
-  same_quotient more = omega (arith, div-add-mod' n times)
+  copy_there : (j : ℕ) → n + j ≡ n / times * times + (n % times + j)
+  copy_there j = omega (arith, div-add-mod' n times)
 
-  next_quotient : left ≡ 1 → n + 1 ≡ (n / times + 1) * times + 0
-  next_quotient last = omega (arith, div-add-mod' n times, is, last)
+  next_there : n + left ≡ (n / times + 1) * times + 0
+  next_there = omega (arith, div-add-mod' n times, is)
 
-  pub again_quotient : 1 < left → (n + 1) / times ≡ n / times
-  again_quotient more = rw (same_quotient more) (div-mul-add (n / times) times (n % times + 1) (omega (arith, is, more)))
+  pub copy_quotient : (j : ℕ) → j < left → (n + j) / times ≡ n / times
+  copy_quotient j inside = rw (copy_there j) (div-mul-add (n / times) times (n % times + j) (omega (arith, is, inside)))
 
-  pub again_rest : 1 < left → left - 1 + (n + 1) % times ≡ times
-  again_rest more =
-      let rest : (n + 1) % times ≡ n % times + 1 = rw (same_quotient more) (mod-mul-add (n / times) times (n % times + 1) (omega (arith, is, more))) in
-      omega (arith, rest, is, more)
+  pub next_quotient : 0 < times → (n + left) / times ≡ n / times + 1
+  next_quotient some = rw next_there (div-mul-add (n / times + 1) times 0 some)
 
-  pub following_quotient : left ≡ 1 → (n + 1) / times ≡ n / times + 1
-  following_quotient last = rw (next_quotient last) (div-mul-add (n / times + 1) times 0 (omega (arith, is, last)))
-
-  pub following_rest : left ≡ 1 → times + (n + 1) % times ≡ times
-  following_rest last =
-      let rest : (n + 1) % times ≡ 0 = rw (next_quotient last) (mod-mul-add (n / times + 1) times 0 (omega (arith, is, last))) in
+  pub next_rest : 0 < times → times + (n + left) % times ≡ times
+  next_rest some =
+      let rest : (n + left) % times ≡ 0 = rw next_there (mod-mul-add (n / times + 1) times 0 some) in
       omega (arith, rest)
 
 pub step_reached : (n times stride axis_length : ℕ) → n < axis_length * times → n / times * stride ≤ (axis_length - 1) * stride
@@ -31,9 +26,3 @@ step_reached n times stride axis_length inside =
     let short : n / times * times < axis_length * times = omega (arith, div-add-mod' n times, inside) in
     let less : n / times ≤ axis_length - 1 = omega (arith, lt_of_mul-lt-mul_right times short) in
     mul-le-mul_right stride less
-
-pub step_most : (n times stride axis_length most : ℕ) → n < axis_length * times → axis_length * stride ≤ most → n / times * stride ≤ most
-step_most n times stride axis_length most inside near =
-    let short : n / times * times < axis_length * times = omega (arith, div-add-mod' n times, inside) in
-    let less : n / times ≤ axis_length = omega (arith, lt_of_mul-lt-mul_right times short) in
-    omega (arith, mul-le-mul_right stride less, near)

@@ -94,6 +94,10 @@ impl<T: ElementType, M: AxisMap> Lined for Gathered<'_, T, M> {
         self.last.extent()
     }
 
+    fn is_spread(&self) -> bool {
+        self.last.is_spread()
+    }
+
     #[inline(always)]
     fn at(&self, line: usize, index: usize) -> T {
         match start_at(self.outer, line) {

@@ -21,9 +21,6 @@ use apl_pool::{Cut, Gate, Pool};
 use std::alloc::Global;
 use std::thread::Threads;
 
-/// How many cache lines of the argument stay near while several lines are written.
-const TILE: usize = 256;
-
 impl<R: Threads + Sync, C: Cut + Sync, G: Gate + Sync> Workers<'_, R, C, G> {
     fn gather_elements<T: ElementType + Send + Sync, M: AxisMap + Sync + Drop>(
         &self,
@@ -42,12 +39,7 @@ impl<R: Threads + Sync, C: Cut + Sync, G: Gate + Sync> Workers<'_, R, C, G> {
             → IsAnswerOf (answer_of shape (λ index. Ok (element index)) b.now.kind) result }
     {
         let lines = shape.count() / last.extent();
-        let tile = if last.is_spread() {
-            TILE
-        } else {
-            last.extent()
-        };
-        let kernel = ByLines::tiled(Gathered::new(elements, outer, lines, last), tile);
+        let kernel = ByLines::new(Gathered::new(elements, outer, lines, last));
         fill_array(self.rt, self.alloc, self.pool, shape, &kernel)
     }
 

@@ -8,6 +8,9 @@ ghost use Rattle.apl_walk.specs.Columns.{HasColumns};
 use apl_divisor::Divisor;
 use apl_pool::{Fault, Kernel};
 
+/// How many indexes of a line are written before those of the next one, if they are spread.
+const TILE: usize = 256;
+
 /// What there is at each index of lines that are equally long.
 pub trait Lined {
     /// What there is at an index.
@@ -30,6 +33,11 @@ pub trait Lined {
         ensures value { result ≡ extent self.now }
         ensures some { 0 < result }
         ensures most { result ≤ MOST_PLACES };
+
+    /// Whether neighbours in a line are read far apart from each other, and those below them nearby.
+    fn is_spread(&self) -> bool {
+        false
+    }
 
     fn at(&self, line: usize, index: usize) -> Self::Out
         requires line { line ≤ MOST_PLACES }
@@ -63,20 +71,12 @@ impl<L: Lined> ByLines<L> {
     pub fn new(lines: L) -> ByLines<L>
         ensures { result.lines ≡ lines }
     {
-        let tile = lines.extent();
-        ByLines::tiled(lines, tile)
-    }
-
-    /// Lines that are written `tile` indexes at a time.
-    pub fn tiled(lines: L, tile: usize) -> ByLines<L>
-        requires { 0 < tile }
-        ensures { result.lines ≡ lines }
-    {
-        let extent = Divisor::new(lines.extent());
+        let extent = lines.extent();
+        let tile = if lines.is_spread() { TILE } else { extent };
         let count = lines.count();
         ByLines {
             lines,
-            extent,
+            extent: Divisor::new(extent),
             count,
             tile,
         }

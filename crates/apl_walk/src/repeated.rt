@@ -3,6 +3,7 @@ ghost use Rattle.std.specs.Prelude.{◌≡◌, ℕ, ◌+◌, ◌-◌, ◌*◌, �
 ghost use Rattle.apl_pool.specs.declared.kernel.TheConstants.{MOST_PLACES};
 ghost use Rattle.apl_walk.specs.declared.map.TheConstants.{MOST_STEP};
 
+use crate::fronts::write_copies;
 use crate::map::{AxisMap, MOST_STEP};
 
 /// Each index of an axis, several times in a row.
@@ -15,22 +16,6 @@ pub struct Repeated {
     ghost times_some: { 0 < times },
     ghost most: { axis_length * times ≤ MOST_PLACES },
     ghost near: { axis_length * stride ≤ MOST_STEP },
-}
-
-/// What the next index adds, and how many times its element is still to come.
-#[inline(always)]
-fn following(step: usize, left: usize, times: usize, stride: usize) -> (usize, usize)
-    requires some { 0 < left }
-    requires step { step ≤ MOST_STEP }
-    requires stride { stride ≤ MOST_STEP }
-    ensures again { 1 < left → result ≡ (step, left - 1) }
-    ensures next { left ≡ 1 → result ≡ (step + stride, times) }
-{
-    if left > 1 {
-        (step, left - 1)
-    } else {
-        (step + stride, times)
-    }
 }
 
 impl AxisMap for Repeated {
@@ -67,12 +52,15 @@ impl AxisMap for Repeated {
         room: &mut [T],
     ) {
         let times = self.times;
-        let stride = self.stride;
-        let mut step = from / times * stride;
+        let mut step = from / times * self.stride;
         let mut left = times - from % times;
-        for k in 0..count {
-            room[k] = elements[base + step];
-            (step, left) = following(step, left, times, stride);
+        let mut done = 0;
+        while done < count {
+            let copies = left.min(count - done);
+            write_copies(elements[base + step], copies, &mut room[done..]);
+            done += copies;
+            step += self.stride;
+            left = times;
         }
     }
 }

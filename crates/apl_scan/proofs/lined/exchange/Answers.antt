@@ -17,8 +17,8 @@ whole-columns-requires-clause-near g c =
 pub returns-clause-values : goal.returns-clause-values
 returns-clause-values g c =
     let numbers = c.args.numbers.now in
-    let walk = c.tiled-kernel.result.lines in
-    let same = c.tiled-kernel.ensures in
+    let walk = c.new-kernel.result.lines in
+    let same = c.new-kernel.ensures in
     let is = c.new-walk.ensures in
     let rows = c.whole.ensures in
     let lines = c.whole-2.ensures in
