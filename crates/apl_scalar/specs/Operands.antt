@@ -1,11 +1,10 @@
 -- An argument in row order, one element of which may serve at all places. No contract of a public function cites this file.
-use Rattle.std.specs.Prelude.{ℕ, ℤ, pos, Bool, List, Result, map, slice_index_or, if◌then◌else◌}
+use Rattle.std.specs.Prelude.{ℕ, ℤ, pos, Bool, List, Result, slice_index_or, if◌then◌else◌}
 use Rattle.apl_array.specs.declared.array.Elem.{Elem}
 use Rattle.apl_array.specs.declared.array.Elem.TheVariants.{Int}
 use Rattle.apl_pool.specs.declared.kernel.Fault.{Fault}
 use Rattle.apl_array.specs.declared.function.ScalarFunction.{ScalarFunction}
 use Rattle.apl_scalar.specs.Scalar.{dyadic_of}
-use Rattle.apl_scalar.specs.declared.operands.Pairs.{Pairs}
 
 -- the element at its own place if the argument is whole, else the first
 abbrev pub operand_at : List Elem → Bool → ℕ → Elem
@@ -14,7 +13,3 @@ operand_at elements is_whole place = slice_index_or elements (if is_whole then p
 -- a dyadic function of the elements that serve at a place
 abbrev pub pair_at : ScalarFunction → List Elem → Bool → List Elem → Bool → ℕ → Result ℤ Fault
 pair_at f left left_is_whole right right_is_whole place = dyadic_of f (operand_at left left_is_whole place) (operand_at right right_is_whole place)
-
--- a dyadic function of the two elements of some pairs that serve at a place
-abbrev pub pair_in : {T : Type 0} → ScalarFunction → (T → Elem) → Pairs T → ℕ → Result ℤ Fault
-pair_in f elem_of pairs place = pair_at f (map elem_of pairs.left.now) pairs.left_is_whole (map elem_of pairs.right.now) pairs.right_is_whole place

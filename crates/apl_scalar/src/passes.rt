@@ -4,7 +4,7 @@ ghost use Rattle.apl_pool.specs.declared.kernel.TheConstants.{MOST_PLACES};
 ghost use Rattle.apl_array.specs.declared.array.Elem.TheVariants.{Int, Chr};
 ghost use Rattle.apl_pool.specs.Pool.{AreValues, IsStopOf};
 ghost use Rattle.apl_scalar.specs.Scalar.{monadic_number, dyadic_of};
-ghost use Rattle.apl_scalar.specs.Operands.{pair_in};
+ghost use Rattle.apl_scalar.specs.Pairs.{pair_in};
 
 use crate::function_types::{Equal, Function, NotEqual};
 use crate::kernels::{NumberResults, PairResults, ResultsKernel};
