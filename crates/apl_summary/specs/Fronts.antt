@@ -1,32 +1,60 @@
 -- What is known of the numbers before others. No contract of a public function cites this file.
-use Rattle.std.specs.Prelude.{◌≡◌, ℕ, ◌+◌, ◌-◌, Bool, ◌&&◌, ℤ, pos, neg_ℤ, ◌+ℤ◌, ◌≤ℤ◌, int_le, List, Result, Ok, Err, if◌then◌else◌}
+use Rattle.std.specs.Prelude.{◌≡◌, ℕ, ◌+◌, ◌-◌, ◌*◌, ◌≤◌, Bool, true, false, ◌&&◌, ℤ, pos, negsuc, neg_ℤ, ◌+ℤ◌, ◌-ℤ◌, ◌*ℤ◌, ◌≤ℤ◌, int_le, unsigned_abs, List, Result, Ok, Err, if◌then◌else◌}
 use Rattle.apl_array.specs.declared.function.ScalarFunction.{ScalarFunction}
-use Rattle.apl_array.specs.declared.function.ScalarFunction.TheVariants.{Plus}
+use Rattle.apl_array.specs.declared.function.ScalarFunction.TheVariants.{Times}
 use Rattle.apl_array.specs.Range.{least_number, greatest_number}
 use Rattle.apl_pool.specs.declared.kernel.Fault.{Fault}
 use Rattle.apl_pool.specs.declared.kernel.Fault.TheVariants.{Limit}
 use Rattle.apl_pool.specs.Pool.{AreValues}
 use Rattle.apl_pool.specs.Summaries.{IsI64, fold_onto}
 use Rattle.apl_scalar.specs.Scalar.{bit, dyadic_numbers}
-use Rattle.apl_summary.specs.declared.running_sum.RunningSum.{RunningSum}
+use Rattle.apl_summary.specs.declared.constants.Bounds.{Bounds}
+use Rattle.apl_summary.specs.declared.constants.Constants.{Constants}
+use Rattle.apl_summary.specs.Constants.{bounds, of_both, signed_function}
 use Rattle.apl_summary.specs.Extremes.{extreme_function, extreme_of_two}
 
--- whether the sums of all ends and a number after them are in the range
-abbrev pub sums_fit : RunningSum → ℤ → Bool
-sums_fit s right = int_le least_number (s.least +ℤ right) && int_le (s.greatest +ℤ right) greatest_number
+-- ---- sums and differences
 
-abbrev pub sum_outcome : RunningSum → ℤ → Result ℤ Fault
-sum_outcome s right = if sums_fit s right then Ok (s.total +ℤ right) else Err Limit
+-- the total plus what comes in, or minus it
+abbrev pub signed_total : (is_negated : Bool) → (total right : ℤ) → ℤ
+signed_total is_negated total right = if is_negated then total -ℤ right else total +ℤ right
 
--- the total of the numbers, and the least and the greatest sum of an end, of which one is of no number
-pub record IsRunningSum (s : RunningSum) (numbers : List ℤ) : Type 0 where
-  pub least : s.least ≤ℤ pos 0
-  pub greatest : pos 0 ≤ℤ s.greatest
-  pub does : (right : ℤ) → IsI64 right → fold_onto (dyadic_numbers Plus) numbers right ≡ sum_outcome s right
+-- With what comes in, -1 minus a constant is in the range exactly where the constant minus it is. So it is a constant with plus that
+-- refuses the same
+abbrev pub mirrored : Bounds → Bounds
+mirrored b = bounds (negsuc 0 -ℤ b.greatest) (negsuc 0 -ℤ b.least)
+
+-- the bounds of the constants with plus and of the mirrored ones with minus
+abbrev pub all_with_plus : Constants → Bounds
+all_with_plus c = of_both c.plus (mirrored c.minus)
+
+-- whether the least and the greatest constant with plus, and a number after them, are in the range
+abbrev pub sums_fit : (least greatest right : ℤ) → Bool
+sums_fit least greatest right = int_le least_number (least +ℤ right) && int_le (greatest +ℤ right) greatest_number
+
+abbrev pub sum_outcome : (is_negated : Bool) → (total least greatest right : ℤ) → Result ℤ Fault
+sum_outcome is_negated total least greatest right = if sums_fit least greatest right then Ok (signed_total is_negated total right) else Err Limit
+
+-- The total of the numbers, which the next one is added to or taken from, and the least and the greatest constant of an end of them, of
+-- which one is of no number. Those with minus are mirrored
+pub record IsRunningSum (is_plus is_negated : Bool) (total least greatest : ℤ) (numbers : List ℤ) : Type 0 where
+  pub only_plus : is_plus ≡ true → is_negated ≡ false
+  pub not_above : least ≤ℤ pos 0
+  pub not_below : pos 0 ≤ℤ greatest
+  pub does : (right : ℤ) → IsI64 right → fold_onto (dyadic_numbers (signed_function is_plus)) numbers right ≡ sum_outcome is_negated total least greatest right
 
 -- the total of the numbers; a number after them of at most this magnitude is refused by no end of them
-pub record IsBoundedSum (total slack : ℤ) (numbers : List ℤ) : Type 0 where
-  pub adds : (right : ℤ) → neg_ℤ slack ≤ℤ right → right ≤ℤ slack → fold_onto (dyadic_numbers Plus) numbers right ≡ Ok (total +ℤ right)
+pub record IsBoundedSum (is_plus is_negated : Bool) (total slack : ℤ) (numbers : List ℤ) : Type 0 where
+  pub only_plus : is_plus ≡ true → is_negated ≡ false
+  pub adds : (right : ℤ) → neg_ℤ slack ≤ℤ right → right ≤ℤ slack → fold_onto (dyadic_numbers (signed_function is_plus)) numbers right ≡ Ok (signed_total is_negated total right)
+
+-- ---- products
+
+-- the product of the numbers; a number after them of which the magnitude times `most` is in the range is refused by no end of them
+pub record IsBoundedProduct (total : ℤ) (most : ℕ) (numbers : List ℤ) : Type 0 where
+  pub multiplies : (right : ℤ) → most * unsigned_abs right ≤ 9223372036854775807 → fold_onto (dyadic_numbers Times) numbers right ≡ Ok (total *ℤ right)
+
+-- ---- extremes and bits
 
 -- the least or the greatest of the numbers
 abbrev pub IsRunningExtreme : Bool → ℤ → List ℤ → Type 0

@@ -1,17 +1,21 @@
-//! Sums of all numbers up to each, while the numbers are so small together that no sum is refused.
-ghost use Rattle.std.specs.Prelude.{◌≡◌, ℕ, ℤ, pos, neg_ℤ, ◌-ℤ◌, ◌≤ℤ◌, ◌≤◌, List, IfSome, length};
-ghost use Rattle.apl_array.specs.declared.function.ScalarFunction.TheVariants.{Plus};
+//! Sums of all numbers up to each, or differences, while the numbers are so small together that none is refused.
+ghost use Rattle.std.specs.Prelude.{◌≡◌, ℕ, ℤ, pos, neg_ℤ, ◌-ℤ◌, ◌≤ℤ◌, ◌≤◌, List, nat_eq, IfSome, length};
+ghost use Rattle.apl_pool.specs.Summaries.{IsI64};
 ghost use Rattle.apl_scalar.specs.Scalar.{dyadic_numbers};
+ghost use Rattle.apl_summary.specs.Constants.{signed_function};
 ghost use Rattle.apl_summary.specs.Running.{AreFoldsBehind};
-ghost use Rattle.apl_summary.specs.Fronts.{IsRunningSum, IsBoundedSum};
+ghost use Rattle.apl_summary.specs.Fronts.{signed_total, IsRunningSum, IsBoundedSum};
 
+use crate::range::{greater_of, lesser_of};
 use crate::running::{PrefixState, scan_run_after};
-use crate::running_sum::RunningSum;
+use crate::running_sum::{RunningSum, is_minus};
 
-/// The total of numbers, and how far every sum of an end of them stays within the range.
+/// The fold of numbers by `+` if `MINUS` is 0, else by `-`, and how far that of every end of them stays within the range.
 #[derive(Clone, Copy)]
-pub struct BoundedSum {
+pub struct BoundedSum<const MINUS: u8> {
     total: i64,
+    /// Whether the next number is taken from the total.
+    is_negated: bool,
     /// A number of at most this magnitude after them is not refused.
     slack: i64,
     ghost some: { pos 0 ≤ℤ slack },
@@ -45,49 +49,76 @@ fn slack_between(least: i64, greatest: i64) -> Option<i64>
     Some((i64::MAX + least).min(i64::MAX - greatest))
 }
 
-impl BoundedSum {
+/// The total plus a number, or minus it.
+#[inline(always)]
+fn total_with(is_negated: bool, total: i64, number: i64) -> i64
+    requires { IsI64 (signed_total is_negated total number) }
+    ensures { result ≡ signed_total is_negated total number }
+{
+    if is_negated {
+        total - number
+    } else {
+        total + number
+    }
+}
+
+impl<const MINUS: u8> BoundedSum<MINUS> {
     /// The bounded sum of the numbers of this running sum, if it can be told.
-    fn of(sum: &RunningSum) -> Option<BoundedSum>
-        ensures { IfSome result (λ s. (numbers : List ℤ) → IsRunningSum sum.now numbers → IsBoundedSum s.total s.slack numbers) }
+    fn of(sum: &RunningSum<MINUS>) -> Option<Self>
+        ensures { IfSome result (λ s. (numbers : List ℤ) → IsRunningSum (nat_eq MINUS 0) sum.now.is_negated sum.now.total sum.now.least sum.now.greatest numbers → IsBoundedSum (nat_eq MINUS 0) s.is_negated s.total s.slack numbers) }
     {
-        if sum.total < sum.least || sum.total > sum.greatest {
-            return None;
-        }
-        let slack = slack_between(sum.least, sum.greatest)?;
+        let least = lesser_of(sum.least, sum.total);
+        let greatest = greater_of(sum.greatest, sum.total);
+        let slack = slack_between(least, greatest)?;
         Some(BoundedSum {
             total: sum.total,
+            is_negated: sum.is_negated,
             slack,
         })
     }
 }
 
-impl PrefixState for BoundedSum {
-    ghost use Rattle.apl_array.specs.declared.function.ScalarFunction.TheVariants.{Plus};
+impl<const MINUS: u8> PrefixState for BoundedSum<MINUS> {
+    ghost use Rattle.std.specs.Prelude.{nat_eq};
     ghost use Rattle.apl_scalar.specs.Scalar.{dyadic_numbers};
+    ghost use Rattle.apl_summary.specs.Constants.{signed_function};
     ghost use Rattle.apl_summary.specs.Fronts.{IsBoundedSum};
 
-    ghost step = { dyadic_numbers Plus };
+    ghost step = { dyadic_numbers (signed_function (nat_eq MINUS 0)) };
 
-    ghost is_of = { λ s. IsBoundedSum s.total s.slack };
+    ghost is_of = { λ s. IsBoundedSum (nat_eq MINUS 0) s.is_negated s.total s.slack };
 
     #[inline(always)]
     fn with(&self, number: i64) -> Option<(i64, Self)> {
         let magnitude = magnitude_within(number, self.slack)?;
-        let total = self.total + number;
+        let subtracts = is_minus(MINUS == 0, self.is_negated);
+        let total = total_with(subtracts, self.total, number);
+        let is_negated = is_minus(MINUS == 0, !self.is_negated);
         let slack = self.slack - magnitude;
-        Some((total, BoundedSum { total, slack }))
+        Some((
+            total,
+            BoundedSum {
+                total,
+                is_negated,
+                slack,
+            },
+        ))
     }
 }
 
-/// Puts into the room the folds by `+` of all numbers up to each of these. The numbers of the running sum come
+/// Puts into the room the folds by `+` or `-` of all numbers up to each of these. The numbers of the running sum come
 /// before these. It stops before the first fold that it can't tell, and answers how many it put.
-pub fn put_sums_behind(front: RunningSum, numbers: &[i64], room: &mut [i64]) -> usize
+pub fn put_sums_behind<const MINUS: u8>(
+    front: RunningSum<MINUS>,
+    numbers: &[i64],
+    room: &mut [i64],
+) -> usize
     requires { length numbers.now ≡ length room.old }
     ensures most { result ≤ length room.old }
-    ensures folds { (before : List ℤ) → IsRunningSum front before → AreFoldsBehind (dyadic_numbers Plus) before numbers.now result room.new }
+    ensures folds { (before : List ℤ) → IsRunningSum (nat_eq MINUS 0) front.entry.is_negated front.entry.total front.entry.least front.entry.greatest before → AreFoldsBehind (dyadic_numbers (signed_function (nat_eq MINUS 0))) before numbers.now result room.new }
     ensures len { length room.new ≡ length room.old }
 {
-    if let Some(bounded) = BoundedSum::of(&front) {
+    if let Some(bounded) = BoundedSum::<MINUS>::of(&front) {
         let done = scan_run_after(bounded, numbers, room);
         if done == room.len() {
             return done;

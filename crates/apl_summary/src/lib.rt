@@ -5,6 +5,7 @@
 #![tactic(auto)]
 
 mod answers;
+mod bounded_product;
 mod bounded_sum;
 mod coefficients;
 mod consecutive;

@@ -2,8 +2,9 @@
 ghost use Rattle.std.specs.Prelude.{◌≡◌, ℕ};
 ghost use Rattle.apl_summary.specs.Coefficients.{AreCoefficients};
 
+use crate::bounded_product::BoundedProduct;
 use crate::coefficients::Coefficients;
-use crate::running::Running;
+use crate::running::{Running, scan_run_after};
 use crate::small_coefficients::small_coefficients;
 use apl_pool::{Fault, Kernel, Summary};
 
@@ -58,4 +59,14 @@ impl Summary for Scaled {
     }
 }
 
-impl Running for Scaled {}
+impl Running for Scaled {
+    fn scan_run(before: &Option<Self>, numbers: &[i64], room: &mut [i64]) -> usize {
+        let Some(before) = before else {
+            return scan_run_after(BoundedProduct::none(), numbers, room);
+        };
+        match BoundedProduct::of(&before.coefficients) {
+            Some(front) => scan_run_after(front, numbers, room),
+            None => 0,
+        }
+    }
+}

@@ -62,13 +62,10 @@ impl<const MINUS: u8> Summary for SignedSum<MINUS> {
 
 impl<const MINUS: u8> Running for SignedSum<MINUS> {
     fn scan_run(before: &Option<Self>, numbers: &[i64], room: &mut [i64]) -> usize {
-        if MINUS != 0 {
-            return 0;
-        }
         let Some(before) = before else {
-            return put_sums_behind(RunningSum::none(), numbers, room);
+            return put_sums_behind(RunningSum::<MINUS>::none(), numbers, room);
         };
-        match RunningSum::of(&before.constants) {
+        match RunningSum::<MINUS>::of(&before.constants) {
             Some(front) => put_sums_behind(front, numbers, room),
             None => 0,
         }
