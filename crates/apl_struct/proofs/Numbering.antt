@@ -1,9 +1,8 @@
 -- The lines along an axis are numbered by the index lists of the other axes.
 use Rattle.std.proofs.Common.{◌≡◌, ℕ, zero, suc, ◌+◌, ◌*◌, ◌/◌, ◌%◌, ◌<◌, List, [], ◌∷◌, length, drop, slice_index, refl, sym, ap, ◌∙◌, arith}
-use Rattle.std.specs.Prelude.{slice_set, insert, remove, ◌≤◌}
+use Rattle.std.specs.Prelude.{insert, remove, ◌≤◌}
 use Rattle.std.proofs.Math.Nat.{mod-lt, div-div-eq-div-mul, div-lt_iff_lt-mul, mul-le-mul_right}
 use Rattle.std.proofs.lemmas.Nat.{div-add-mod', div-mul-add, mod-mul-add}
-use Rattle.std.proofs.lemmas.List.{get_or-set_same, drop-set-lt, length-set}
 use Rattle.apl_array.specs.Shape.{IsIndexOf, count_of, place_of, index_at}
 use Rattle.apl_struct.specs.Along.{line_index, line_number}
 use Rattle.apl_struct.proofs.Taken.{pos_left, pos_right}

@@ -23,7 +23,7 @@ use Rattle.apl_walk.specs.Maps.{map_extent, map_step, step_of, walked}
 use Rattle.apl_pool.specs.declared.kernel.Fault.{Fault}
 use Rattle.apl_pool.specs.Pool.{AreValues}
 use Rattle.apl_struct.specs.Numbering.{IsReached, last_number, value_numbered, element_numbered, value_step, IsReplacement}
-use Rattle.apl_struct.specs.Selecting.{chosen_place, AreArrays, IsSelection}
+use Rattle.apl_struct.specs.Selecting.{chosen_place, IsSelection}
 use Rattle.apl_struct.proofs.Filled.{get_or-within}
 use Rattle.apl_struct.proofs.Sources.{place_chosen, lawful_index, rest_of}
 
@@ -145,7 +145,7 @@ module _ (law : (shape index : List ℕ) → IsIndexOf shape index → place_of 
     (inverse : (shape index : List ℕ) → IsIndexOf shape index → index_at shape (place_of shape index) ≡ index)
     (lawful : (shape : List ℕ) (place : ℕ) → place < count_of shape → IsIndexOf shape (index_at shape place))
     (back : (shape : List ℕ) (place : ℕ) → place < count_of shape → place_of shape (index_at shape place) ≡ place)
-    (origin : Origin) (a b : ArrayValue) (slots : Slots) (selected : IsSelection a slots origin (selected_shape a.shape slots)) (arrays : AreArrays slots)
+    (origin : Origin) (a b : ArrayValue) (slots : Slots) (selected : IsSelection a slots origin (selected_shape a.shape slots))
     (some : 0 < count_of (selected_shape a.shape slots)) (fits : IsReplacement a b (selected_shape a.shape slots)) (a_array : IsArray a) (b_array : IsArray b) where
   pub last_chosen : (p n : ℕ) → p < count_of a.shape → n ≤ count_of (selected_shape a.shape slots)
       → element_numbered a b (last_number (chosen_place origin a.shape slots) (value_step b) p n) p
@@ -156,7 +156,7 @@ module _ (law : (shape index : List ℕ) → IsIndexOf shape index → place_of 
       let index = index_at a.shape p in
       let chosen = select_source origin slots (index_at shape n) in
       let test : is_same_shape chosen index ≡ nat_eq (chosen_place origin a.shape slots n) p =
-      same_test inverse a.shape chosen index (lawful_index origin law a slots selected arrays some n) (lawful a.shape p inside)
+      same_test inverse a.shape chosen index (lawful_index origin law a slots selected some n) (lawful a.shape p inside)
       ∙ ap (λ q. nat_eq q (place_of a.shape index)) (place_chosen origin a.shape slots n selected.each some) ∙ ap (nat_eq (chosen_place origin a.shape slots n)) (back a.shape p inside) in
       rw test (one_of_two (λ number. element_numbered a b number p) (replaced_element a b index) (nat_eq (chosen_place origin a.shape slots n) p)
       (n * value_step b + 1) (last_number (chosen_place origin a.shape slots) (value_step b) p n) (Some n) (last_choice origin slots shape index n)

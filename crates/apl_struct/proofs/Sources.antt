@@ -1,7 +1,6 @@
 -- The place that the slots choose is that of the index list that they choose.
-use Rattle.std.proofs.Common.{◌≡◌, ℕ, pos, zero, suc, ◌+◌, ◌-◌, ◌*◌, ◌/◌, ◌%◌, ◌<◌, true, List, [], ◌∷◌, ◌++◌, length, take, drop, map, Option, Some, None, slice_index, slice_index_or, refl, ap, subst, sym, ◌∙◌, arith}
-use Rattle.std.specs.Prelude.{All, ◌≤◌, Bool}
-use Rattle.std.specs.List.{list_all}
+use Rattle.std.proofs.Common.{◌≡◌, ℕ, pos, zero, suc, ◌+◌, ◌-◌, ◌*◌, ◌/◌, ◌%◌, ◌<◌, true, List, [], ◌∷◌, ◌++◌, length, take, drop, Option, Some, None, slice_index, slice_index_or, refl, ap, subst, sym, ◌∙◌, arith}
+use Rattle.std.specs.Prelude.{All, ◌≤◌}
 use Rattle.std.proofs.Math.Nat.{div-div-eq-div-mul, mod-one, mod-lt, add_comm, le-mul_of_pos_right}
 use Rattle.std.proofs.Math.Arith.{mod-mul}
 use Rattle.std.proofs.Math.Seq.{take-append_seam, drop-append_seam, take-length}
@@ -82,12 +81,12 @@ count_more : (n : ℕ) (s : Option ArrayValue) (ns : List ℕ) (slots : Slots) �
 count_more n s ns slots = count_joined (slot_shape n s) (selected_shape ns slots) ∙ ap (λ t. t * count_of (selected_shape ns slots)) (count_shape n s)
 
 -- how many index lists the slots choose along the first axis and along the others
-pub count_first : {X : Type 0} (f : X → Option ArrayValue) (slot : X) (shape : List ℕ) (slots : List X) → 0 < length shape → 0 < length slots → slot ≡ slice_index_or slots 0 slot
-    → count_of (selected_shape shape (map f slots)) ≡ slot_count (slice_index shape 0) (f slot) * count_of (selected_shape (drop 1 shape) (map f (drop 1 slots)))
-count_first f slot [] slots axis some is = absurd (omega arith)
-count_first f slot (n ∷ ns) [] axis some is = absurd (omega arith)
-count_first f slot (n ∷ ns) (x ∷ xs) axis some is =
-    count_more n (f x) ns (map f xs) ∙ ap (λ y. slot_count n (f y) * count_of (selected_shape ns (map f xs))) (sym is)
+pub count_first : (slot : Option ArrayValue) (shape : List ℕ) (slots : Slots) → 0 < length shape → 0 < length slots → slot ≡ slice_index_or slots 0 slot
+    → count_of (selected_shape shape slots) ≡ slot_count (slice_index shape 0) slot * count_of (selected_shape (drop 1 shape) (drop 1 slots))
+count_first slot [] slots axis some is = absurd (omega arith)
+count_first slot (n ∷ ns) [] axis some is = absurd (omega arith)
+count_first slot (n ∷ ns) (s ∷ slots) axis some is =
+    count_more n s ns slots ∙ ap (λ t. slot_count n t * count_of (selected_shape ns slots)) (sym is)
 
 -- ---- what holds of the axes behind the first one
 
@@ -100,15 +99,11 @@ pub length_fewer : {X : Type 0} (xs : List X) → length (drop 1 xs) ≤ length 
 length_fewer [] = omega arith
 length_fewer (x ∷ xs) = omega arith
 
-pub all_rest : {X : Type 0} (f : X → Option ArrayValue) (p : Option ArrayValue → Bool) (xs : List X) → list_all p (map f xs) ≡ true → list_all p (map f (drop 1 xs)) ≡ true
-all_rest f p [] all = all
-all_rest f p (x ∷ xs) all = (and_parts (p (f x)) (list_all p (map f xs)) all).1
-
-pub within_rest : {X : Type 0} (origin : Origin) (f : X → Option ArrayValue) (ns : List ℕ) (xs : List X) → 0 < length ns → 0 < length xs
-    → are_slots_within origin ns (map f xs) ≡ true → are_slots_within origin (drop 1 ns) (map f (drop 1 xs)) ≡ true
-within_rest origin f [] xs axis some all = absurd (omega arith)
-within_rest origin f (n ∷ ns) [] axis some all = absurd (omega arith)
-within_rest origin f (n ∷ ns) (x ∷ xs) axis some all = (and_parts (is_slot_within origin n (f x)) (are_slots_within origin ns (map f xs)) all).1
+pub within_rest : (origin : Origin) (ns : List ℕ) (slots : Slots) → 0 < length ns → 0 < length slots
+    → are_slots_within origin ns slots ≡ true → are_slots_within origin (drop 1 ns) (drop 1 slots) ≡ true
+within_rest origin [] slots axis some all = absurd (omega arith)
+within_rest origin (n ∷ ns) [] axis some all = absurd (omega arith)
+within_rest origin (n ∷ ns) (s ∷ slots) axis some all = (and_parts (is_slot_within origin n s) (are_slots_within origin ns slots) all).1
 
 pub most_rest : (ns : List ℕ) (most : ℕ) → All (λ n. n ≤ most) ns → All (λ n. n ≤ most) (drop 1 ns)
 most_rest [] most all = all
@@ -179,29 +174,29 @@ module _ (origin : Origin) where
       (index_chosen ns slots p (omega arith) parts.1 arrays.1 tests.1))
 
   -- the place with one more axis before the others
-  pub place_first : {X : Type 0} (f : X → Option ArrayValue) (slot : X) (shape : List ℕ) (slots : List X) (m : Map) (rest : Option ℕ) (e place : ℕ) → 0 < length shape → 0 < length slots
-      → slot ≡ slice_index_or slots 0 slot → e ≡ count_of (selected_shape (drop 1 shape) (map f (drop 1 slots))) → rest ≡ Some (chosen_place origin (drop 1 shape) (map f (drop 1 slots)) place)
-      → 0 < slot_count (slice_index shape 0) (f slot) → map_extent m ≡ slot_count (slice_index shape 0) (f slot)
-      → ((i : ℕ) → i < slot_count (slice_index shape 0) (f slot) → map_step m i ≡ Some (slot_index origin (f slot) i * count_of (drop 1 shape)))
-      → and_step rest (map_step m (place / e % map_extent m)) ≡ Some (chosen_place origin shape (map f slots) place)
-  place_first f slot [] slots m rest e place axis some is count chosen inside extent steps = absurd (omega arith)
-  place_first f slot (n ∷ ns) [] m rest e place axis some is count chosen inside extent steps = absurd (omega arith)
-  place_first f slot (n ∷ ns) (x ∷ xs) m rest e place axis some is count chosen inside extent steps =
-      let others = chosen_place origin ns (map f xs) place in
-      let i = place / count_of (selected_shape ns (map f xs)) % slot_count n (f slot) in
-      let index : place / e % map_extent m ≡ i = ap (λ c. place / c % map_extent m) count ∙ ap (λ c. place / count_of (selected_shape ns (map f xs)) % c) extent in
-      let below : i < slot_count n (f slot) = mod-lt (place / count_of (selected_shape ns (map f xs))) inside in
+  pub place_first : (slot : Option ArrayValue) (shape : List ℕ) (slots : Slots) (m : Map) (rest : Option ℕ) (e place : ℕ) → 0 < length shape → 0 < length slots
+      → slot ≡ slice_index_or slots 0 slot → e ≡ count_of (selected_shape (drop 1 shape) (drop 1 slots)) → rest ≡ Some (chosen_place origin (drop 1 shape) (drop 1 slots) place)
+      → 0 < slot_count (slice_index shape 0) slot → map_extent m ≡ slot_count (slice_index shape 0) slot
+      → ((i : ℕ) → i < slot_count (slice_index shape 0) slot → map_step m i ≡ Some (slot_index origin slot i * count_of (drop 1 shape)))
+      → and_step rest (map_step m (place / e % map_extent m)) ≡ Some (chosen_place origin shape slots place)
+  place_first slot [] slots m rest e place axis some is count chosen inside extent steps = absurd (omega arith)
+  place_first slot (n ∷ ns) [] m rest e place axis some is count chosen inside extent steps = absurd (omega arith)
+  place_first slot (n ∷ ns) (s ∷ slots) m rest e place axis some is count chosen inside extent steps =
+      let others = chosen_place origin ns slots place in
+      let i = place / count_of (selected_shape ns slots) % slot_count n slot in
+      let index : place / e % map_extent m ≡ i = ap (λ c. place / c % map_extent m) count ∙ ap (λ c. place / count_of (selected_shape ns slots) % c) extent in
+      let below : i < slot_count n slot = mod-lt (place / count_of (selected_shape ns slots)) inside in
       ap (λ r. and_step r (map_step m (place / e % map_extent m))) chosen
       ∙ ap (λ j. and_step (Some others) (map_step m j)) index
       ∙ ap (and_step (Some others)) (steps i below)
-      ∙ ap Some (add_comm others (slot_index origin (f slot) i * count_of ns))
-      ∙ ap (λ y. Some (slot_index origin (f y) (place / count_of (selected_shape ns (map f xs)) % slot_count n (f y)) * count_of ns + others)) is
+      ∙ ap Some (add_comm others (slot_index origin slot i * count_of ns))
+      ∙ ap (λ t. Some (slot_index origin t (place / count_of (selected_shape ns slots) % slot_count n t) * count_of ns + others)) is
 
   module _ (below : (shape index : List ℕ) → IsIndexOf shape index → place_of shape index < count_of shape) where
-    module _ (a : ArrayValue) (slots : Slots) (selected : IsSelection a slots origin (selected_shape a.shape slots)) (arrays : AreArrays slots)
+    module _ (a : ArrayValue) (slots : Slots) (selected : IsSelection a slots origin (selected_shape a.shape slots))
         (some : 0 < count_of (selected_shape a.shape slots)) where
       pub lawful_index : (p : ℕ) → IsIndexOf a.shape (chosen_index a.shape slots p)
-      lawful_index p = index_chosen a.shape slots p selected.each some arrays selected.within
+      lawful_index p = index_chosen a.shape slots p selected.each some selected.arrays selected.within
 
       pub place_within : (p : ℕ) → chosen_place origin a.shape slots p < count_of a.shape
       place_within p = rw (sym (place_chosen a.shape slots p selected.each some)) (below a.shape (chosen_index a.shape slots p) (lawful_index p))

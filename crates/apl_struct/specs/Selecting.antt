@@ -1,6 +1,5 @@
 -- The places of an argument that the slots of an index choose. No contract of a public function cites this file.
 use Rattle.std.specs.Prelude.{◌≡◌, ℕ, pos, ◌+◌, ◌*◌, ◌/◌, ◌%◌, ◌⊎◌, true, List, [], ◌∷◌, length, Option, Some, None, Result, Ok, Err, slice_index_or}
-use Rattle.std.specs.List.{list_all}
 use Rattle.apl_array.specs.declared.axis.Origin.{Origin}
 use Rattle.apl_array.specs.Axes.{from_origin, place_number}
 use Rattle.apl_array.specs.Shape.{count_of}
@@ -9,7 +8,7 @@ use Rattle.apl_answer.specs.declared.fault.OpFault.{OpFault}
 use Rattle.apl_answer.specs.declared.fault.OpFault.TheVariants.{Memory}
 use Rattle.apl_answer.specs.Arguments.{rank_of, numbers_of}
 use Rattle.apl_answer.specs.Rows.{Check, first_failure_or}
-use Rattle.apl_struct.specs.Indexing.{Slots, is_slot_of_numbers, are_slots_within, selected_shape}
+use Rattle.apl_struct.specs.Indexing.{Slots, are_slots_within, selected_shape}
 
 -- ---- slots
 
@@ -39,7 +38,7 @@ AreArrays (None ∷ slots) = AreArrays slots
 pub record IsSelection (a : ArrayValue) (slots : Slots) (origin : Origin) (shape : List ℕ) : Type 0 where
   pub shape_is : shape ≡ selected_shape a.shape slots
   pub each : length slots ≡ rank_of a
-  pub numbers : list_all is_slot_of_numbers slots ≡ true
+  pub arrays : AreArrays slots
   pub within : are_slots_within origin a.shape slots ≡ true
 
 -- a value where each check holds, else the refusal of the first that fails, or want of memory

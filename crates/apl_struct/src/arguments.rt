@@ -1,20 +1,21 @@
 //! What the checks ask of an argument.
-ghost use Rattle.std.specs.Prelude.{◌≡◌, ◌+◌, ◌<◌, true, false, MatchOption, length, remove};
+ghost use Rattle.std.specs.Prelude.{◌≡◌, ◌+◌, ◌<◌, true, false, MatchResult, length, remove};
+ghost use Rattle.apl_array.specs.Array.{IsArray};
+ghost use Rattle.apl_answer.specs.declared.fault.OpFault.TheVariants.{Domain};
 ghost use Rattle.apl_answer.specs.Arguments.{is_numbers, numbers_of, is_same_shape};
 
-use apl_array::{Array, Shape};
+use apl_answer::OpFault;
+use apl_array::Array;
 
-/// The numbers of an array in row order, where it is of numbers or without elements.
-pub(crate) fn numbers_among(a: &Array) -> Option<&[i64]>
-    ensures { MatchOption result (is_numbers a.now ≡ false) (λ ns. (is_numbers a.now ≡ true) × (numbers_of a.now ≡ ns.now)) }
+/// The numbers of an array in row order. It is of numbers or without elements (`Domain`).
+pub(crate) fn numbers_among(a: &Array) -> Result<&[i64], OpFault>
+    ensures numbers { MatchResult result (λ ns. (is_numbers a.now ≡ true) × (numbers_of a.now ≡ ns.now)) (λ fault. (fault ≡ Domain) × (is_numbers a.now ≡ false)) }
+    ensures lawful { IsArray a.now }
 {
-    if let Some(numbers) = a.numbers() {
-        return Some(numbers);
-    }
-    if a.shape().count() == 0 {
-        Some(&[])
-    } else {
-        None
+    match a.numbers() {
+        Some(numbers) => Ok(numbers),
+        None if a.shape().count() == 0 => Ok(&[]),
+        None => Err(OpFault::Domain),
     }
 }
 

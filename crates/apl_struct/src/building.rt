@@ -179,9 +179,7 @@ pub fn reshape<R: Threads + Sync, C: Cut + Sync, G: Gate + Sync>(
     if a.shape().rank() > 1 {
         return Err(OpFault::Rank);
     }
-    let Some(numbers) = numbers_among(a) else {
-        return Err(OpFault::Domain);
-    };
+    let numbers = numbers_among(a)?;
     if !are_natural(numbers) {
         return Err(OpFault::Domain);
     }
@@ -239,9 +237,7 @@ pub fn iota<R: Threads + Sync, C: Cut + Sync, G: Gate + Sync>(
     if n.shape().count() != 1 {
         return Err(OpFault::Length);
     }
-    let Some(numbers) = numbers_among(n) else {
-        return Err(OpFault::Domain);
-    };
+    let numbers = numbers_among(n)?;
     if !are_natural(numbers) {
         return Err(OpFault::Domain);
     }

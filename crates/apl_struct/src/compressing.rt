@@ -141,9 +141,7 @@ pub fn compress<R: Threads + Sync, C: Cut + Sync, G: Gate + Sync>(
     if !serves(count, length) {
         return Err(OpFault::Length);
     }
-    let Some(counts) = numbers_among(a) else {
-        return Err(OpFault::Domain);
-    };
+    let counts = numbers_among(a)?;
     if count == 1 {
         return workers.replicate_all(b, k, length, counts[0]);
     }

@@ -69,9 +69,7 @@ pub fn expand<R: Threads + Sync, C: Cut + Sync, G: Gate + Sync>(
     if a.shape().rank() > 1 {
         return Err(OpFault::Rank);
     }
-    let Some(bits) = numbers_among(a) else {
-        return Err(OpFault::Domain);
-    };
+    let bits = numbers_among(a)?;
     let Some((entries, ones)) = expanded_entries(alloc, bits)? else {
         return Err(OpFault::Domain);
     };

@@ -5,11 +5,11 @@ ghost use Rattle.apl_array.specs.Axes.{from_origin, is_below};
 ghost use Rattle.apl_array.specs.Array.{element_at};
 ghost use Rattle.apl_answer.specs.Pointwise.{answer_of, IsAnswerOf};
 ghost use Rattle.apl_answer.specs.Rows.{Answers};
-ghost use Rattle.apl_struct.specs.Indexing.{is_slot_of_numbers, is_slot_within, are_slots_within, selected_shape, selection_checks, select_source, select_row};
+ghost use Rattle.apl_struct.specs.Indexing.{are_slots_within, selected_shape, selection_checks, select_source, select_row};
 ghost use Rattle.apl_struct.specs.Selecting.{IsCheckedResult, IsSelection};
 
-use crate::arguments::numbers_among;
-use crate::selecting::{are_arrays, selected_walk};
+use crate::selecting::selected_walk;
+use crate::slots::{NumberArray, push_slots};
 use crate::workers::Workers;
 use apl_answer::OpFault;
 use apl_array::{Array, Origin, Shape, places_match_index_lists};
@@ -36,42 +36,9 @@ fn are_indexes(numbers: &[i64], origin: Origin, axis_length: usize) -> bool
     true
 }
 
-/// Whether a slot is empty or of numbers.
-fn is_of_numbers(slot: Option<&Array>) -> bool
-    ensures { result ≡ is_slot_of_numbers (option_copied slot.entry) }
-{
-    match slot {
-        Some(array) => numbers_among(array).is_some(),
-        None => true,
-    }
-}
-
-fn are_of_numbers(slots: &[Option<&Array>]) -> bool
-    ensures { result ≡ list_all is_slot_of_numbers (map option_copied slots.now) }
-{
-    match slots {
-        [] => true,
-        [slot, slots @ ..] => is_of_numbers(*slot) && are_of_numbers(slots),
-    }
-}
-
-/// Whether a slot is empty, or each of its numbers less the origin is an index of the axis.
-fn is_within(slot: Option<&Array>, origin: Origin, axis_length: usize) -> bool
-    requires { is_slot_of_numbers (option_copied slot) ≡ true }
-    ensures { result ≡ is_slot_within origin axis_length (option_copied slot.entry) }
-{
-    let Some(array) = slot else {
-        return true;
-    };
-    match numbers_among(array) {
-        Some(numbers) => are_indexes(numbers, origin, axis_length),
-        None => unreachable!(),
-    }
-}
-
-fn are_within(lengths: &[usize], slots: &[Option<&Array>], origin: Origin) -> bool
-    requires { list_all is_slot_of_numbers (map option_copied slots.now) ≡ true }
-    ensures { result ≡ are_slots_within origin lengths.now (map option_copied slots.now) }
+/// Whether each number of the slots, less the origin, is an index of the slot's axis.
+fn are_within(lengths: &[usize], slots: &[Option<NumberArray>], origin: Origin) -> bool
+    ensures { result ≡ are_slots_within origin lengths.now slots.now }
 {
     let [axis_length, lengths @ ..] = lengths else {
         return true;
@@ -79,16 +46,19 @@ fn are_within(lengths: &[usize], slots: &[Option<&Array>], origin: Origin) -> bo
     let [slot, slots @ ..] = slots else {
         return true;
     };
-    is_within(*slot, origin, *axis_length) && are_within(lengths, slots, origin)
+    match slot {
+        Some(chosen) if !are_indexes(chosen.numbers, origin, *axis_length) => false,
+        _ => are_within(lengths, slots, origin),
+    }
 }
 
 /// Adds the shape of each slot, which is its axis where it is empty.
 fn push_selected(
     lengths: &[usize],
-    slots: &[Option<&Array>],
+    slots: &[Option<NumberArray>],
     selected: &mut Vec<usize>,
 ) -> Result<(), AllocError>
-    ensures { IfOk result (λ u. selected.new.items ≡ selected.old.items ++ selected_shape lengths.now (map option_copied slots.now)) }
+    ensures { IfOk result (λ u. selected.new.items ≡ selected.old.items ++ selected_shape lengths.now slots.now) }
 {
     let [axis_length, lengths @ ..] = lengths else {
         return Ok(());
@@ -97,35 +67,36 @@ fn push_selected(
         return Ok(());
     };
     match slot {
-        Some(array) => selected.extend_from_slice(array.shape().lengths())?,
+        Some(chosen) => selected.extend_from_slice(chosen.array.shape().lengths())?,
         None => selected.push(*axis_length)?,
     }
     push_selected(lengths, slots, selected)
 }
 
-/// The shape that the slots choose. They number the rank (`Rank`), are of numbers (`Domain`), of
-/// which each is an index of its axis (`Index`), and what they choose is within the limits (`Limit`).
-pub(crate) fn selected_shape(
+/// The slots, and the shape that they choose. The slots number the rank (`Rank`) and are of numbers (`Domain`).
+/// Each number is an index of its axis (`Index`), and what they choose is within the limits (`Limit`).
+pub(crate) fn selection<'a>(
     alloc: Global,
     a: &Array,
-    slots: &[Option<&Array>],
+    slots: &[Option<&'a Array>],
     origin: Origin,
-) -> Result<Shape, OpFault>
-    ensures { IsCheckedResult (selection_checks a.now (map option_copied slots.now) origin) (IsSelection a.now (map option_copied slots.now) origin) result }
+) -> Result<(Vec<Option<NumberArray<'a>>>, Shape), OpFault>
+    ensures { IsCheckedResult (selection_checks a.now (map option_copied slots.now) origin)
+        (λ s. (s.0.items ≡ map option_copied slots.now) × IsSelection a.now s.0.items origin s.1) result }
 {
     let lengths = a.shape().lengths();
     if slots.len() != lengths.len() {
         return Err(OpFault::Rank);
     }
-    if !are_of_numbers(slots) {
-        return Err(OpFault::Domain);
-    }
-    if !are_within(lengths, slots, origin) {
+    let mut judged = Vec::with_capacity(alloc, slots.len())?;
+    push_slots(slots, &mut judged)?;
+    if !are_within(lengths, judged.as_slice(), origin) {
         return Err(OpFault::Index);
     }
     let mut selected = Vec::new(alloc);
-    push_selected(lengths, slots, &mut selected)?;
-    Ok(Shape::new(alloc, selected.as_slice())?)
+    push_selected(lengths, judged.as_slice(), &mut selected)?;
+    let shape = Shape::new(alloc, selected.as_slice())?;
+    Ok((judged, shape))
 }
 
 impl<R: Threads + Sync, C: Cut + Sync, G: Gate + Sync> Workers<'_, R, C, G> {
@@ -135,17 +106,16 @@ impl<R: Threads + Sync, C: Cut + Sync, G: Gate + Sync> Workers<'_, R, C, G> {
         &self,
         shape: Shape,
         a: &Array,
-        slots: &[Option<&Array>],
+        slots: &[Option<NumberArray>],
         origin: Origin,
     ) -> Result<Array, OpFault>
-        requires { IsSelection a.now (map option_copied slots.now) origin shape }
-        ensures { IsAnswerOf (answer_of shape (λ index. Ok (element_at a.now (select_source origin (map option_copied slots.now) index))) a.now.kind) result }
+        requires { IsSelection a.now slots.now origin shape }
+        ensures { IsAnswerOf (answer_of shape (λ index. Ok (element_at a.now (select_source origin slots.now index))) a.now.kind) result }
     {
         if shape.count() == 0 {
             return self.empty(shape, a);
         }
         places_match_index_lists();
-        are_arrays(slots);
         // An array that was asked something is known to be lawful.
         let _kind = a.kind();
         let walk = selected_walk(self.alloc, a, slots, origin)?;
@@ -168,6 +138,6 @@ pub fn select<R: Threads + Sync, C: Cut + Sync, G: Gate + Sync>(
     ensures { Answers (select_row a.now (map option_copied slots.now) origin) result }
 {
     let workers = Workers { rt, alloc, pool };
-    let shape = selected_shape(alloc, a, slots, origin)?;
-    workers.gather_selected(shape, a, slots, origin)
+    let (slots, shape) = selection(alloc, a, slots, origin)?;
+    workers.gather_selected(shape, a, slots.as_slice(), origin)
 }

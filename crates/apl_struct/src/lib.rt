@@ -23,6 +23,7 @@ mod scalars;
 mod selecting;
 mod shapes;
 mod slices;
+mod slots;
 mod taking;
 mod workers;
 

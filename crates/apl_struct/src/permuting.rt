@@ -141,9 +141,7 @@ pub fn transpose_by<R: Threads + Sync, C: Cut + Sync, G: Gate + Sync>(
     if a.shape().count() != b.shape().rank() {
         return Err(OpFault::Length);
     }
-    let Some(numbers) = numbers_among(a) else {
-        return Err(OpFault::Domain);
-    };
+    let numbers = numbers_among(a)?;
     if !are_from_origin(numbers, origin) {
         return Err(OpFault::Domain);
     }

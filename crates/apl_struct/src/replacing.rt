@@ -16,8 +16,9 @@ ghost use Rattle.apl_struct.specs.Selecting.{IsCheckedResult, IsSelection};
 ghost use Rattle.apl_struct.specs.Numbering.{place_or_zero, IsReached, last_number, value_numbered, element_numbered, replacement_checks, value_step, IsReplacement};
 
 use crate::arguments::is_same_shape;
-use crate::indexing::selected_shape;
-use crate::selecting::{are_arrays, selected_walk};
+use crate::indexing::selection;
+use crate::selecting::selected_walk;
+use crate::slots::NumberArray;
 use crate::workers::Workers;
 use apl_answer::{ElementType, OpFault, array_from_fill, array_of_elements};
 use apl_array::{Array, Origin, Shape, places_match_index_lists};
@@ -213,22 +214,21 @@ impl<R: Threads + Sync, C: Cut + Sync, G: Gate + Sync> Workers<'_, R, C, G> {
     fn replace_selected(
         &self,
         a: &Array,
-        slots: &[Option<&Array>],
+        slots: &[Option<NumberArray>],
         b: &Array,
         origin: Origin,
         selected: Shape,
     ) -> Result<Array, OpFault>
-        requires selection { IsSelection a.now (map option_copied slots.now) origin selected }
+        requires selection { IsSelection a.now slots.now origin selected }
         requires values { IsReplacement a.now b.now selected }
         ensures { IsAnswerOf (answer_of a.now.shape
-            (λ index. Ok (replaced_element a.now b.now index (last_choice origin (map option_copied slots.now) selected index (count_of selected)))) a.now.kind) result }
+            (λ index. Ok (replaced_element a.now b.now index (last_choice origin slots.now selected index (count_of selected)))) a.now.kind) result }
     {
         let count = selected.count();
         if count == 0 {
             return self.gather_all(a);
         }
         places_match_index_lists();
-        are_arrays(slots);
         let shape = a.shape().copy(self.alloc)?;
         let walk = selected_walk(self.alloc, a, slots, origin)?;
         let maps = walk.into_maps()?;
@@ -256,7 +256,7 @@ pub fn replace<R: Threads + Sync, C: Cut + Sync, G: Gate + Sync>(
     ensures { Answers (replace_row a.now (map option_copied slots.now) b.now origin) result }
 {
     let workers = Workers { rt, alloc, pool };
-    let selected = selected_shape(alloc, a, slots, origin)?;
+    let (slots, selected) = selection(alloc, a, slots, origin)?;
     judge_values(a, b, &selected)?;
-    workers.replace_selected(a, slots, b, origin, selected)
+    workers.replace_selected(a, slots.as_slice(), b, origin, selected)
 }

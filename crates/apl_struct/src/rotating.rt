@@ -186,9 +186,7 @@ pub fn rotate<R: Threads + Sync, C: Cut + Sync, G: Gate + Sync>(
     if !has_lengths_of_lines(a, b, k) {
         return Err(OpFault::Length);
     }
-    let Some(rotations) = numbers_among(a) else {
-        return Err(OpFault::Domain);
-    };
+    let rotations = numbers_among(a)?;
     if b.shape().rank() == 0 {
         workers.gather_scalar(b)
     } else if a.shape().count() == 1 {

@@ -1,6 +1,5 @@
 //! The walk over an array of which the slots of an index choose.
-ghost use Rattle.std.specs.Prelude.{◌≡◌, ℕ, ◌+◌, ◌*◌, ◌/◌, ◌%◌, ◌<◌, ◌≤◌, true, All, Some, IfOk, length, map, option_copied, vec_len};
-ghost use Rattle.std.specs.List.{list_all};
+ghost use Rattle.std.specs.Prelude.{◌≡◌, ℕ, ◌+◌, ◌*◌, ◌/◌, ◌%◌, ◌<◌, ◌≤◌, true, All, Some, IfOk, length, vec_len};
 ghost use Rattle.apl_array.specs.declared.shape.TheConstants.{MOST_AXES};
 ghost use Rattle.apl_array.specs.Shape.{count_of};
 ghost use Rattle.apl_pool.specs.declared.kernel.TheConstants.{MOST_PLACES};
@@ -9,43 +8,37 @@ ghost use Rattle.apl_walk.specs.declared.maps.TheConstants.{MOST_MAPS};
 ghost use Rattle.apl_walk.specs.Steps.{and_step};
 ghost use Rattle.apl_walk.specs.Maps.{extent_of, map_extent, map_step, walked};
 ghost use Rattle.apl_walk.specs.Walks.{maps_of};
-ghost use Rattle.apl_struct.specs.Indexing.{is_slot_of_numbers, is_slot_within, are_slots_within, selected_shape};
-ghost use Rattle.apl_struct.specs.Selecting.{slot_count, slot_index, chosen_place, AreArrays, IsSelection};
+ghost use Rattle.apl_struct.specs.Indexing.{is_slot_within, are_slots_within, selected_shape};
+ghost use Rattle.apl_struct.specs.Selecting.{slot_count, slot_index, chosen_place, IsSelection};
 
-use crate::arguments::numbers_among;
+use crate::slots::NumberArray;
 use apl_array::{Array, Origin, places_match_index_lists};
 use apl_walk::{AxisMap, Listed, Map, Walk, Window};
 use std::alloc::{AllocError, Global};
 
 /// The indexes that a slot chooses of an axis whose neighbours are `stride` apart.
 fn slot_map<'a>(
-    slot: Option<&'a Array>,
+    slot: &Option<NumberArray<'a>>,
     origin: Origin,
     axis_length: usize,
     stride: usize,
 ) -> Map<'a>
-    requires numbers { is_slot_of_numbers (option_copied slot) ≡ true }
-    requires within { is_slot_within origin axis_length (option_copied slot) ≡ true }
-    requires some { 0 < slot_count axis_length (option_copied slot) }
+    requires within { is_slot_within origin axis_length slot.now ≡ true }
+    requires some { 0 < slot_count axis_length slot.now }
     requires length { axis_length ≤ MOST_PLACES }
     requires near { axis_length * stride ≤ MOST_PLACES }
-    ensures extent { map_extent result ≡ slot_count axis_length (option_copied slot.entry) }
-    ensures step { (i : ℕ) → i < slot_count axis_length (option_copied slot.entry) → map_step result i ≡ Some (slot_index origin (option_copied slot.entry) i * stride) }
+    ensures extent { map_extent result ≡ slot_count axis_length slot.now }
+    ensures step { (i : ℕ) → i < slot_count axis_length slot.now → map_step result i ≡ Some (slot_index origin slot.now i * stride) }
 {
-    let Some(array) = slot else {
-        return Map::Window(Window::whole(axis_length, stride));
-    };
-    let Some(numbers) = numbers_among(array) else {
-        unreachable!()
-    };
-    // An array that was asked something is known to be lawful.
-    let _kind = array.kind();
-    Map::Listed(Listed {
-        numbers,
-        first: origin.number(),
-        axis_length,
-        stride,
-    })
+    match slot {
+        Some(chosen) => Map::Listed(Listed {
+            numbers: chosen.numbers,
+            first: origin.number(),
+            axis_length,
+            stride,
+        }),
+        None => Map::Window(Window::whole(axis_length, stride)),
+    }
 }
 
 /// What slots choose of the last axes of an array.
@@ -111,20 +104,19 @@ impl<'a> Selected<'a> {
 fn selected_axes<'a>(
     alloc: Global,
     lengths: &[usize],
-    slots: &[Option<&'a Array>],
+    slots: &[Option<NumberArray<'a>>],
     origin: Origin,
 ) -> Result<Selected<'a>, AllocError>
     requires slots { length slots.now ≡ length lengths.now }
-    requires numbers { list_all is_slot_of_numbers (map option_copied slots.now) ≡ true }
-    requires within { are_slots_within origin lengths.now (map option_copied slots.now) ≡ true }
+    requires within { are_slots_within origin lengths.now slots.now ≡ true }
     requires axes { All (λ n. n ≤ MOST_PLACES) lengths.now }
     requires few { length lengths.now ≤ MOST_AXES }
     requires some { 0 < count_of lengths.now }
     requires most { count_of lengths.now ≤ MOST_PLACES }
-    requires selected_some { 0 < count_of (selected_shape lengths.now (map option_copied slots.now)) }
-    requires selected_most { count_of (selected_shape lengths.now (map option_copied slots.now)) ≤ MOST_PLACES }
-    ensures extent { IfOk result (λ s. extent_of (maps_of s.walk) ≡ count_of (selected_shape lengths.now (map option_copied slots.now))) }
-    ensures place { IfOk result (λ s. (place : ℕ) → and_step (Some s.start) (walked (maps_of s.walk) place) ≡ Some (chosen_place origin lengths.now (map option_copied slots.now) place)) }
+    requires selected_some { 0 < count_of (selected_shape lengths.now slots.now) }
+    requires selected_most { count_of (selected_shape lengths.now slots.now) ≤ MOST_PLACES }
+    ensures extent { IfOk result (λ s. extent_of (maps_of s.walk) ≡ count_of (selected_shape lengths.now slots.now)) }
+    ensures place { IfOk result (λ s. (place : ℕ) → and_step (Some s.start) (walked (maps_of s.walk) place) ≡ Some (chosen_place origin lengths.now slots.now place)) }
     ensures few { IfOk result (λ s. vec_len s.walk.inner ≤ length lengths.now) }
     ensures start { IfOk result (λ s. s.start ≤ length lengths.now * MOST_STEP) }
     ensures count { IfOk result (λ s. s.count ≡ count_of lengths.now) }
@@ -136,7 +128,7 @@ fn selected_axes<'a>(
         return Ok(no_axes(alloc));
     };
     let inner = selected_axes(alloc, lengths, slots, origin)?;
-    let map = slot_map(*slot, origin, *axis_length, inner.count);
+    let map = slot_map(slot, origin, *axis_length, inner.count);
     inner.with(map, *axis_length)
 }
 
@@ -155,36 +147,20 @@ fn no_axes<'a>(alloc: Global) -> Selected<'a>
     }
 }
 
-/// An array that was asked something is known to be lawful.
-pub(crate) fn are_arrays(slots: &[Option<&Array>])
-    ensures { AreArrays (map option_copied slots.now) }
-{
-    match slots {
-        [] => {}
-        [slot, slots @ ..] => {
-            if let Some(array) = slot {
-                let _kind = array.kind();
-            }
-            are_arrays(slots);
-        }
-    }
-}
-
 /// The walk over an array of which the slots choose.
 pub(crate) fn selected_walk<'a>(
     alloc: Global,
     a: &Array,
-    slots: &[Option<&'a Array>],
+    slots: &[Option<NumberArray<'a>>],
     origin: Origin,
 ) -> Result<Walk<'a>, AllocError>
-    requires selection { IsSelection a.now (map option_copied slots.now) origin (selected_shape a.now.shape (map option_copied slots.now)) }
-    requires some { 0 < count_of (selected_shape a.now.shape (map option_copied slots.now)) }
-    requires most { count_of (selected_shape a.now.shape (map option_copied slots.now)) ≤ MOST_PLACES }
-    ensures extent { IfOk result (λ walk. extent_of (maps_of walk) ≡ count_of (selected_shape a.now.shape (map option_copied slots.now))) }
-    ensures place { IfOk result (λ walk. (place : ℕ) → walked (maps_of walk) place ≡ Some (chosen_place origin a.now.shape (map option_copied slots.now) place)) }
+    requires selection { IsSelection a.now slots.now origin (selected_shape a.now.shape slots.now) }
+    requires some { 0 < count_of (selected_shape a.now.shape slots.now) }
+    requires most { count_of (selected_shape a.now.shape slots.now) ≤ MOST_PLACES }
+    ensures extent { IfOk result (λ walk. extent_of (maps_of walk) ≡ count_of (selected_shape a.now.shape slots.now)) }
+    ensures place { IfOk result (λ walk. (place : ℕ) → walked (maps_of walk) place ≡ Some (chosen_place origin a.now.shape slots.now place)) }
 {
     places_match_index_lists();
-    are_arrays(slots);
     let selected = selected_axes(alloc, a.shape().lengths(), slots, origin)?;
     selected.into_walk()
 }

@@ -127,10 +127,7 @@ fn taking_numbers<'a>(a: &'a Array, b: &Array) -> Result<&'a [i64], OpFault>
     if count > MOST_AXES {
         return Err(OpFault::Limit);
     }
-    match numbers_among(a) {
-        Some(numbers) => Ok(numbers),
-        None => Err(OpFault::Domain),
-    }
+    numbers_among(a)
 }
 
 /// The shape of an array, where a scalar serves as an array of one element with `rank` axes.

@@ -21,13 +21,13 @@ returns g c =
     let list : is_list n ≡ true = search rules in
     let one : size_of n ≡ 1 = search rules in
     let one_element : has_one_element n.shape ≡ true = search rules in
-    let numbers : numbers_of n ≡ c.in-Some.numbers.now = c.in-Some.ensures.1 in
+    let numbers : numbers_of n ≡ c.in_ok-numbers.numbers.now = c.in_ok-numbers.ensures.numbers.1 in
     let natural : list_all is_natural (numbers_of n) ≡ true = search rules in
-    let lengths : map place_number c.in-Some.numbers.now ≡ length ∷ [] = ap (map place_number) (sym numbers) ∙ only_number n c.shape.ensures.lawful one in
+    let lengths : map place_number c.in_ok-numbers.numbers.now ≡ length ∷ [] = ap (map place_number) (sym numbers) ∙ only_number n c.shape.ensures.lawful one in
     let shapes : c.in_ok-shape.shape ≡ length ∷ [] = c.in_ok-shape.ensures.1 ∙ lengths in
     let lawful : is_shape (length ∷ []) ≡ true = ap is_shape (sym lengths) ∙ c.in_ok-shape.ensures.0 in
     let first = origin_cast origin c.number-first.result c.number-first.ensures.value in
-    answered row.checks (answer_of row.shape row.outcome row.kind) c.fill_array.result (list, (one_element, (c.in-Some.ensures.0, (natural, (lawful, tt)))))
+    answered row.checks (answer_of row.shape row.outcome row.kind) c.fill_array.result (list, (one_element, (c.in_ok-numbers.ensures.numbers.0, (natural, (lawful, tt)))))
     (rw shapes at
     (c.fill_array.ensures (λ index. Ok (Int (pos (origin_number origin + slice_index index 0))))
     (λ place inside.

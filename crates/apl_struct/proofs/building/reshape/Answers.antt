@@ -17,7 +17,7 @@ returns g c =
     let b = c.args.b.now in
     let row = reshape_row a b in
     let shape = map place_number (numbers_of a) in
-    let numbers : numbers_of a ≡ c.in-Some.numbers.now = c.in-Some.ensures.1 in
+    let numbers : numbers_of a ≡ c.in_ok-numbers.numbers.now = c.in_ok-numbers.ensures.numbers.1 in
     let list : is_list a ≡ true = search rules in
     let natural : list_all is_natural (numbers_of a) ≡ true = search rules in
     let shapes : c.in_ok-shape.shape ≡ shape = c.in_ok-shape.ensures.1 ∙ ap (map place_number) (sym numbers) in
@@ -28,4 +28,4 @@ returns g c =
     c.repeat.ensures _ (λ place inside.
     element_again b (count_of c.in_ok-shape.shape) place c.shape-2.ensures.lawful (rw (sym shapes) at fits) inside
     ∙ ap (λ p. element_in b (reshape_source (size_of b) p)) (sym (c.places_match_index_lists.ensures.same_place c.in_ok-shape.shape place inside))) in
-    answered row.checks (answer_of row.shape row.outcome row.kind) c.repeat.result (list, (c.in-Some.ensures.0, (natural, (lawful, (fits, tt))))) (subst P shapes repeated)
+    answered row.checks (answer_of row.shape row.outcome row.kind) c.repeat.result (list, (c.in_ok-numbers.ensures.numbers.0, (natural, (lawful, (fits, tt))))) (subst P shapes repeated)

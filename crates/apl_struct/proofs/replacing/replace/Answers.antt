@@ -18,7 +18,9 @@ returns g c =
     let answer : List ℕ → Result ArrayValue OpFault = λ s. answer_of a.shape (λ index. Ok (replaced_element a b index (last_choice c.args.origin slots s index (count_of s)))) a.kind in
     let P : Result ArrayValue OpFault → Type 0 = λ r. IsAnswerOf r result in
     let Q : List ℕ → Type 0 = λ s. IsAnswerOf (first_failure_or (replacement_checks a b s) (answer s)) result in
-    let selected = c.in_ok-selected.selected in
-    let values : Q selected = subst P (sym (c.in_ok-judge_values.ensures.1 (answer selected))) c.replace_selected.ensures in
-    let both : Q (selected_shape a.shape slots) = subst Q c.in_ok-selected.ensures.0.shape_is values in
-    subst P (sym (c.in_ok-selected.ensures.1 (first_failure_or (replacement_checks a b (selected_shape a.shape slots)) (answer (selected_shape a.shape slots))))) both
+    let judged = c.in_ok-slots.ensures in
+    let selected = c.in_ok-slots.selected in
+    let own : P (answer selected) = rw (c.as_slice.ensures.value, judged.0.0) at c.replace_selected.ensures in
+    let values : Q selected = subst P (sym (c.in_ok-judge_values.ensures.1 (answer selected))) own in
+    let both : Q (selected_shape a.shape slots) = rw (judged.0.1.shape_is, judged.0.0) at values in
+    subst P (sym (judged.1 (first_failure_or (replacement_checks a b (selected_shape a.shape slots)) (answer (selected_shape a.shape slots))))) both

@@ -21,7 +21,7 @@ returns-then-rank-eq0 g c =
     let rank_fits : (has_one_element a.shape || (rank_of a + 1 == rank_of b)) ≡ true = search rules in
     let fit : (has_one_element a.shape || is_same_shape a.shape (remove b.shape c.in-Some.k)) ≡ true = search rules in
     let lengths_fit : (has_one_element a.shape || is_same_shape a.shape (remove b.shape k)) ≡ true = rw k_is at fit in
-    let numbers : is_numbers a ≡ true = c.in-Some-numbers_among.ensures.0 in
+    let numbers : is_numbers a ≡ true = c.in_ok-rotations.ensures.numbers.0 in
     rw (has, rank_fits, lengths_fit, numbers)
     (c.gather_scalar.ensures (λ index. along_axis k (rotated_index (rotation_at a k index) (slice_index b.shape k)) index))
 
@@ -36,10 +36,10 @@ returns-then-count-eq1 g c =
     let rank_fits : (has_one_element a.shape || (rank_of a + 1 == rank_of b)) ≡ true = search rules in
     let fit : (has_one_element a.shape || is_same_shape a.shape (remove b.shape c.in-Some.k)) ≡ true = search rules in
     let lengths_fit : (has_one_element a.shape || is_same_shape a.shape (remove b.shape k)) ≡ true = rw k_is at fit in
-    let numbers = c.in-Some-numbers_among.ensures in
+    let numbers = c.in_ok-rotations.ensures.numbers in
     let counts : count_of a.shape ≡ 1 = search rules in
     let one : has_one_element a.shape ≡ true = grind (arith, counts) in
-    let zs = c.in-Some-numbers_among.rotations.now in
+    let zs = c.in_ok-rotations.rotations.now in
     let z = slice_index_or zs 0 (pos 0) in
     let same : to_z w64 (of_z w64 z) ≡ z = search rules in
     rw (has, rank_fits, lengths_fit, numbers.0)
@@ -58,10 +58,10 @@ returns-else-count-eq1 g c =
     let rank_fits : (has_one_element a.shape || (rank_of a + 1 == rank_of b)) ≡ true = search rules in
     let fit : (has_one_element a.shape || is_same_shape a.shape (remove b.shape c.in-Some.k)) ≡ true = search rules in
     let lengths_fit : (has_one_element a.shape || is_same_shape a.shape (remove b.shape k)) ≡ true = rw k_is at fit in
-    let numbers = c.in-Some-numbers_among.ensures in
+    let numbers = c.in_ok-rotations.ensures.numbers in
     let many : count_of a.shape ≡ 1 → ⊥ = search rules in
     let more : has_one_element a.shape ≡ false = grind (arith, many) in
-    let zs = c.in-Some-numbers_among.rotations.now in
+    let zs = c.in_ok-rotations.rotations.now in
     let others : a.shape ≡ remove b.shape k = same_from_test a.shape (remove b.shape k) (rw more at lengths_fit) in
     rw (has, rank_fits, lengths_fit, numbers.0)
     (c.rotate_each.ensures _ (λ index.

@@ -1,5 +1,4 @@
-use Rattle.std.proofs.Common.{◌≡◌, ◌≤◌, ◌^◌, map, Some, rules, ap, ◌∙◌, arith}
-use Rattle.std.specs.Prelude.{option_copied}
+use Rattle.std.proofs.Common.{◌≡◌, ◌≤◌, ◌^◌, Some, rules, ap, ◌∙◌, arith}
 use Rattle.std.proofs.lemmas.Result.{IfOk-weaker}
 use Rattle.apl_array.specs.Shape.{count_of}
 use Rattle.apl_walk.specs.Maps.{walked}
@@ -13,17 +12,17 @@ use Rattle.apl_struct.proofs.selecting.selected_walk.Goals as goal
 pub selected_axes-requires-clause-some : goal.selected_axes-requires-clause-some
 selected_axes-requires-clause-some c =
     let a = c.args.a.now in
-    let slots : Slots = map option_copied c.args.slots.now in
+    let slots : Slots = c.args.slots.now in
     let same : c.lengths.result.now ≡ a.shape = search rules in
-    let here = place_within c.args.origin c.places_match_index_lists.ensures.below a slots c.requires.selection c.are_arrays.ensures c.requires.some 0 in
+    let here = place_within c.args.origin c.places_match_index_lists.ensures.below a slots c.requires.selection c.requires.some 0 in
     omega (arith, here, ap count_of same)
 
 pub into_walk-requires-clause-start : goal.into_walk-requires-clause-start
 into_walk-requires-clause-start c =
     let a = c.args.a.now in
-    let slots : Slots = map option_copied c.args.slots.now in
+    let slots : Slots = c.args.slots.now in
     let same : c.lengths.result.now ≡ a.shape = search rules in
-    let here = place_within c.args.origin c.places_match_index_lists.ensures.below a slots c.requires.selection c.are_arrays.ensures c.requires.some 0 in
+    let here = place_within c.args.origin c.places_match_index_lists.ensures.below a slots c.requires.selection c.requires.some 0 in
     let selected = c.in_ok-selected.selected in
     let place = chosen_place c.args.origin c.lengths.result.now slots 0 in
     let most = start_most selected.start place (walked (maps_of selected.walk) 0) (c.in_ok-selected.ensures.place 0) in
@@ -32,13 +31,13 @@ into_walk-requires-clause-start c =
 
 pub returns-clause-extent : goal.returns-clause-extent
 returns-clause-extent c =
-    let slots : Slots = map option_copied c.args.slots.now in
+    let slots : Slots = c.args.slots.now in
     let same : c.lengths.result.now ≡ c.args.a.now.shape = search rules in
     IfOk-weaker c.into_walk.result _ _ (λ walk is. is ∙ c.in_ok-selected.ensures.extent ∙ ap (λ s. count_of (selected_shape s slots)) same) c.into_walk.ensures.extent
 
 pub returns-clause-place : goal.returns-clause-place
 returns-clause-place c =
-    let slots : Slots = map option_copied c.args.slots.now in
+    let slots : Slots = c.args.slots.now in
     let same : c.lengths.result.now ≡ c.args.a.now.shape = search rules in
     IfOk-weaker c.into_walk.result _ _ (λ walk is place. is place ∙ c.in_ok-selected.ensures.place place ∙ ap (λ s. Some (chosen_place c.args.origin s slots place)) same)
     c.into_walk.ensures.place

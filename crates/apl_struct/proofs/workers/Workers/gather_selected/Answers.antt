@@ -1,5 +1,4 @@
-use Rattle.std.proofs.Common.{◌<◌, map, ap, sym, ◌∙◌, arith}
-use Rattle.std.specs.Prelude.{option_copied}
+use Rattle.std.proofs.Common.{◌<◌, ap, sym, ◌∙◌, arith}
 use Rattle.apl_array.specs.Shape.{count_of, index_at}
 use Rattle.apl_array.specs.Array.{element_at}
 use Rattle.apl_struct.specs.Indexing.{Slots, selected_shape, select_source}
@@ -23,9 +22,9 @@ pub returns : goal.returns
 returns g c = c.gather_walk.ensures _ (λ place inside.
     let a = c.args.a.now in
     let origin = c.args.origin in
-    let slots : Slots = map option_copied c.args.slots.now in
+    let slots : Slots = c.args.slots.now in
     let selected : IsSelection a slots origin (selected_shape a.shape slots) = rw c.requires.shape_is at c.requires in
     let some : 0 < count_of (selected_shape a.shape slots) = omega (arith, inside, ap count_of c.requires.shape_is) in
     ap (filled_at a) (c.in_ok-walk.ensures.place place)
-    ∙ filled_chosen origin c.places_match_index_lists.ensures.below a slots selected c.are_arrays.ensures some place c.kind-kind.ensures.lawful
+    ∙ filled_chosen origin c.places_match_index_lists.ensures.below a slots selected some place c.kind-kind.ensures.lawful
     ∙ ap (λ s. element_at a (select_source origin slots (index_at s place))) (sym c.requires.shape_is))

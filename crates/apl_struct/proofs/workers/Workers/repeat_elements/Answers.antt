@@ -1,7 +1,6 @@
-use Rattle.std.proofs.Common.{◌≡◌, ◌%◌, ◌<◌, Ok, length, slice_index_or, sym, ap, subst, ◌∙◌, arith}
+use Rattle.std.proofs.Common.{◌≡◌, ◌%◌, Ok, length, slice_index_or, sym, ap, subst, ◌∙◌, arith}
 use Rattle.std.proofs.lemmas.List.{length-map}
 use Rattle.apl_array.specs.declared.array.Kind.{Kind}
-use Rattle.apl_array.specs.Shape.{count_of}
 use Rattle.apl_answer.specs.Arguments.{fill_of, size_of}
 use Rattle.apl_answer.specs.Pointwise.{answer_of, IsAnswerOf}
 use Rattle.apl_struct.proofs.Elements.{element_round}

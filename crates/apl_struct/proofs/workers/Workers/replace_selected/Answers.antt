@@ -1,5 +1,4 @@
-use Rattle.std.proofs.Common.{◌≡◌, ◌-◌, ◌<◌, ◌≤◌, ℕ, List, ◌∷◌, length, take, drop, Option, Some, map, Ok, rules, ap, subst, sym, ◌∙◌, arith}
-use Rattle.std.specs.Prelude.{option_copied}
+use Rattle.std.proofs.Common.{◌≡◌, ◌-◌, ◌<◌, ◌≤◌, ℕ, List, ◌∷◌, length, take, drop, Option, Some, Ok, rules, ap, subst, sym, ◌∙◌, arith}
 use Rattle.apl_array.specs.declared.array.Elem.{Elem}
 use Rattle.apl_array.specs.Shape.{count_of, index_at}
 use Rattle.apl_answer.specs.Pointwise.{answer_of, IsAnswerOf}
@@ -14,7 +13,7 @@ use Rattle.apl_struct.proofs.workers.Workers.replace_selected.Goals as goal
 pub returns-then-count-eq0 : goal.returns-then-count-eq0
 returns-then-count-eq0 g c =
     let a = c.args.a.now in
-    let slots : Slots = map option_copied c.args.slots.now in
+    let slots : Slots = c.args.slots.now in
     let none : count_of c.args.selected ≡ 0 = omega (arith, c.count-count.ensures.count, c.if-count-eq0.true) in
     let P : ℕ → Type 0 = λ n. IsAnswerOf (answer_of a.shape (λ index. Ok (replaced_element a c.args.b.now index (last_choice c.args.origin slots c.args.selected index n))) a.kind) c.gather_all.result in
     subst P (sym none) c.gather_all.ensures
@@ -30,23 +29,23 @@ selected_walk-requires-clause-most g c = omega (arith, c.count-count.ensures.law
 pub replace_walk-requires-clause-some : goal.replace_walk-requires-clause-some
 replace_walk-requires-clause-some g c κs lives =
     let a = c.args.a.now in
-    let slots : Slots = map option_copied c.args.slots.now in
+    let slots : Slots = c.args.slots.now in
     let shape_is = c.requires.selection.shape_is in
     let selected : IsSelection a slots c.args.origin (selected_shape a.shape slots) = rw shape_is at c.requires.selection in
     let some : 0 < count_of (selected_shape a.shape slots) = omega (arith, ap count_of shape_is) in
-    let below = place_within c.args.origin c.places_match_index_lists.ensures.below a slots selected c.are_arrays.ensures some 0 in
+    let below = place_within c.args.origin c.places_match_index_lists.ensures.below a slots selected some 0 in
     let copied : c.in_ok-shape.shape ≡ a.shape = search rules in
     omega (arith, below, ap count_of copied)
 
 pub replace_walk-requires-clause-within : goal.replace_walk-requires-clause-within
 replace_walk-requires-clause-within g c κs lives = λ place inside.
     let a = c.args.a.now in
-    let slots : Slots = map option_copied c.args.slots.now in
+    let slots : Slots = c.args.slots.now in
     let shape_is = c.requires.selection.shape_is in
     let selected : IsSelection a slots c.args.origin (selected_shape a.shape slots) = rw shape_is at c.requires.selection in
     let some : 0 < count_of (selected_shape a.shape slots) = omega (arith, ap count_of shape_is) in
     let maps = c.as_slice.result.now in
-    let below = place_within c.args.origin c.places_match_index_lists.ensures.below a slots selected c.are_arrays.ensures some place in
+    let below = place_within c.args.origin c.places_match_index_lists.ensures.below a slots selected some place in
     let reaches : walked (c.last-item.result ∷ take (length maps - 1) (drop 1 maps)) place ≡ Some (chosen_place c.args.origin a.shape slots place) =
     walked_parts maps c.last-item.result place (omega arith) c.last-item.is ∙ ap (λ ms. walked ms place) (c.as_slice.ensures.value ∙ c.in_ok-maps.ensures.maps) ∙ c.in_ok-walk.ensures.place place in
     let copied : c.in_ok-shape.shape ≡ a.shape = search rules in
@@ -59,7 +58,7 @@ returns g c =
     let a = c.args.a.now in
     let b = c.args.b.now in
     let origin = c.args.origin in
-    let slots : Slots = map option_copied c.args.slots.now in
+    let slots : Slots = c.args.slots.now in
     let shape_is = c.requires.selection.shape_is in
     let shape = selected_shape a.shape slots in
     let law = c.places_match_index_lists.ensures in
@@ -84,5 +83,5 @@ returns g c =
     ∙ ap (last_number chosen step place) count ∙ ap (λ s. last_number chosen s place (count_of shape)) c.value_step-step.ensures.value in
     let whole : count_of shape ≤ count_of shape = omega arith in
     ap (λ n. element_numbered a b n place) number
-    ∙ last_chosen law.below law.same_index law.lawful law.same_place origin a b slots selected c.are_arrays.ensures some fits c.shape.ensures.lawful c.value_step-step.ensures.lawful place (count_of shape) here whole
+    ∙ last_chosen law.below law.same_index law.lawful law.same_place origin a b slots selected some fits c.shape.ensures.lawful c.value_step-step.ensures.lawful place (count_of shape) here whole
     ∙ ap (λ s. element s (index_at a.shape place)) (sym shape_is) ∙ ap (λ s. element c.args.selected (index_at s place)) (sym copied)))

@@ -1,10 +1,9 @@
-use Rattle.std.proofs.Common.{◌≡◌, ◌+◌, ◌*◌, ◌/◌, ◌<◌, ℕ, List, Ok, zero, suc, refl, length, replicate, slice_index, to_z, of_z, w64, ap, sym, subst, ◌∙◌, arith, rules}
-use Rattle.std.specs.Prelude.{◌≤◌, Some, slice_set, sum}
+use Rattle.std.proofs.Common.{◌≡◌, ◌*◌, ◌/◌, ◌<◌, ℕ, List, Ok, zero, suc, refl, length, replicate, slice_index, ap, sym, subst, ◌∙◌, arith, rules}
+use Rattle.std.specs.Prelude.{Some, slice_set, sum}
 use Rattle.std.proofs.Math.Nat.{div-lt_iff_lt-mul}
 use Rattle.std.proofs.lemmas.List.{length-set, get_or-set_same}
 use Rattle.apl_array.specs.Array.{element_at}
 use Rattle.apl_array.specs.Axes.{place_number}
-use Rattle.apl_array.specs.Shape.{is_shape, count_of}
 use Rattle.apl_answer.specs.Pointwise.{answer_of, IsAnswerOf}
 use Rattle.apl_struct.specs.Compressing.{as_vector, repeated_indexes}
 use Rattle.apl_struct.specs.Gathering.{along_axis}

@@ -1,10 +1,7 @@
-use Rattle.std.proofs.Common.{◌≡◌, ◌<◌, ℕ, List, Ok, true, length, map, slice_index, ap, sym, subst, ◌∙◌, rules}
+use Rattle.std.proofs.Common.{◌≡◌, ℕ, List, Ok, length, map, slice_index, ap, sym, subst, ◌∙◌, rules}
 use Rattle.std.specs.Prelude.{slice_set, sum}
-use Rattle.std.specs.List.{list_all}
 use Rattle.apl_array.specs.Array.{element_at}
 use Rattle.apl_array.specs.Axes.{place_number}
-use Rattle.apl_array.specs.Shape.{is_shape}
-use Rattle.apl_answer.specs.Arguments.{is_natural}
 use Rattle.apl_answer.specs.Pointwise.{answer_of, IsAnswerOf}
 use Rattle.apl_struct.specs.Compressing.{as_vector, repeated_indexes}
 use Rattle.apl_struct.specs.Gathering.{along_axis}

@@ -1,4 +1,4 @@
-use Rattle.std.proofs.Common.{◌≡◌, ℕ, List, Ok, Some, ◌<◌, ◌≤◌, ◌+◌, ◌*◌, drop, take, slice_index, slice_index_or, slice_set, length, map, pos, ap, sym, subst, ◌∙◌, arith, rules}
+use Rattle.std.proofs.Common.{◌≡◌, ℕ, List, Ok, Some, ◌<◌, ◌≤◌, ◌+◌, ◌*◌, drop, take, slice_index, slice_index_or, slice_set, map, pos, ap, sym, subst, ◌∙◌, arith, rules}
 use Rattle.std.specs.Prelude.{remove}
 use Rattle.std.proofs.Math.Nat.{le-mul_of_pos_right}
 use Rattle.apl_array.specs.Array.{element_at}
