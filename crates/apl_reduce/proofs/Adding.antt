@@ -17,7 +17,7 @@ use Rattle.apl_reduce.proofs.Distances.{product_near, sum_near, fits_near, produ
 use Rattle.apl_reduce.proofs.JudgedItems.{judged_value}
 
 -- a number that 64 bits hold is exact
-exact_fits : (z : ℤ) → ((z : ℤ) → (in_range z ≡ true) ↔ IsInRange z) → ((z : ℤ) → IsInRange z ↔ FitsSigned w64 z) → FitsSigned w64 z → Ok z ≡ exact z
+pub exact_fits : (z : ℤ) → ((z : ℤ) → (in_range z ≡ true) ↔ IsInRange z) → ((z : ℤ) → IsInRange z ↔ FitsSigned w64 z) → FitsSigned w64 z → Ok z ≡ exact z
 exact_fits z decided bits fits =
     let inside = (decided z).1 ((bits z).1 fits) in
     rw inside refl

@@ -32,5 +32,7 @@ pub mod InnerItems
 pub mod Passing
 pub mod Distances
 pub mod Adding
+pub mod NearFolds
+pub mod Signs
 pub mod Reordered
 pub mod Examples

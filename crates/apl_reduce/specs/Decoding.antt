@@ -23,7 +23,7 @@ value_of [] digits = pos 0
 value_of (a ∷ radices) [] = pos 0
 value_of (a ∷ radices) (b ∷ digits) = (b *ℤ product radices) +ℤ value_of radices digits
 
--- the value of all n digits, and Limit where the value of the first k of them is outside the range for some k
+-- the value of all n digits, and Limit if the value of the first k of them is outside the range for some k
 abbrev pub decoded : ℕ → List ℤ → List ℤ → Result Elem Fault
 decoded n radices digits =
     if list_all (λ k. in_range (value_of (take k radices) (take k digits))) (range_with_len 0 (n + 1))

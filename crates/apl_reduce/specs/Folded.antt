@@ -15,6 +15,11 @@ abbrev pub folded : ScalarFunction → (item : ℕ → Elem) → (k more : ℕ) 
 folded f item k zero = dyadic_of f (item k) (item (suc k))
 folded f item k (suc more) = number_step f (item k) (folded f item (suc k) more)
 
+-- the right fold of n items from item k on, and of what was folded on their right
+abbrev pub folded_onto : ScalarFunction → (item : ℕ → Elem) → (k n : ℕ) → Result ℤ Fault → Result ℤ Fault
+folded_onto f item k zero total = total
+folded_onto f item k (suc n) total = number_step f (item k) (folded_onto f item (suc k) n total)
+
 -- elements that are `stride` apart from place `first` on
 abbrev pub element_along : List Elem → (first stride : ℕ) → ℕ → Elem
 element_along elements first stride i = slice_index_or elements (first + i * stride) (Int (pos 0))

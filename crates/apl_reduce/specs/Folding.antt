@@ -21,7 +21,7 @@ abbrev pub right_fold : ScalarFunction → Elem → List Elem → Result Elem Fa
 right_fold f x [] = Ok x
 right_fold f x (y ∷ rest) = fold_step f x (right_fold f y rest)
 
--- the identity of the function, or Domain where there is none
+-- the identity of the function, or Domain if there is none
 abbrev pub identity_or_fault : Option ℤ → Result Elem Fault
 identity_or_fault (Some z) = Ok (Int z)
 identity_or_fault None = Err Domain

@@ -6,7 +6,7 @@ use Rattle.apl_pool.specs.declared.kernel.Fault.{Fault}
 use Rattle.apl_pool.specs.declared.kernel.Fault.TheVariants.{Limit}
 use Rattle.apl_reduce.specs.Decoding.{value_of}
 
--- these numbers, of which the first serves all n digits where it is single
+-- these numbers, of which the first serves all n digits if it is single
 abbrev pub served : ℕ → Bool → List ℤ → List ℤ
 served n is_single numbers = if is_single then replicate n (slice_index_or numbers 0 (pos 0)) else numbers
 
@@ -14,7 +14,7 @@ served n is_single numbers = if is_single then replicate n (slice_index_or numbe
 abbrev pub front_value : List ℤ → List ℤ → ℕ → ℤ
 front_value radices digits k = value_of (take k radices) (take k digits)
 
--- the value of all n digits, and Limit where that of the first k of them is outside the range for some k
+-- the value of all n digits, and Limit if that of the first k of them is outside the range for some k
 abbrev pub decoded_number : ℕ → List ℤ → List ℤ → Result ℤ Fault
 decoded_number n radices digits =
     if list_all (λ k. in_range (front_value radices digits k)) (range_with_len 0 (n + 1)) then Ok (value_of radices digits) else Err Limit

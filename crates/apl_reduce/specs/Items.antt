@@ -1,5 +1,5 @@
 -- Items that are folded, numbers or faults, by their places. No contract of a public function cites this file.
-use Rattle.std.specs.Prelude.{ℕ, zero, suc, ℤ, pos, ◌+◌, ◌*◌, ◌/◌, ◌%◌, List, length, map, Option, Some, None, Result, Ok, Err, slice_index_or}
+use Rattle.std.specs.Prelude.{ℕ, zero, suc, ℤ, pos, ◌+◌, ◌/◌, ◌%◌, List, length, map, Option, Some, None, Result, Ok, Err, slice_index_or}
 use Rattle.std.specs.List.{range_with_len}
 use Rattle.apl_array.specs.declared.array.Elem.{Elem}
 use Rattle.apl_array.specs.declared.array.Elem.TheVariants.{Int}

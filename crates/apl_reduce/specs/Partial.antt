@@ -26,6 +26,6 @@ abbrev pub partial_results : (ℤ → ℤ → ℤ) → ℤ → List ℤ → List
 partial_results f x [] = x ∷ []
 partial_results f x (y ∷ rest) = exact_fold f x (y ∷ rest) ∷ partial_results f y rest
 
--- the fold of all, and Limit where some end's is outside the range
+-- the fold of all, and Limit if some end's is outside the range
 abbrev pub fold_by_partial_results : (ℤ → ℤ → ℤ) → ℤ → List ℤ → Result Elem Fault
 fold_by_partial_results f x rest = if list_all in_range (partial_results f x rest) then Ok (Int (exact_fold f x rest)) else Err Limit

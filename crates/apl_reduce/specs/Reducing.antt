@@ -20,7 +20,7 @@ items_along b k index =
     if is_scalar b then only_element b ∷ []
     else map (λ i. element_at b (insert index k i)) (range_with_len 0 (slice_index b.shape k))
 
--- of B's kind where an item is answered untested, else of numbers
+-- of B's kind if an item is answered untested, else of numbers
 abbrev pub reduced_kind : ArrayValue → ℕ → Kind
 reduced_kind b k = if is_scalar b || (slice_index b.shape k == 1) then b.kind else Number
 

@@ -8,7 +8,7 @@ ghost use Rattle.apl_pool.specs.Pool.{AreValues, IsStopOf};
 ghost use Rattle.apl_reduce.specs.Folded.{fold_at, number_of_axis};
 
 use crate::folded_rows::{fold_last_rows, fold_rows, from_place};
-use crate::folding::fold_along;
+use crate::line_folds::{Foldable, fold_along};
 use crate::pairs::NARROW;
 use crate::workers::shares_items;
 use apl_answer::ElementType;
@@ -114,7 +114,7 @@ struct AxisFolds<'a, T, F> {
     function: PhantomData<F>,
 }
 
-impl<T: ElementType, F: Function> Kernel for AxisFolds<'_, T, F> {
+impl<T: Foldable, F: Function> Kernel for AxisFolds<'_, T, F> {
     ghost use Rattle.std.specs.Prelude.{map};
     ghost use Rattle.apl_reduce.specs.Folded.{fold_at, number_of_axis};
 
@@ -143,7 +143,7 @@ impl<T: ElementType, F: Function> Kernel for AxisFolds<'_, T, F> {
     }
 }
 
-impl<T: ElementType, F: Function> AxisFolds<'_, T, F> {
+impl<T: Foldable, F: Function> AxisFolds<'_, T, F> {
     /// Puts the folds at the places from `from` on, all of them in a row, in place of the totals. It
     /// says whether no place has a fault.
     fn fold_run(&self, from: usize, totals: &mut [i64]) -> bool
@@ -223,7 +223,7 @@ impl FoldedRows for AxisRows<'_> {
 
 fn fill_folds<
     F: Function + Sync,
-    T: ElementType + Sync,
+    T: Foldable + Sync,
     R: Threads + Sync,
     C: Cut + Sync,
     G: Gate + Sync,

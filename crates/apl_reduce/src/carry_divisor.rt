@@ -13,7 +13,7 @@ pub(crate) enum CarryDivisor {
     Nothing,
     /// The product of natural radices, by which a number is divided.
     Product(i64),
-    /// Where one is negative, or the product leaves 64 bits.
+    /// If one is negative, or the product leaves 64 bits.
     Rounded(Quotient),
 }
 

@@ -23,7 +23,7 @@ fn floor_quotient(number: i128, radix: i64) -> i128
     }
 }
 
-/// What a radix leaves of a carry: all of it where the radix is 0, else what its quotient does not take.
+/// What a radix leaves of a carry: all of it if the radix is 0, else what its quotient does not take.
 #[tactic(auto, using(crate::proofs::Left::left_fits_cast, crate::proofs::Left::carry_left))]
 fn residue(radix: i64, carry: i128) -> i128
     requires { unsigned_abs carry ≤ 2 ^ 63 }

@@ -35,7 +35,7 @@ fn first_length(b: &Array) -> usize
     b.shape().axis(0)
 }
 
-/// How many items are folded at each place, where the arguments agree on that.
+/// How many items are folded at each place, if the arguments agree on that.
 pub(crate) fn common_length(a: &Array, b: &Array) -> Option<usize>
     ensures { MatchOption result (is_common a.now b.now ≡ false) (λ n. (is_common a.now b.now ≡ true) × (n ≡ common_length a.now b.now) × (n ≤ MOST_PLACES)) }
 {

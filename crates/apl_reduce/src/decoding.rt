@@ -39,7 +39,7 @@ impl Served<'_> {
     }
 }
 
-/// The value with one digit more, exactly, and `Limit` where it leaves the range.
+/// The value with one digit more, exactly, and `Limit` if it leaves the range.
 #[inline(always)]
 #[tactic(auto, using(crate::proofs::Casts::sum_fits_cast, crate::proofs::Casts::longer_value))]
 fn with_digit(value: i64, radix: i64, digit: i64) -> Result<i64, Fault>
@@ -95,7 +95,7 @@ fn served_by(a: &Array) -> Option<Served<'_>>
     })
 }
 
-/// How many digits two lists make, where they agree: one for each element, and an argument of one
+/// How many digits two lists make, if they agree: one for each element, and an argument of one
 /// element serves all of the other's.
 fn digit_count(a: &Array, b: &Array) -> Option<usize>
     ensures { MatchOption result

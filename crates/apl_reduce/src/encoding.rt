@@ -29,7 +29,7 @@ struct Encoding<'a> {
     radices: &'a [i64],
     behind: &'a [CarryDivisor],
     numbers: &'a [i64],
-    /// How many numbers there are, where there is a place.
+    /// How many numbers there are, if there is a place.
     width: Divisor,
     count: usize,
     ghost most: { count ≤ MOST_PLACES },
@@ -96,7 +96,7 @@ impl<R: Threads + Sync, C: Cut + Sync, G: Gate + Sync> Workers<'_, R, C, G> {
         fill_array(self.rt, self.alloc, self.pool, shape, &kernel)
     }
 
-    /// `Domain`, or the array of this shape where it has no elements.
+    /// `Domain`, or the array of this shape if it has no elements.
     fn refuse(&self, shape: Shape) -> Result<Array, OpFault>
         ensures { (outcome : List ℕ → Result Elem Fault) → ((place : ℕ) → place < count_of shape → Result.Err Fault.Domain ≡ outcome (index_at shape place))
             → IsAnswerOf (answer_of shape outcome Number) result }

@@ -25,7 +25,7 @@ ghost use Rattle.apl_reduce.specs.ExactFolds.{IsExactly, exact_fold_of, HasEndOu
 
 use apl_array::{places_match_index_lists, range_is_decided};
 
-/// Where each outcome is `Limit` or a number, the answer is `Limit` exactly where some outcome is, and else
+/// If each outcome is `Limit` or a number, the answer is `Limit` exactly where some outcome is, and else
 /// the array of the numbers.
 pub fn limits_are_answered()
     ensures { (shape : List ℕ) (outcome : List ℕ → Result Elem Fault) (value : List ℕ → ℤ)

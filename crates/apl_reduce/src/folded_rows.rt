@@ -1,5 +1,6 @@
 //! Right folds of rows at equal distances, all places of a stretch at once.
 ghost use Rattle.std.specs.Prelude.{◌≡◌, ℕ, ◌+◌, ◌*◌, ◌<◌, ◌≤◌, true, Ok, pos, drop, length, map, slice_index_or};
+ghost use Rattle.apl_array.specs.declared.array.Elem.TheVariants.{Int};
 ghost use Rattle.apl_pool.specs.Runs.{AreWritten};
 ghost use Rattle.apl_pool.specs.declared.kernel.TheConstants.{MOST_PLACES};
 ghost use Rattle.apl_scalar.specs.Scalar.{dyadic_of};
@@ -7,7 +8,10 @@ ghost use Rattle.apl_reduce.specs.Folded.{number_step, AreFolds};
 ghost use Rattle.apl_reduce.specs.Items.{item_in};
 
 use crate::folding::{element_at, fold_step};
+use crate::line_folds::Foldable;
 use crate::pairs::put;
+use crate::run_folds::adds;
+use crate::wrapped::wrapped;
 use apl_answer::ElementType;
 use apl_pool::Fault;
 use apl_scalar::dyadic_elements;
@@ -68,9 +72,26 @@ pub(crate) fn fold_last_rows<F: Function, T: ElementType>(
     true
 }
 
-/// Folds the items of one more row on the left into the totals. It says whether no place has a fault.
+/// Folds the numbers of one more row on the left into the totals, by `+` or `-`. It says whether all results are in the range. The loop
+/// has no branches, and a processor does several places at once.
 #[inline(always)]
-fn fold_row<F: Function, T: ElementType>(row: &[T], totals: &mut [i64]) -> bool
+fn add_row<F: Function>(row: &[i64], totals: &mut [i64]) -> bool
+    requires { length totals.old ≤ length row.now }
+    ensures values { result ≡ true → AreWritten (λ j. number_step F.FUNCTION (item_in (map Int row.now) j) (Ok (slice_index_or totals.old j (pos 0)))) 0 (length totals.old) totals.new }
+    ensures len { length totals.new ≡ length totals.old }
+{
+    let mut doubt = 0;
+    for j in 0..totals.len() {
+        let (total, doubt_here) = wrapped::<F>(row[j], totals[j]);
+        put(totals, j, total);
+        doubt |= doubt_here;
+    }
+    doubt < 1 << 63
+}
+
+/// Folds the items of one more row on the left into the totals, one by one. It says whether no place has a fault.
+#[inline(always)]
+fn fold_each<F: Function, T: ElementType>(row: &[T], totals: &mut [i64]) -> bool
     requires { length totals.old ≤ length row.now }
     ensures values { result ≡ true → AreWritten (λ j. number_step F.FUNCTION (item_in (map T.elem_of row.now) j) (Ok (slice_index_or totals.old j (pos 0)))) 0 (length totals.old) totals.new }
     ensures len { length totals.new ≡ length totals.old }
@@ -84,9 +105,22 @@ fn fold_row<F: Function, T: ElementType>(row: &[T], totals: &mut [i64]) -> bool
     true
 }
 
+/// Folds the items of one more row on the left into the totals. It says whether no place has a fault.
+#[inline(always)]
+fn fold_row<F: Function, T: Foldable>(row: &[T], totals: &mut [i64]) -> bool
+    requires { length totals.old ≤ length row.now }
+    ensures values { result ≡ true → AreWritten (λ j. number_step F.FUNCTION (item_in (map T.elem_of row.now) j) (Ok (slice_index_or totals.old j (pos 0)))) 0 (length totals.old) totals.new }
+    ensures len { length totals.new ≡ length totals.old }
+{
+    match T::numbers(row) {
+        Some(numbers) if adds::<F>() => add_row::<F>(numbers, totals),
+        _ => fold_each::<F, T>(row, totals),
+    }
+}
+
 /// Folds the items of the first `more` rows into the totals of those after them. It says whether no place has a fault.
 #[inline(always)]
-pub(crate) fn fold_rows<F: Function, T: ElementType>(
+pub(crate) fn fold_rows<F: Function, T: Foldable>(
     elements: &[T],
     first: usize,
     stride: usize,

@@ -1,8 +1,8 @@
-//! Right folds of elements at equal distances.
-ghost use Rattle.std.specs.Prelude.{◌≡◌, ◌+◌, ◌-◌, ◌*◌, ◌<◌, ◌≤◌, pos, length, map, slice_index_or};
+//! Right folds of elements at equal distances, one by one.
+ghost use Rattle.std.specs.Prelude.{◌≡◌, ◌+◌, ◌*◌, ◌<◌, ◌≤◌, pos, Ok, length, map, slice_index_or};
 ghost use Rattle.apl_array.specs.declared.array.Elem.TheVariants.{Int};
 ghost use Rattle.apl_pool.specs.declared.kernel.TheConstants.{MOST_PLACES};
-ghost use Rattle.apl_reduce.specs.Folded.{number_step, folded, element_along};
+ghost use Rattle.apl_reduce.specs.Folded.{number_step, folded_onto, element_along};
 
 use apl_answer::ElementType;
 use apl_array::Elem;
@@ -30,26 +30,22 @@ pub(crate) fn fold_step<F: Function>(item: Elem, total: Result<i64, Fault>) -> R
     }
 }
 
-/// The right fold of `count` elements that are `stride` apart from place `first` on.
-#[inline(never)]
-pub(crate) fn fold_along<F: Function, T: ElementType>(
+/// The right fold of `count` elements that are `stride` apart from place `first` on, onto what those after them gave.
+#[inline(always)]
+pub(crate) fn fold_items<F: Function, T: ElementType>(
     elements: &[T],
     first: usize,
     stride: usize,
     count: usize,
+    total: i64,
 ) -> Result<i64, Fault>
-    requires two { 2 ≤ count }
-    requires within { first + (count - 1) * stride < length elements.now }
+    requires within { first + count * stride < length elements.now }
     requires most { length elements.now ≤ MOST_PLACES }
-    ensures { result ≡ folded F.FUNCTION (element_along (map T.elem_of elements.now) first stride) 0 (count - 2) }
+    ensures { result ≡ folded_onto F.FUNCTION (element_along (map T.elem_of elements.now) first stride) 0 count (Ok total) }
 {
-    let mut place = first + (count - 2) * stride;
-    let last = element_at(elements, place + stride);
-    let mut total = match dyadic_elements::<F>(element_at(elements, place), last) {
-        Ok(number) => number,
-        Err(fault) => return Err(fault),
-    };
-    for _more in 2..count {
+    let mut total = total;
+    let mut place = first + count * stride;
+    for _done in 0..count {
         place -= stride;
         match dyadic_elements::<F>(element_at(elements, place), Elem::Int(total)) {
             Ok(number) => total = number,

@@ -15,7 +15,7 @@ use crate::dyadic::{Chosen, Dyadic, Typed};
 use crate::inner_folds::LineRows;
 use crate::items::{Items, reduced};
 use crate::layouts::Layout;
-use crate::magnitudes::{are_narrow, sums_are_small};
+use crate::magnitudes::{is_narrow, magnitude, sums_are_small};
 use crate::shapes::{characters_of, joined_shape};
 use crate::sums::Sums;
 use crate::workers::{Workers, shares_items};
@@ -182,13 +182,17 @@ impl<R: Threads + Sync, C: Cut + Sync, G: Gate + Sync> Workers<'_, R, C, G> {
         self.fill_inner(layout, left, right, function, pairing)
     }
 
-    /// The sums of products, each added with no check where no sum can leave the range.
+    /// The sums of products, each added with no check if no sum can leave the range.
     fn fill_sums(&self, layout: &Layout, left: &[i64], right: &[i64]) -> Result<Vec<i64>, Stop>
         requires { IsWithin layout.now (length left.now) (length right.now) }
         ensures values { IfOk result (λ v. AreValues (inner_number layout.now (map Int left.now) (map Int right.now) PlusNamed TimesNamed) layout.now.count v.items) }
         ensures stop { IfErr result (IsStopOf (inner_number layout.now (map Int left.now) (map Int right.now) PlusNamed TimesNamed) layout.now.count) }
     {
-        if !layout.is_pass_worthwhile() || !sums_are_small(left, right, layout.items) {
+        if !layout.is_pass_worthwhile() {
+            return self.typed::<i64, Plus, Times>(layout, left, right);
+        }
+        let (left_most, right_most) = (magnitude(left), magnitude(right));
+        if !sums_are_small(left_most, right_most, layout.items) {
             return self.typed::<i64, Plus, Times>(layout, left, right);
         }
         let is_near = layout.left.item == 1 && layout.right.item == 1;
@@ -197,7 +201,7 @@ impl<R: Threads + Sync, C: Cut + Sync, G: Gate + Sync> Workers<'_, R, C, G> {
             right,
             layout,
             columns: Divisor::new(layout.columns),
-            is_narrow: is_near && are_narrow(left) && are_narrow(right),
+            is_narrow: is_near && is_narrow(left_most) && is_narrow(right_most),
         };
         self.pool.fill(self.rt, self.alloc, &kernel)
     }

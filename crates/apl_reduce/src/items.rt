@@ -54,7 +54,7 @@ fn folded<X: Items, F: Dyadic>(items: &X, function: F, last: usize) -> Result<i6
     Ok(result)
 }
 
-/// The fault of the first faulty item. It is looked for only where a fold has met a fault.
+/// The fault of the first faulty item. It is looked for only if a fold has met a fault.
 #[cold]
 fn first_fault<X: Items>(items: &X) -> Option<Fault>
     ensures { result ≡ first_fault (X.outcome items.now) 0 (X.item_count items.now) }

@@ -5,7 +5,7 @@ ghost use Rattle.apl_scalar.specs.Scalar.{exact};
 use apl_array::range_is_decided;
 use apl_pool::Fault;
 
-/// The number where it is in the range, else `Limit`.
+/// The number if it is in the range, else `Limit`.
 #[inline(always)]
 pub(crate) fn limited(number: i128) -> Result<i64, Fault>
     ensures { result ≡ exact number }

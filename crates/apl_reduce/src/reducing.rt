@@ -77,8 +77,8 @@ impl<R: Threads + Sync, C: Cut + Sync, G: Gate + Sync> Workers<'_, R, C, G> {
 }
 
 /// `f/B` and `f⌿B`, reduction: the right fold by `f` of the items along an axis. A single item is answered as it is.
-/// Shape: that of `B` without the axis. Where the axis has no item, the identity of `f`. A scalar is answered as it is.
-/// Errors in order: INDEX of the axis, LIMIT of the shape, DOMAIN where `f` has no identity, then that of the least index list.
+/// Shape: that of `B` without the axis. If the axis has no item, the identity of `f`. A scalar is answered as it is.
+/// Errors in order: INDEX of the axis, LIMIT of the shape, DOMAIN if `f` has no identity, then that of the least index list.
 /// Source: APL\360 User's Manual, reduction; the order of errors is this calculator's own.
 pub fn reduce<R: Threads + Sync, C: Cut + Sync, G: Gate + Sync>(
     rt: &R,

@@ -10,7 +10,7 @@ use apl_answer::OpFault;
 use apl_array::{Array, Shape, joined_index_has_place};
 use std::alloc::Global;
 
-/// The shape with the lengths of two. It is refused where it passes a limit (`Limit`).
+/// The shape with the lengths of two. It is refused if it passes a limit (`Limit`).
 pub(crate) fn joined_shape(alloc: Global, left: &[usize], right: &[usize]) -> Result<Shape, OpFault>
     ensures { MatchResult result
         (λ shape. (is_shape (left.now ++ right.now) ≡ true) × (shape ≡ left.now ++ right.now))
@@ -21,7 +21,7 @@ pub(crate) fn joined_shape(alloc: Global, left: &[usize], right: &[usize]) -> Re
     Ok(Shape::new(alloc, lengths.as_slice())?)
 }
 
-/// The product of the lengths from axis `k` on, or 1 where the shape has no place.
+/// The product of the lengths from axis `k` on, or 1 if the shape has no place.
 pub(crate) fn columns_from(shape: &Shape, k: usize) -> usize
     requires { k ≤ length shape.now }
     ensures value { 0 < count_of shape.now → result ≡ count_of (drop k shape.now) }

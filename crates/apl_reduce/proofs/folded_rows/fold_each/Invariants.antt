@@ -2,7 +2,7 @@ use Rattle.std.proofs.Common.{◌≡◌, ℕ, pos, ◌≤◌, length, map, Ok, s
 use Rattle.apl_pool.specs.Runs.{AreWritten}
 use Rattle.apl_reduce.specs.Folded.{number_step}
 use Rattle.apl_reduce.specs.Items.{item_in}
-use Rattle.apl_reduce.proofs.folded_rows.fold_row.Given as goal
+use Rattle.apl_reduce.proofs.folded_rows.fold_each.Given as goal
 
 abbrev pub invariant-loop-j : goal.invariant-loop-j
 invariant-loop-j g l =

@@ -3,7 +3,7 @@ use Rattle.std.proofs.lemmas.List.{get_or-set_other}
 use Rattle.apl_reduce.specs.Folded.{number_step}
 use Rattle.apl_reduce.specs.Items.{item_in}
 use Rattle.apl_reduce.proofs.Runs.{written_more}
-use Rattle.apl_reduce.proofs.folded_rows.fold_row.Goals as goal
+use Rattle.apl_reduce.proofs.folded_rows.fold_each.Goals as goal
 
 pub loop-j-preserved : goal.loop-j-preserved
 loop-j-preserved g c =

@@ -1,0 +1,9 @@
+use Rattle.std.proofs.Common.{◌≡◌, ◌+◌, ◌-◌, ◌*◌, Ok, map}
+use Rattle.apl_reduce.specs.Folded.{folded_onto, element_along}
+use Rattle.apl_reduce.proofs.folding.fold_items.Given as goal
+
+abbrev pub invariant-loop-done : goal.invariant-loop-done
+invariant-loop-done g l = record {
+  place : l.place ≡ l.first + (l.count - l._done) * l.stride;
+  total : Ok l.total ≡ folded_onto g.F.Function.FUNCTION (element_along (map g.T.ElementType.elem_of l.elements) l.first l.stride) (l.count - l._done) l._done (Ok l.initial.total);
+}

@@ -1,0 +1,85 @@
+//! Right folds of neighbouring numbers by `+` and by `-`, run by run from the last one.
+ghost use Rattle.std.specs.Prelude.{◌≡◌, ◌+◌, ◌*◌, ◌<◌, ◌≤◌, IfSome, Ok, length, map};
+ghost use Rattle.apl_array.specs.declared.array.Elem.TheVariants.{Int};
+ghost use Rattle.apl_pool.specs.declared.kernel.TheConstants.{MOST_PLACES};
+ghost use Rattle.apl_reduce.specs.declared.near_sums.TheConstants.{MOST_PAIRS};
+ghost use Rattle.apl_reduce.specs.Folded.{folded_onto};
+ghost use Rattle.apl_reduce.specs.Items.{item_in};
+
+use crate::folding::fold_items;
+use crate::near_sums::{MOST_PAIRS, pair_sums};
+use apl_array::{ScalarFunction, range_is_decided};
+use apl_pool::Fault;
+use apl_scalar::function_types::Function;
+
+/// Totals are near 0 if they are less than this far from it.
+const NEAR_TOTAL: u64 = 1 << 62;
+
+/// Whether folds by the function are sums and differences of the items.
+#[inline(always)]
+pub(crate) fn adds<F: Function>() -> bool {
+    matches!(F::FUNCTION, ScalarFunction::Plus | ScalarFunction::Minus)
+}
+
+/// The fold of pairs of neighbours onto a total, if all numbers and the total are so near 0 that no step leaves the range. A pair's second
+/// number is turned by `-`, and the total that comes in to it twice.
+#[inline(always)]
+fn near_fold<F: Function>(numbers: &[i64], first: usize, pairs: usize, total: i64) -> Option<i64>
+    requires within { first + 2 * pairs ≤ length numbers.now }
+    requires few { pairs ≤ MOST_PAIRS }
+    ensures { IfSome result (λ z. folded_onto F.FUNCTION (item_in (map Int numbers.now)) first (2 * pairs) (Ok total) ≡ Ok z) }
+{
+    range_is_decided();
+    let sums = pair_sums(numbers, first, pairs);
+    if !sums.are_near || total.unsigned_abs() >= NEAR_TOTAL {
+        return None;
+    }
+    match F::FUNCTION {
+        ScalarFunction::Plus => Some(total + sums.firsts + sums.seconds),
+        ScalarFunction::Minus => Some(total + sums.firsts - sums.seconds),
+        _ => None,
+    }
+}
+
+/// The fold of pairs of neighbours onto a total: at once, or item by item if it is in doubt.
+#[inline(always)]
+fn fold_pairs<F: Function>(
+    numbers: &[i64],
+    first: usize,
+    pairs: usize,
+    total: i64,
+) -> Result<i64, Fault>
+    requires within { first + 2 * pairs < length numbers.now }
+    requires few { pairs ≤ MOST_PAIRS }
+    requires most { length numbers.now ≤ MOST_PLACES }
+    ensures { result ≡ folded_onto F.FUNCTION (item_in (map Int numbers.now)) first (2 * pairs) (Ok total) }
+{
+    match near_fold::<F>(numbers, first, pairs, total) {
+        Some(folded) => Ok(folded),
+        None => fold_items::<F, i64>(numbers, first, 1, 2 * pairs, total),
+    }
+}
+
+/// The right fold of neighbouring numbers onto what those after them gave.
+pub(crate) fn fold_neighbours<F: Function>(
+    numbers: &[i64],
+    first: usize,
+    count: usize,
+    total: i64,
+) -> Result<i64, Fault>
+    requires within { first + count < length numbers.now }
+    requires most { length numbers.now ≤ MOST_PLACES }
+    ensures { result ≡ folded_onto F.FUNCTION (item_in (map Int numbers.now)) first count (Ok total) }
+{
+    let mut total = total;
+    let mut rest = count;
+    while rest > 1 {
+        let pairs = (rest / 2).min(MOST_PAIRS);
+        rest -= 2 * pairs;
+        match fold_pairs::<F>(numbers, first + rest, pairs, total) {
+            Ok(number) => total = number,
+            Err(fault) => return Err(fault),
+        }
+    }
+    fold_items::<F, i64>(numbers, first, 1, rest, total)
+}
