@@ -44,13 +44,13 @@ loop-done-preserved g c =
           (λ j d inside.
           let beside : c.args.from + (l.done + j) ≡ there + j = omega arith in
           let same : (c.args.from + (l.done + j)) / r.times * r.stride ≡ l.step =
-              ap (λ n. n / r.times * r.stride) beside ∙ ap (λ q. q * r.stride) (copy_quotient there r.times l.left left j (omega (arith, inside))) ∙ sym step in
+          ap (λ n. n / r.times * r.stride) beside ∙ ap (λ q. q * r.stride) (copy_quotient there r.times l.left left j (omega (arith, inside))) ∙ sym step in
           c.write_copies.ensures.each j d inside ∙ read d ∙ ap (λ s. slice_index_or c.args.elements.now (c.args.base + s) d) (sym same));
       step = λ more.
           let all : copies ≡ l.left = omega (arith, more) in
           let beside : c.args.from + (l.done + copies) ≡ there + l.left = omega (arith, all) in
           let next : (c.args.from + (l.done + copies)) / r.times * r.stride ≡ (there / r.times + 1) * r.stride =
-              ap (λ n. n / r.times * r.stride) beside ∙ ap (λ q. q * r.stride) (next_quotient there r.times l.left left r.times_some) in
+          ap (λ n. n / r.times * r.stride) beside ∙ ap (λ q. q * r.stride) (next_quotient there r.times l.left left r.times_some) in
           omega (arith, step, next);
       left = λ more.
           let all : copies ≡ l.left = omega (arith, more) in
