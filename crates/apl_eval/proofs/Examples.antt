@@ -14,7 +14,7 @@ use Rattle.apl_grammar.specs.declared.forms.MonadicForm.TheVariants as one
 use Rattle.apl_grammar.specs.declared.forms.DyadicForm.{DyadicForm}
 use Rattle.apl_grammar.specs.declared.forms.DyadicForm.TheVariants as two
 use Rattle.apl_grammar.specs.Tree.{value, dyadic, monadic, assign, assign_at, Operand, constant, name, group, index, last, given, none, along}
-use Rattle.apl_eval.specs.declared.error.EvalError.TheVariants.{Value, Index, Length, Domain, Limit}
+use Rattle.apl_print.specs.declared.reports.Report.TheVariants.{Value, Index, Length, Domain, Limit}
 use Rattle.apl_eval.specs.Workspace.{WorkspaceValue, value_of, assigned, opening_workspace}
 use Rattle.apl_eval.specs.Functions.{reversed_along, monadic_result, dyadic_result, index_result, assign_at_result}
 use Rattle.apl_eval.specs.Meaning.{done, failed, then, outcome_at, name_result, dyadic_outcome, index_outcome, assign_at_outcome_of, meaning_of, is_assignment}

@@ -14,7 +14,7 @@ use Rattle.apl_tokens.specs.Constants.{IsKindWithinLimits, HasConstantsWithinLim
 use Rattle.apl_grammar.specs.declared.forms.MonadicForm.{MonadicForm}
 use Rattle.apl_grammar.specs.declared.forms.DyadicForm.{DyadicForm}
 use Rattle.apl_grammar.specs.Tree.{Expr, value, dyadic, monadic, assign, assign_at, Operand, constant, name, group, index, Slots, last, more, Slot, nothing, given, Axis, none, along, token_at, spells, spells_monadic, spells_dyadic, spells_operand, spells_list, spells_slot, spells_axis}
-use Rattle.apl_eval.specs.declared.error.EvalError.{EvalError}
+use Rattle.apl_print.specs.declared.reports.Report.{Report}
 use Rattle.apl_eval.specs.declared.statement.Shown.{Shown}
 use Rattle.apl_eval.specs.declared.statement.EvalStop.{EvalStop}
 use Rattle.apl_eval.specs.declared.statement.EvalStop.TheVariants.{Error, Memory}
@@ -58,20 +58,20 @@ assigned_lawful text v w h k = record {
 then_kept : {V U : Type 0} (P : V → Type 0) (Q : U → Type 0) (m : Outcome V) (next : V → WorkspaceValue → Outcome U) → LeavesLawful P m
     → ((v : V) (w : WorkspaceValue) → P v → IsLawful w → LeavesLawful Q (next v w)) → LeavesLawful Q (then m next)
 then_kept P Q (done v w) next (h, k) goes_on = goes_on v w h k
-then_kept P Q (failed error column w) next h goes_on = h
+then_kept P Q (failed report column w) next h goes_on = h
 
-outcome_kept : (column : ℕ) (r : Result ArrayValue EvalError) (w : WorkspaceValue) → IfOk r IsWithinLimits → IsLawful w → IsLawfulOutcome (outcome_at column r w)
+outcome_kept : (column : ℕ) (r : Result ArrayValue Report) (w : WorkspaceValue) → IfOk r IsWithinLimits → IsLawful w → IsLawfulOutcome (outcome_at column r w)
 outcome_kept column (Ok v) w h k = (h, k)
-outcome_kept column (Err error) w h k = k
+outcome_kept column (Err report) w h k = k
 
 name_kept : (o : Option ArrayValue) → IfSome o IsWithinLimits → IfOk (name_result o) IsWithinLimits
 name_kept (Some v) h = h
 name_kept None h = tt
 
-assign_at_kept : (r : Result ArrayValue EvalError) (column : ℕ) (text : List ℕ) (arrow : ℕ) (right : ArrayValue) (w : WorkspaceValue) → IfOk r IsWithinLimits
+assign_at_kept : (r : Result ArrayValue Report) (column : ℕ) (text : List ℕ) (arrow : ℕ) (right : ArrayValue) (w : WorkspaceValue) → IfOk r IsWithinLimits
     → IsWithinLimits right → IsLawful w → IsLawfulOutcome (assign_at_outcome_of r column text arrow right w)
 assign_at_kept (Ok changed) column text arrow right w h b k = (b, assigned_lawful text changed w h k)
-assign_at_kept (Err error) column text arrow right w h b k = k
+assign_at_kept (Err report) column text arrow right w h b k = k
 
 -- of values of which nothing is wanted
 abbrev Any : {V : Type 0} → V → Type 0
@@ -184,5 +184,5 @@ module _ (results : ResultsWithinLimits) where
   pub evaluated_lawful : (tree : Expr) (old new : WorkspaceValue) (result : Result Shown EvalStop) → HasConstantsWithinLimits (spells tree) → IsLawful old
       → Evaluates tree old new result → IsLawful new
   evaluated_lawful tree old new (Ok shown) h k (v, is, shows) = (subst IsLawfulOutcome is (outcome_lawful tree old h k)).1
-  evaluated_lawful tree old new (Err (Error error column)) h k is = subst IsLawfulOutcome is (outcome_lawful tree old h k)
+  evaluated_lawful tree old new (Err (Error report column)) h k is = subst IsLawfulOutcome is (outcome_lawful tree old h k)
   evaluated_lawful tree old new (Err Memory) h k is = subst IsLawful (sym is) k

@@ -4,4 +4,5 @@ pub mod StepLemmas
 pub mod Endings
 pub mod LawfulLemmas
 pub mod LimitLemmas
+pub mod ReportLemmas
 mod Examples

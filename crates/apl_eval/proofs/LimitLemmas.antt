@@ -37,7 +37,7 @@ use Rattle.apl_reduce.specs.Products.{outer_row, inner_row}
 use Rattle.apl_reduce.specs.Decoding.{decode_row}
 use Rattle.apl_reduce.specs.Encoding.{encode_row}
 use Rattle.apl_scan.specs.Scanning.{scan_row}
-use Rattle.apl_eval.specs.declared.error.EvalError.{EvalError}
+use Rattle.apl_print.specs.declared.reports.Report.{Report}
 use Rattle.apl_eval.specs.Functions.{result_of, default_axis, function_axis, operator_axis, along_number, along, monadic_plain, dyadic_plain, reversed_along, reduced_along, dyadic_along, monadic_result, dyadic_result, index_result, assign_at_result}
 use Rattle.apl_eval.proofs.LawfulLemmas.{ResultsWithinLimits}
 
@@ -88,12 +88,12 @@ within : (r : Result ArrayValue OpFault) → ((answer : ArrayValue) → r ≡ Ok
 within (Ok answer) h = h answer refl
 within (Err fault) h = tt
 
-along_number_within : (origin : Origin) (number : Result ℤ OpFault) (result : Axis → Result ArrayValue EvalError) → ((axis : Axis) → IfOk (result axis) IsWithinLimits)
+along_number_within : (origin : Origin) (number : Result ℤ OpFault) (result : Axis → Result ArrayValue Report) → ((axis : Axis) → IfOk (result axis) IsWithinLimits)
     → IfOk (along_number origin number result) IsWithinLimits
 along_number_within origin (Ok number) result h = h (At number origin)
 along_number_within origin (Err fault) result h = tt
 
-along_within : (origin : Origin) (default : Axis) (axis : Option ArrayValue) (result : Axis → Result ArrayValue EvalError) → ((axis : Axis) → IfOk (result axis) IsWithinLimits)
+along_within : (origin : Origin) (default : Axis) (axis : Option ArrayValue) (result : Axis → Result ArrayValue Report) → ((axis : Axis) → IfOk (result axis) IsWithinLimits)
     → IfOk (along origin default axis result) IsWithinLimits
 along_within origin default None result h = h default
 along_within origin default (Some axis) result h = along_number_within origin (axis_number_of axis) result h

@@ -5,7 +5,7 @@ use Rattle.apl_array.specs.Array.{ArrayValue}
 use Rattle.apl_grammar.specs.declared.program.Operation.{Operation}
 use Rattle.apl_grammar.specs.declared.program.Operation.TheVariants as op
 use Rattle.apl_grammar.specs.Tree.{Expr, value, dyadic, monadic, assign, assign_at, Operand, constant, name, group, index, Slots, last, more, Slot, nothing, given, none, along, brackets, indexed_name, semicolons, operations, operand_operations, list_operations, slot_operations, IsProgram}
-use Rattle.apl_eval.specs.declared.error.EvalError.{EvalError}
+use Rattle.apl_print.specs.declared.reports.Report.{Report}
 use Rattle.apl_eval.specs.Workspace.{WorkspaceValue}
 use Rattle.apl_eval.specs.Meaning.{Outcome, Evaluation, done, failed, then, index_outcome, assign_at_outcome, meaning_of, meaning_of_operand, meaning_of_slots, meaning_of_slot}
 use Rattle.apl_eval.specs.Steps.{Item, State, HasValue, leaves, waiting, ended, stuck, onto, with_value, step, go_on, steps, IsOutcome, IsState}
@@ -18,32 +18,32 @@ after : {V U : Type 0} (m : Outcome V) (before : V → List Item) (behind : U �
     → ((v : V) (u : WorkspaceValue) → here (before v) u ≡ go_on (leaves behind (next v u)) there)
     → go_on (leaves before m) here ≡ go_on (leaves behind (then m next)) there
 after (done v u) before behind next here there h = h v u
-after (failed error column u) before behind next here there h = refl
+after (failed report column u) before behind next here there h = refl
 
 after_axis : {U : Type 0} (m : Outcome ArrayValue) (before : ArrayValue → List Item) (behind : U → List Item) (next : Option ArrayValue → WorkspaceValue → Outcome U) (here there : List Item → WorkspaceValue → State)
     → ((v : ArrayValue) (u : WorkspaceValue) → here (before v) u ≡ go_on (leaves behind (next (Some v) u)) there)
     → go_on (leaves before m) here ≡ go_on (leaves behind (then (then m (λ v u. done (Some v) u)) next)) there
 after_axis (done v u) before behind next here there h = h v u
-after_axis (failed error column u) before behind next here there h = refl
+after_axis (failed report column u) before behind next here there h = refl
 
 -- Of a list there are as many slots as semicolons, and one more.
 abbrev IsSlotCount : Slots → Outcome (List Item) → Type 0
 IsSlotCount s (done slots w) = length slots ≡ length (semicolons s) + 1
-IsSlotCount s (failed error column w) = Unit {0}
+IsSlotCount s (failed report column w) = Unit {0}
 
 one_slot : (s : Slot) (m : Outcome Item) → IsSlotCount (last s) (then m (λ slot u. done (slot ∷ []) u))
 one_slot s (done slot u) = refl
-one_slot s (failed error column u) = tt
+one_slot s (failed report column u) = tt
 
 one_more_slot : (s : Slot) (c : ℕ) (ss : Slots) (slots : List Item) (m : Outcome Item) → length slots ≡ length (semicolons ss) + 1
     → IsSlotCount (more s c ss) (then m (λ slot v. done (slot ∷ slots) v))
 one_more_slot s c ss slots (done slot v) count = omega (arith, length-append (semicolons ss) (c ∷ []))
-one_more_slot s c ss slots (failed error column v) count = tt
+one_more_slot s c ss slots (failed report column v) count = tt
 
 more_slots : (s : Slot) (c : ℕ) (ss : Slots) (m : Outcome (List Item)) → IsSlotCount ss m
     → IsSlotCount (more s c ss) (then m (λ slots u. then (meaning_of_slot s u) (λ slot v. done (slot ∷ slots) v)))
 more_slots s c ss (done slots u) count = one_more_slot s c ss slots (meaning_of_slot s u) count
-more_slots s c ss (failed error column u) count = tt
+more_slots s c ss (failed report column u) count = tt
 
 slot_count : (s : Slots) (w : WorkspaceValue) → IsSlotCount s (meaning_of_slots s w)
 slot_count (last s) w = one_slot s (meaning_of_slot s w)
@@ -54,7 +54,7 @@ after_slots : {U : Type 0} (s : Slots) (m : Outcome (List Item)) → IsSlotCount
     → ((slots : List Item) (u : WorkspaceValue) → length slots ≡ length (semicolons s) + 1 → here (slots ++ below) u ≡ go_on (leaves behind (next slots u)) there)
     → go_on (leaves (λ slots. slots ++ below) m) here ≡ go_on (leaves behind (then m next)) there
 after_slots s (done slots u) count below behind next here there h = h slots u count
-after_slots s (failed error column u) count below behind next here there h = refl
+after_slots s (failed report column u) count below behind next here there h = refl
 
 mutual
   steps-operations : (e : Expr) (rest : List Operation) (below : List Item) (w : WorkspaceValue) → steps (operations e ++ rest) below w ≡ go_on (onto below (meaning_of e w)) (steps rest)
@@ -133,7 +133,7 @@ mutual
 
 onto-nothing : (m : Outcome ArrayValue) → go_on (onto [] m) (steps []) ≡ onto [] m
 onto-nothing (done v w) = refl
-onto-nothing (failed error c w) = refl
+onto-nothing (failed report c w) = refl
 
 -- all operations of a tree
 pub steps-program : (e : Expr) (w : WorkspaceValue) → steps (operations e) [] w ≡ onto [] (meaning_of e w)
@@ -141,11 +141,11 @@ steps-program e w = ap (λ os. steps os [] w) (sym (append-nil (operations e))) 
 
 not_stuck : (m : Outcome ArrayValue) → onto [] m ≢ stuck
 not_stuck (done v w) e = absurd cc
-not_stuck (failed error c w) e = absurd cc
+not_stuck (failed report c w) e = absurd cc
 
-fails : (m : Outcome ArrayValue) (error : EvalError) (c : ℕ) (u : WorkspaceValue) → onto [] m ≡ ended error c u → m ≡ failed error c u
-fails (done v w) error c u e = absurd cc
-fails (failed r d w) error c u e = cc
+fails : (m : Outcome ArrayValue) (report : Report) (c : ℕ) (u : WorkspaceValue) → onto [] m ≡ ended report c u → m ≡ failed report c u
+fails (done v w) report c u e = absurd cc
+fails (failed r d w) report c u e = cc
 
 has_value : (m : Outcome ArrayValue) (items : List Item) (w : WorkspaceValue) → onto [] m ≡ waiting items w → HasValue items
 has_value (done v u) items w e = let is : Some v ∷ [] ≡ items = cc in subst HasValue is tt
@@ -171,14 +171,14 @@ module _ (ops : List Operation) (start : WorkspaceValue) (place : ℕ) (values :
   pub ComesTo-more : place < length ops → o ≡ get_or ops place o → ComesTo ops start place values w → (next : List Item) (u : WorkspaceValue) → step o values w ≡ waiting next u → ComesTo ops start (place + 1) next u
   ComesTo-more inside is h next u e = record { left = sym (ap (λ s. go_on s (steps (drop (place + 1) ops))) e) ∙ sym (here inside is) ∙ h.left }
 
-  pub ends_with : (e : Expr) → operations e ≡ ops → place < length ops → o ≡ get_or ops place o → ComesTo ops start place values w → (error : EvalError) (c : ℕ) (u : WorkspaceValue) → step o values w ≡ ended error c u → meaning_of e start ≡ failed error c u
-  ends_with e program inside is h error c u fault =
-      fails (meaning_of e start) error c u
+  pub ends_with : (e : Expr) → operations e ≡ ops → place < length ops → o ≡ get_or ops place o → ComesTo ops start place values w → (report : Report) (c : ℕ) (u : WorkspaceValue) → step o values w ≡ ended report c u → meaning_of e start ≡ failed report c u
+  ends_with e program inside is h report c u fault =
+      fails (meaning_of e start) report c u
       (sym (ap (λ os. steps os [] start) (sym program) ∙ steps-program e start) ∙ sym h.left ∙ here inside is ∙ ap (λ s. go_on s (steps (drop (place + 1) ops))) fault)
 
   pub stops_with : (T Z : Type 0) (e : Expr) → operations e ≡ ops → place < length ops → o ≡ get_or ops place o → ComesTo ops start place values w → (next : List Item) (u : WorkspaceValue) (stop : EvalStop) → IsState {T = T} (step o values w) next u (Err stop) → IsOutcome {Z = Z} (meaning_of e start) u (Err stop)
   stops_with T Z e program inside is h next u Memory fault = tt
-  stops_with T Z e program inside is h next u (Error error column) fault = ends_with e program inside is h error column u fault
+  stops_with T Z e program inside is h next u (Error report column) fault = ends_with e program inside is h report column u fault
 
 module _ (ops : List Operation) (start : WorkspaceValue) (place : ℕ) (values : List Item) (w : WorkspaceValue) where
   at_end : length ops ≤ place → ComesTo ops start place values w → (e : Expr) → operations e ≡ ops → onto [] (meaning_of e start) ≡ waiting values w

@@ -23,5 +23,5 @@ IsShownAs tree v width (Text text) = (is_assignment tree ≡ false) × IsPrinted
 -- workspace after it, or its error is the answer. After want of memory the workspace is as it was.
 abbrev pub Evaluates : Expr → WorkspaceValue → WorkspaceValue → Result Shown EvalStop → Type 0
 Evaluates tree old new (Ok shown) = (v : ArrayValue) × (meaning_of tree old ≡ done v new) × IsShownAs tree v new.width shown
-Evaluates tree old new (Err (Error error column)) = meaning_of tree old ≡ failed error column new
+Evaluates tree old new (Err (Error report column)) = meaning_of tree old ≡ failed report column new
 Evaluates tree old new (Err Memory) = new ≡ old

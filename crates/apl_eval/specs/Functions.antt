@@ -38,8 +38,8 @@ use Rattle.apl_scan.specs.Scanning.{scan_row}
 use Rattle.apl_reduce.specs.Products.{outer_row, inner_row}
 use Rattle.apl_reduce.specs.Decoding.{decode_row}
 use Rattle.apl_reduce.specs.Encoding.{encode_row}
-use Rattle.apl_eval.specs.declared.error.EvalError.{EvalError}
-use Rattle.apl_eval.specs.declared.error.EvalError.TheVariants as error
+use Rattle.apl_print.specs.declared.reports.Report.{Report}
+use Rattle.apl_print.specs.declared.reports.Report.TheVariants as report
 
 -- the column of an error: at the symbol, or at the slash of a reduction or a scan
 abbrev pub monadic_column : MonadicForm → ℕ
@@ -54,22 +54,22 @@ dyadic_column (two.Along column f) = column
 dyadic_column (two.Inner left_column f dot right_column g) = dot
 dyadic_column (two.Outer jot dot column f) = dot
 
--- the error that a fault is; want of memory, which is the answer of no function, would be Limit
-abbrev pub error_of : OpFault → EvalError
-error_of fault.Rank = error.Rank
-error_of fault.Length = error.Length
-error_of fault.Index = error.Index
-error_of fault.Domain = error.Domain
-error_of fault.Limit = error.Limit
-error_of fault.Memory = error.Limit
+-- the report of a fault; want of memory, which is the answer of no function, would be Limit
+abbrev pub error_of : OpFault → Report
+error_of fault.Rank = report.Rank
+error_of fault.Length = report.Length
+error_of fault.Index = report.Index
+error_of fault.Domain = report.Domain
+error_of fault.Limit = report.Limit
+error_of fault.Memory = report.Limit
 
--- the result or the error that an answer is
-abbrev pub result_of : (answer : Result ArrayValue OpFault) → Result ArrayValue EvalError
+-- the result or the report that an answer is
+abbrev pub result_of : (answer : Result ArrayValue OpFault) → Result ArrayValue Report
 result_of (Ok array) = Ok array
 result_of (Err fault) = Err (error_of fault)
 
 -- the result that a row of the tables says
-abbrev pub result_by : rows.Row → Result ArrayValue EvalError
+abbrev pub result_by : rows.Row → Result ArrayValue Report
 result_by row = result_of (rows.result_of row)
 
 -- ---- axes
@@ -92,19 +92,19 @@ operator_axis (Reduction axis) = default_axis axis
 operator_axis (Scan axis) = default_axis axis
 
 -- the result along the axis of that number, if it is one; a function judges first whether it has that axis
-abbrev pub along_number : Origin → (number : Result ℤ OpFault) → (Axis → Result ArrayValue EvalError) → Result ArrayValue EvalError
+abbrev pub along_number : Origin → (number : Result ℤ OpFault) → (Axis → Result ArrayValue Report) → Result ArrayValue Report
 along_number origin (Ok number) result = result (At number origin)
 along_number origin (Err fault) result = Err (error_of fault)
 
 -- the result along the given axis, and along the default where none is given
-abbrev pub along : Origin → (default : Axis) → (axis : Option ArrayValue) → (Axis → Result ArrayValue EvalError) → Result ArrayValue EvalError
+abbrev pub along : Origin → (default : Axis) → (axis : Option ArrayValue) → (Axis → Result ArrayValue Report) → Result ArrayValue Report
 along origin default None result = result default
 along origin default (Some axis) result = along_number origin (axis_number_of axis) result
 
 -- ---- functions of one argument
 
 -- what takes no axis
-abbrev pub monadic_plain : Origin → MonadicFunction → (right : ArrayValue) → Result ArrayValue EvalError
+abbrev pub monadic_plain : Origin → MonadicFunction → (right : ArrayValue) → Result ArrayValue Report
 monadic_plain origin (monadic.Scalar f) b = result_of (monadic_answer f b)
 monadic_plain origin monadic.Shape b = result_by (shape_of_row b)
 monadic_plain origin monadic.Ravel b = result_by (ravel_row b)
@@ -114,16 +114,16 @@ monadic_plain origin monadic.GradeUp b = result_by (grade_up_row b origin)
 monadic_plain origin monadic.GradeDown b = result_by (grade_down_row b origin)
 
 -- reversal along an axis
-unfoldable pub reversed_along : Axis → (right : ArrayValue) → Result ArrayValue EvalError
+unfoldable pub reversed_along : Axis → (right : ArrayValue) → Result ArrayValue Report
 reversed_along axis b = result_by (reverse_row b axis)
 
 -- a reduction or a scan along an axis
-abbrev pub reduced_along : Operator → ScalarFunction → Axis → (right : ArrayValue) → Result ArrayValue EvalError
+abbrev pub reduced_along : Operator → ScalarFunction → Axis → (right : ArrayValue) → Result ArrayValue Report
 reduced_along (Reduction default) f axis b = result_by (reduce_row f b axis)
 reduced_along (Scan default) f axis b = result_by (scan_row f b axis)
 
 -- of one argument, perhaps along an axis; a tree gives none to what takes none
-unfoldable pub monadic_result : Origin → MonadicForm → (axis : Option ArrayValue) → (right : ArrayValue) → Result ArrayValue EvalError
+unfoldable pub monadic_result : Origin → MonadicForm → (axis : Option ArrayValue) → (right : ArrayValue) → Result ArrayValue Report
 monadic_result origin (one.Plain column f) axis right = monadic_plain origin f right
 monadic_result origin (one.Reverse column default) axis right = along origin (default_axis default) axis (λ axis. reversed_along axis right)
 monadic_result origin (one.Reduce column f slash_column operator) axis right = along origin (operator_axis operator) axis (λ axis. reduced_along operator f axis right)
@@ -131,7 +131,7 @@ monadic_result origin (one.Reduce column f slash_column operator) axis right = a
 -- ---- functions of two arguments
 
 -- what takes no axis
-abbrev pub dyadic_plain : Origin → DyadicFunction → (left right : ArrayValue) → Result ArrayValue EvalError
+abbrev pub dyadic_plain : Origin → DyadicFunction → (left right : ArrayValue) → Result ArrayValue Report
 dyadic_plain origin (dyadic.Scalar f) a b = result_of (dyadic_answer f a b)
 dyadic_plain origin dyadic.Reshape a b = result_by (reshape_row a b)
 dyadic_plain origin dyadic.IndexOf a b = result_by (index_of_row a b origin)
@@ -143,14 +143,14 @@ dyadic_plain origin dyadic.Decode a b = result_by (decode_row a b)
 dyadic_plain origin dyadic.Encode a b = result_by (encode_row a b)
 
 -- along an axis
-abbrev pub dyadic_along : AxisFunction → Axis → (left right : ArrayValue) → Result ArrayValue EvalError
+abbrev pub dyadic_along : AxisFunction → Axis → (left right : ArrayValue) → Result ArrayValue Report
 dyadic_along Catenate axis a b = result_by (catenate_row a b axis)
 dyadic_along (Rotate default) axis a b = result_by (rotate_row a b axis)
 dyadic_along (Replicate default) axis a b = result_by (replicate_row a b axis)
 dyadic_along (Expand default) axis a b = result_by (expand_row a b axis)
 
 -- of two arguments, perhaps along an axis; a tree gives none to what takes none
-unfoldable pub dyadic_result : Origin → DyadicForm → (axis : Option ArrayValue) → (left right : ArrayValue) → Result ArrayValue EvalError
+unfoldable pub dyadic_result : Origin → DyadicForm → (axis : Option ArrayValue) → (left right : ArrayValue) → Result ArrayValue Report
 dyadic_result origin (two.Plain column f) axis left right = dyadic_plain origin f left right
 dyadic_result origin (two.Along column f) axis left right = along origin (function_axis f) axis (λ axis. dyadic_along f axis left right)
 dyadic_result origin (two.Inner left_column f dot right_column g) axis left right = result_by (inner_row f g left right)
@@ -159,10 +159,10 @@ dyadic_result origin (two.Outer jot dot column f) axis left right = result_by (o
 -- ---- indexing
 
 -- the elements of an array that the slots choose, of which an empty one chooses all
-unfoldable pub index_result : Origin → (array : ArrayValue) → (slots : List (Option ArrayValue)) → Result ArrayValue EvalError
+unfoldable pub index_result : Origin → (array : ArrayValue) → (slots : List (Option ArrayValue)) → Result ArrayValue Report
 index_result origin array slots = result_by (select_row array slots origin)
 
 -- a name's array, if it has one, with the value in the place of the elements that the slots choose
-unfoldable pub assign_at_result : Origin → (array : Option ArrayValue) → (slots : List (Option ArrayValue)) → (value : ArrayValue) → Result ArrayValue EvalError
+unfoldable pub assign_at_result : Origin → (array : Option ArrayValue) → (slots : List (Option ArrayValue)) → (value : ArrayValue) → Result ArrayValue Report
 assign_at_result origin (Some array) slots value = result_by (replace_row array slots value origin)
-assign_at_result origin None slots value = Err error.Value
+assign_at_result origin None slots value = Err report.Value

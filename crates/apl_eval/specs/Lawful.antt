@@ -15,7 +15,7 @@ pub record IsLawful (w : WorkspaceValue) : Type 0 where
 -- the workspace after a value or an error is lawful, and the value has a property
 abbrev pub LeavesLawful : {V : Type 0} → (V → Type 0) → Outcome V → Type 0
 LeavesLawful P (done v w) = P v × IsLawful w
-LeavesLawful P (failed error column w) = IsLawful w
+LeavesLawful P (failed report column w) = IsLawful w
 
 -- the property is that it is within all limits
 abbrev pub IsLawfulOutcome : Outcome ArrayValue → Type 0

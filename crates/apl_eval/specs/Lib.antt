@@ -1,6 +1,7 @@
 pub mod Workspace
 pub mod Functions
 pub mod Meaning
+pub mod Reports
 pub mod Evaluates
 pub mod Refusals
 pub mod Names

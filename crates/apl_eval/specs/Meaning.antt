@@ -4,20 +4,20 @@ use Rattle.apl_array.specs.Array.{ArrayValue}
 use Rattle.apl_grammar.specs.declared.forms.MonadicForm.{MonadicForm}
 use Rattle.apl_grammar.specs.declared.forms.DyadicForm.{DyadicForm}
 use Rattle.apl_grammar.specs.Tree.{Expr, value, dyadic, monadic, assign, assign_at, Operand, constant, name, group, index, Slots, last, more, Slot, nothing, given, Axis, none, along}
-use Rattle.apl_eval.specs.declared.error.EvalError.{EvalError}
-use Rattle.apl_eval.specs.declared.error.EvalError.TheVariants.{Value}
+use Rattle.apl_print.specs.declared.reports.Report.{Report}
+use Rattle.apl_print.specs.declared.reports.Report.TheVariants.{Value}
 use Rattle.apl_eval.specs.Workspace.{WorkspaceValue, value_of, assigned}
 use Rattle.apl_eval.specs.Functions.{monadic_column, dyadic_column, monadic_result, dyadic_result, index_result, assign_at_result}
 
 -- a value and the workspace after it, or an error at a column and the workspace that is kept
 pub data Outcome (V : Type 0) : Type 0 where
   done : V → WorkspaceValue → Outcome V
-  failed : EvalError → (column : ℕ) → WorkspaceValue → Outcome V
+  failed : Report → (column : ℕ) → WorkspaceValue → Outcome V
 
 -- what comes next, after a value; an error ends the evaluation
 abbrev pub then : {V U : Type 0} → Outcome V → (V → WorkspaceValue → Outcome U) → Outcome U
 then (done v w) next = next v w
-then (failed error column w) next = failed error column w
+then (failed report column w) next = failed report column w
 
 -- the outcome in each workspace
 abbrev pub Evaluation : Type 0 → Type 0
@@ -28,12 +28,12 @@ abbrev pub ◌>>=◌ : {V U : Type 0} → Evaluation V → (V → Evaluation U) 
 ◌>>=◌ first next = λ w. then (first w) next
 
 -- the value, or the error at this column
-abbrev pub outcome_at : (column : ℕ) → Result ArrayValue EvalError → Evaluation ArrayValue
+abbrev pub outcome_at : (column : ℕ) → Result ArrayValue Report → Evaluation ArrayValue
 outcome_at column (Ok v) w = done v w
-outcome_at column (Err error) w = failed error column w
+outcome_at column (Err report) w = failed report column w
 
 -- the value of a name, and Value if it has none
-abbrev pub name_result : Option ArrayValue → Result ArrayValue EvalError
+abbrev pub name_result : Option ArrayValue → Result ArrayValue Report
 name_result (Some v) = Ok v
 name_result None = Err Value
 
@@ -58,14 +58,14 @@ abbrev pub assign_outcome : (text : List ℕ) → (right : ArrayValue) → Evalu
 assign_outcome text right w = done right (assigned text right w)
 
 -- the error of an indexed assignment is at its arrow, and Value at the name
-abbrev pub assign_at_column : (column arrow : ℕ) → EvalError → ℕ
+abbrev pub assign_at_column : (column arrow : ℕ) → Report → ℕ
 assign_at_column column arrow Value = column
 assign_at_column column arrow _ = arrow
 
 -- a name gets the changed array; the value of the assignment is the value on its right
-abbrev pub assign_at_outcome_of : Result ArrayValue EvalError → (column : ℕ) → (text : List ℕ) → (arrow : ℕ) → (right : ArrayValue) → Evaluation ArrayValue
+abbrev pub assign_at_outcome_of : Result ArrayValue Report → (column : ℕ) → (text : List ℕ) → (arrow : ℕ) → (right : ArrayValue) → Evaluation ArrayValue
 assign_at_outcome_of (Ok changed) column text arrow right w = done right (assigned text changed w)
-assign_at_outcome_of (Err error) column text arrow right w = failed error (assign_at_column column arrow error) w
+assign_at_outcome_of (Err report) column text arrow right w = failed report (assign_at_column column arrow report) w
 
 -- an indexed assignment: the value on its right, with the name's array changed
 abbrev pub assign_at_outcome : (column : ℕ) → (text : List ℕ) → (arrow : ℕ) → (slots : List (Option ArrayValue)) → (right : ArrayValue) → Evaluation ArrayValue

@@ -5,10 +5,10 @@ use Rattle.apl_array.specs.Array.{ArrayValue}
 use Rattle.apl_grammar.specs.declared.program.Brackets.{Brackets}
 use Rattle.apl_grammar.specs.declared.program.Operation.{Operation}
 use Rattle.apl_grammar.specs.declared.program.Operation.TheVariants as op
+use Rattle.apl_print.specs.declared.reports.Report.{Report}
 use Rattle.apl_eval.specs.Workspace.{NameValues, WorkspaceValue, with_names}
 use Rattle.apl_eval.specs.Meaning.{Outcome, done, failed, name_outcome, monadic_outcome, dyadic_outcome, index_outcome, assign_outcome, assign_at_outcome}
 use Rattle.apl_eval.specs.Names.{overlaid}
-use Rattle.apl_eval.specs.declared.error.EvalError.{EvalError}
 use Rattle.apl_eval.specs.declared.statement.EvalStop.{EvalStop}
 use Rattle.apl_eval.specs.declared.statement.EvalStop.TheVariants.{Error, Memory}
 
@@ -19,13 +19,13 @@ Item = Option ArrayValue
 -- the items that wait and the workspace; or the error that ended the line; or not the values that an operation wants
 pub data State : Type 0 where
   waiting : List Item → WorkspaceValue → State
-  ended : EvalError → (column : ℕ) → WorkspaceValue → State
+  ended : Report → (column : ℕ) → WorkspaceValue → State
   stuck : State
 
 -- an outcome that leaves these items
 abbrev pub leaves : {V : Type 0} → (V → List Item) → Outcome V → State
 leaves items (done v w) = waiting (items v) w
-leaves items (failed error column w) = ended error column w
+leaves items (failed report column w) = ended report column w
 
 -- a value on a stack
 abbrev pub onto : List Item → Outcome ArrayValue → State
@@ -66,7 +66,7 @@ step (op.Dyadic f axis) items w =
 
 abbrev pub go_on : State → (List Item → WorkspaceValue → State) → State
 go_on (waiting items w) next = next items w
-go_on (ended error column w) next = ended error column w
+go_on (ended report column w) next = ended report column w
 go_on stuck next = stuck
 
 abbrev pub steps : List Operation → List Item → WorkspaceValue → State
@@ -115,11 +115,11 @@ staged_in staged w = with_names (overlaid staged w.names) w
 -- The result is the outcome: its value, or its error and column. Lack of memory meets any outcome.
 abbrev pub IsOutcome : {Z : Type 0} → Outcome ArrayValue → WorkspaceValue → Result (Rc ArrayValue Z) EvalStop → Type 0
 IsOutcome outcome w (Ok value) = outcome ≡ done value.value w
-IsOutcome outcome w (Err (Error error column)) = outcome ≡ failed error column w
+IsOutcome outcome w (Err (Error report column)) = outcome ≡ failed report column w
 IsOutcome outcome w (Err Memory) = Unit {0}
 
 -- The result is the state: these items wait, or it is the error and column. Lack of memory meets any state.
 abbrev pub IsState : {T : Type 0} → State → List Item → WorkspaceValue → Result T EvalStop → Type 0
 IsState state items w (Ok value) = state ≡ waiting items w
-IsState state items w (Err (Error error column)) = state ≡ ended error column w
+IsState state items w (Err (Error report column)) = state ≡ ended report column w
 IsState state items w (Err Memory) = Unit {0}

@@ -8,7 +8,6 @@ ghost use Rattle.apl_reduce.specs.Products.{outer_row, inner_row};
 ghost use Rattle.apl_eval.specs.Functions.{monadic_column, dyadic_column, result_of, result_by, default_axis, function_axis, operator_axis, monadic_plain, dyadic_plain, reversed_along, reduced_along, dyadic_along, monadic_result, dyadic_result, index_result, assign_at_result};
 ghost use Rattle.apl_eval.specs.Refusals.{Answers};
 
-use super::error::EvalError;
 use super::workspace::Workspace;
 use apl_answer::OpFault;
 use apl_array::{Array, Axis};
@@ -17,6 +16,7 @@ use apl_grammar::{
     MonadicFunction, Operator,
 };
 use apl_pool::{Cut, Gate, Pool};
+use apl_print::Report;
 use apl_struct::axis_number;
 use std::alloc::Global;
 use std::thread::Threads;
@@ -24,7 +24,7 @@ use std::thread::Threads;
 /// Why a function has no value.
 #[derive(Drop)]
 pub(crate) enum FunctionRefusal {
-    Error(EvalError),
+    Error(Report),
     Memory,
 }
 
@@ -36,11 +36,11 @@ impl From<OpFault> for FunctionRefusal {
 
     fn from(fault: OpFault) -> FunctionRefusal {
         match fault {
-            OpFault::Rank => FunctionRefusal::Error(EvalError::Rank),
-            OpFault::Length => FunctionRefusal::Error(EvalError::Length),
-            OpFault::Index => FunctionRefusal::Error(EvalError::Index),
-            OpFault::Domain => FunctionRefusal::Error(EvalError::Domain),
-            OpFault::Limit => FunctionRefusal::Error(EvalError::Limit),
+            OpFault::Rank => FunctionRefusal::Error(Report::Rank),
+            OpFault::Length => FunctionRefusal::Error(Report::Length),
+            OpFault::Index => FunctionRefusal::Error(Report::Index),
+            OpFault::Domain => FunctionRefusal::Error(Report::Domain),
+            OpFault::Limit => FunctionRefusal::Error(Report::Limit),
             OpFault::Memory => FunctionRefusal::Memory,
         }
     }
@@ -66,7 +66,7 @@ pub(crate) fn dyadic_column(form: &DyadicForm) -> usize
     }
 }
 
-/// What a function answered, its fault as an error.
+/// What a function answered, its fault as a report.
 fn result_of(answer: Result<Array, OpFault>) -> Result<Array, FunctionRefusal>
     ensures { (wanted : Result ArrayValue OpFault) → IsAnswerOf wanted answer → Answers (result_of wanted) result }
 {
@@ -360,7 +360,7 @@ impl<'a, R: Threads + Sync, C: Cut + Sync, G: Gate + Sync> Context<'a, R, C, G> 
             Some(array) => result_of(apl_struct::replace(
                 rt, alloc, pool, array, slots, value, origin,
             )),
-            None => Err(FunctionRefusal::Error(EvalError::Value)),
+            None => Err(FunctionRefusal::Error(Report::Value)),
         }
     }
 }

@@ -1,13 +1,15 @@
-//! What is true of all statements in lawful workspaces.
-ghost use Rattle.std.specs.Prelude.{ℕ, ◌≤◌, Result};
+//! What is true of all statements: in lawful workspaces, and of their errors.
+ghost use Rattle.std.specs.Prelude.{◌≡◌, ℕ, ◌≤◌, Result};
 ghost use Rattle.apl_array.specs.declared.axis.Origin.{Origin};
 ghost use Rattle.apl_tokens.specs.Constants.{HasConstantsWithinLimits};
 ghost use Rattle.apl_grammar.specs.Tree.{Expr, spells};
 ghost use Rattle.apl_print.specs.Width.{least_width, most_width};
+ghost use Rattle.apl_print.specs.declared.reports.Report.{Report};
 ghost use Rattle.apl_eval.specs.declared.statement.Shown.{Shown};
 ghost use Rattle.apl_eval.specs.declared.statement.EvalStop.{EvalStop};
 ghost use Rattle.apl_eval.specs.Workspace.{WorkspaceValue, with_origin, with_width, opening_workspace};
-ghost use Rattle.apl_eval.specs.Meaning.{meaning_of};
+ghost use Rattle.apl_eval.specs.Meaning.{failed, meaning_of};
+ghost use Rattle.apl_eval.specs.Reports.{IsOfEvaluation};
 ghost use Rattle.apl_eval.specs.Evaluates.{Evaluates};
 ghost use Rattle.apl_eval.specs.Lawful.{IsLawful, IsLawfulOutcome};
 
@@ -32,3 +34,8 @@ pub fn lawful_stays()
     scanned_answers_are_within_limits();
     reduced_answers_are_within_limits();
 }
+
+/// The report of each error of a statement is one of evaluation, in any workspace: it is not Syntax, Character or WsFull.
+pub fn reports_are_of_evaluation()
+    ensures { (tree : Expr) (old new : WorkspaceValue) (report : Report) (column : ℕ) → meaning_of tree old ≡ failed report column new → IsOfEvaluation report }
+{}

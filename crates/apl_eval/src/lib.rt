@@ -4,7 +4,6 @@
 //! Begin with `specs/Meaning.antt`, which says what a statement means, and then `statement.rt`.
 #![tactic(auto)]
 
-mod error;
 mod functions;
 mod laws;
 mod names;
@@ -12,7 +11,6 @@ mod stack;
 mod statement;
 mod workspace;
 
-pub use error::EvalError;
-pub use laws::lawful_stays;
+pub use laws::{lawful_stays, reports_are_of_evaluation};
 pub use statement::{EvalStop, Shown, eval};
 pub use workspace::Workspace;

@@ -5,14 +5,13 @@ ghost use Rattle.apl_array.specs.Array.{ArrayValue};
 ghost use Rattle.apl_grammar.specs.Tree.{Expr, operations};
 ghost use Rattle.apl_grammar.specs.declared.program.Operation.TheVariants as op;
 ghost use Rattle.apl_print.specs.Width.{least_width, most_width};
-ghost use Rattle.apl_eval.specs.declared.error.EvalError.{EvalError};
+ghost use Rattle.apl_print.specs.declared.reports.Report.{Report};
 ghost use Rattle.apl_eval.specs.Workspace.{WorkspaceValue, value_of};
 ghost use Rattle.apl_eval.specs.Meaning.{Outcome, done, outcome_at, name_outcome, assign_at_column, meaning_of, is_assignment};
 ghost use Rattle.apl_eval.specs.Evaluates.{Evaluates, IsShownAs};
 ghost use Rattle.apl_eval.specs.Refusals.{Answers};
 ghost use Rattle.apl_eval.specs.Steps.{step, stuck, onto, staged_in, HasValue, HasValueAbove, HasAxisAbove, HasSlotsAbove, IsOutcome, IsState};
 
-use super::error::EvalError;
 use super::functions::{Context, FunctionRefusal, dyadic_column, monadic_column};
 use super::names::Names;
 use super::stack::{Stack, array_of};
@@ -22,7 +21,7 @@ use apl_grammar::{
     AxisBrackets, Brackets, Columns, DyadicForm, IndexedName, MonadicForm, Operation, Program,
 };
 use apl_pool::{Cut, Gate, Pool};
-use apl_print::print;
+use apl_print::{Report, print};
 use apl_tokens::Constant;
 use std::alloc::{AllocError, AllocFailed, Global};
 use std::rc::Rc;
@@ -40,8 +39,8 @@ pub enum Shown {
 /// Why a statement has no value.
 #[derive(Clone, Copy, Debug, PartialEq, Eq, Drop)]
 pub enum EvalStop {
-    /// An error, and its column in characters from 0.
-    Error { error: EvalError, column: usize },
+    /// The report of an error, and its column in characters from 0.
+    Error { report: Report, column: usize },
     /// A growth was refused.
     Memory,
 }
@@ -107,7 +106,7 @@ fn name_value(
     match look_up(workspace, staged, name) {
         Some(value) => Ok(value.clone()?),
         None => Err(EvalStop::Error {
-            error: EvalError::Value,
+            report: Report::Value,
             column,
         }),
     }
@@ -119,11 +118,11 @@ fn outcome_at(
     column: usize,
     answer: Result<Array, FunctionRefusal>,
 ) -> Result<Rc<Array>, EvalStop>
-    ensures { (wanted : Result ArrayValue EvalError) → (w : WorkspaceValue) → Answers wanted answer → IsOutcome (outcome_at column wanted w) w result }
+    ensures { (wanted : Result ArrayValue Report) → (w : WorkspaceValue) → Answers wanted answer → IsOutcome (outcome_at column wanted w) w result }
 {
     match answer {
         Ok(value) => Ok(Rc::new(alloc, value)?),
-        Err(FunctionRefusal::Error(error)) => Err(EvalStop::Error { error, column }),
+        Err(FunctionRefusal::Error(report)) => Err(EvalStop::Error { report, column }),
         Err(FunctionRefusal::Memory) => Err(EvalStop::Memory),
     }
 }
@@ -200,11 +199,11 @@ fn apply_index<R: Threads + Sync, C: Cut + Sync, G: Gate + Sync>(
 }
 
 /// The column of an indexed assignment's error.
-fn assign_at_column(target: &IndexedName, error: EvalError) -> usize
-    ensures { result ≡ assign_at_column target.now.column target.now.arrow error }
+fn assign_at_column(target: &IndexedName, report: Report) -> usize
+    ensures { result ≡ assign_at_column target.now.column target.now.arrow report }
 {
-    match error {
-        EvalError::Value => target.column,
+    match report {
+        Report::Value => target.column,
         _ => target.arrow,
     }
 }
@@ -229,9 +228,9 @@ fn apply_assign_at<R: Threads + Sync, C: Cut + Sync, G: Gate + Sync>(
             let changed = Rc::new(context.alloc, changed)?;
             Ok(staged.insert(context.alloc, name, changed)?)
         }
-        Err(FunctionRefusal::Error(error)) => Err(EvalStop::Error {
-            error,
-            column: assign_at_column(target, error),
+        Err(FunctionRefusal::Error(report)) => Err(EvalStop::Error {
+            report,
+            column: assign_at_column(target, report),
         }),
         Err(FunctionRefusal::Memory) => Err(EvalStop::Memory),
     }
@@ -339,9 +338,9 @@ pub fn eval<R: Threads + Sync, C: Cut + Sync, G: Gate + Sync>(
             workspace.keep(staged)?;
             Ok(shown)
         }
-        Err(EvalStop::Error { error, column }) => {
+        Err(EvalStop::Error { report, column }) => {
             workspace.keep(staged)?;
-            Err(EvalStop::Error { error, column })
+            Err(EvalStop::Error { report, column })
         }
         Err(EvalStop::Memory) => Err(EvalStop::Memory),
     }

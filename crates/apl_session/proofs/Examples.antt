@@ -14,7 +14,7 @@ use Rattle.apl_grammar.specs.Tree.{Expr, value, constant, name}
 use Rattle.apl_syntax.specs.declared.lines.Command.TheVariants.{Origin, Off}
 use Rattle.apl_syntax.specs.Commands.{close_paren, IsCommandLine}
 use Rattle.apl_syntax.specs.Reading.{IsReading, IsListed, command, statement}
-use Rattle.apl_eval.specs.declared.error.EvalError.TheVariants.{Value}
+use Rattle.apl_print.specs.declared.reports.Report.TheVariants.{Value}
 use Rattle.apl_eval.specs.Workspace.{WorkspaceValue, value_of, with_origin, opening_workspace}
 use Rattle.apl_eval.specs.Meaning.{failed, outcome_at, name_result, meaning_of}
 use Rattle.apl_session.specs.Lines.{lines_of, without_return}

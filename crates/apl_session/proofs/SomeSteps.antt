@@ -18,7 +18,7 @@ use Rattle.apl_eval.specs.Workspace.{WorkspaceValue, with_origin, with_width, op
 use Rattle.apl_eval.specs.Meaning.{Outcome, done, failed, meaning_of, is_assignment}
 use Rattle.apl_eval.specs.Lawful.{IsLawful, IsLawfulOutcome}
 use Rattle.apl_session.specs.Run.{Answer, IsTotal}
-use Rattle.apl_session.specs.Step.{text_answer, report_answer, command_answer, report_of, IsPrintedAnswer, IsStatementAnswer, IsAnswerTo, session_semantics}
+use Rattle.apl_session.specs.Step.{text_answer, report_answer, command_answer, IsPrintedAnswer, IsStatementAnswer, IsAnswerTo, session_semantics}
 
 -- the laws of the crates below
 pub record StepLaws : Type 0 where
@@ -42,7 +42,7 @@ module _ (laws : StepLaws) where
   some_statement : (line : List ℕ) (tree : Expr) (outcome : Outcome ArrayValue) → IsLawfulOutcome outcome
       → (answer : Answer WorkspaceValue) × IsStatementAnswer line tree outcome answer × IsLawful answer.after
   some_statement line tree (done v after) (limits, lawful) = some_done (is_assignment tree) v after limits lawful
-  some_statement line tree (failed error column after) lawful = (report_answer (report_of error) line column after, refl, lawful)
+  some_statement line tree (failed report column after) lawful = (report_answer report line column after, refl, lawful)
 
   command_answer_lawful : (state : WorkspaceValue) (line : List ℕ) (given : Command) → IsReading line (command given) → IsLawful state → IsLawful (command_answer given state).after
   command_answer_lawful state line (SetOrigin origin) is lawful = laws.origin origin state lawful

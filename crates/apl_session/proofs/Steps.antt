@@ -10,11 +10,11 @@ use Rattle.apl_print.specs.Shown.{IsShown}
 use Rattle.apl_print.specs.Put.{Writes}
 use Rattle.apl_print.specs.Failures.{CountsFailure}
 use Rattle.apl_print.specs.Reported.{report_text}
+use Rattle.apl_print.specs.declared.reports.Report.{Report}
 use Rattle.apl_print.specs.declared.reports.Report.TheVariants.{WsFull}
 use Rattle.apl_syntax.specs.declared.lines.Command.{Command}
 use Rattle.apl_syntax.specs.declared.lines.Command.TheVariants.{Off}
 use Rattle.apl_syntax.specs.Reading.{Reading, character, command, blank, statement, syntax, limit, IsReading}
-use Rattle.apl_eval.specs.declared.error.EvalError.{EvalError}
 use Rattle.apl_eval.specs.Workspace.{WorkspaceValue}
 use Rattle.apl_eval.specs.Evaluates.{Evaluates, IsPrinted}
 use Rattle.apl_eval.specs.declared.statement.Shown.TheVariants.{Silent, Text}
@@ -24,7 +24,7 @@ use Rattle.apl_session.specs.Lines.{without_return}
 use Rattle.apl_session.specs.Run.{Answer, IsDeterministic, refused_step}
 use Rattle.apl_session.specs.LineAnswer.{IsLineOutcome, IsLineAnswered, next_after}
 use Rattle.apl_session.specs.LineStep.{IsLineStep}
-use Rattle.apl_session.specs.Step.{text_answer, report_answer, command_answer, report_of, IsPrintedAnswer, IsStatementAnswer, IsAnswerTo, IsRefusable, session_semantics}
+use Rattle.apl_session.specs.Step.{text_answer, report_answer, command_answer, IsPrintedAnswer, IsStatementAnswer, IsAnswerTo, IsRefusable, session_semantics}
 use Rattle.apl_session.specs.declared.interpreter.Next.{Next}
 use Rattle.apl_session.specs.declared.interpreter.Next.TheVariants.{Go, End}
 use Rattle.apl_session.specs.declared.interpreter.RunFault.{RunFault}
@@ -43,7 +43,7 @@ module _ (shown_once : (a : ArrayValue) (width : ℕ) (s t : List ℕ) → IsSho
   one_statement : (line : List ℕ) (tree : Expr) (outcome : Outcome ArrayValue) (one other : Answer WorkspaceValue)
       → IsStatementAnswer line tree outcome one → IsStatementAnswer line tree outcome other → one ≡ other
   one_statement line tree (done v after) one other h k = one_done (is_assignment tree) v after one other h k
-  one_statement line tree (failed error column after) one other h k = h ∙ sym k
+  one_statement line tree (failed report column after) one other h k = h ∙ sym k
 
   one_answer : (state : WorkspaceValue) (line : List ℕ) (r : Reading) (one other : Answer WorkspaceValue)
       → IsAnswerTo state line r one → IsAnswerTo state line r other → one ≡ other
@@ -144,12 +144,12 @@ module _ (state now : WorkspaceValue) (line : List ℕ) (ops : List Operation) (
       (subst (λ (o : Outcome ArrayValue). IsStatementAnswer line read.0 o answer) (sym found.1) answers) refl printed.2 written
 
   -- an error writes its report
-  pub outcome_of_error : {T E : Type 0} (error : EvalError) (column : ℕ) (old new : Option (List ℕ)) (put : Result T E) (r : Result Next RunFault)
-      → ((tree : Expr) → operations tree ≡ ops → Evaluates tree state now (Err (Error error column))) → r ≡ next_after put
-      → Writes old new (report_text (report_of error) line (Some column)) put → IsLineOutcome IsLineStep state now line old new r
-  outcome_of_error error column old new put r evaluates e written =
-      outcome_of_reading state line (report_text (report_of error) line (Some column)) old new (statement read.0) (report_answer (report_of error) line column now) put r e read.1
-      (subst (λ (o : Outcome ArrayValue). IsStatementAnswer line read.0 o (report_answer (report_of error) line column now)) (sym (evaluates read.0 read.2)) refl) refl refl written
+  pub outcome_of_error : {T E : Type 0} (report : Report) (column : ℕ) (old new : Option (List ℕ)) (put : Result T E) (r : Result Next RunFault)
+      → ((tree : Expr) → operations tree ≡ ops → Evaluates tree state now (Err (Error report column))) → r ≡ next_after put
+      → Writes old new (report_text report line (Some column)) put → IsLineOutcome IsLineStep state now line old new r
+  outcome_of_error report column old new put r evaluates e written =
+      outcome_of_reading state line (report_text report line (Some column)) old new (statement read.0) (report_answer report line column now) put r e read.1
+      (subst (λ (o : Outcome ArrayValue). IsStatementAnswer line read.0 o (report_answer report line column now)) (sym (evaluates read.0 read.2)) refl) refl refl written
 
   -- a statement that is refused for want of memory leaves the workspace
   pub outcome_of_no_memory : {T E : Type 0} (old new : Option (List ℕ)) (put : Result T E) (r : Result Next RunFault)

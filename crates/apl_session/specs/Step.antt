@@ -13,8 +13,6 @@ use Rattle.apl_print.specs.declared.reports.Report.TheVariants as report
 use Rattle.apl_print.specs.Shown.{IsShown}
 use Rattle.apl_array.specs.Array.{ArrayValue}
 use Rattle.apl_array.specs.Axes.{origin_number}
-use Rattle.apl_eval.specs.declared.error.EvalError.{EvalError}
-use Rattle.apl_eval.specs.declared.error.EvalError.TheVariants as error
 use Rattle.apl_eval.specs.Workspace.{WorkspaceValue, with_origin, with_width, opening_workspace}
 use Rattle.apl_eval.specs.Meaning.{Outcome, done, failed, meaning_of, is_assignment}
 use Rattle.apl_session.specs.Run.{Answer, Semantics}
@@ -44,19 +42,10 @@ command_answer Clear workspace = reply_answer reply.Clear opening_workspace
 command_answer Off workspace = record { text = []; after = workspace; ends = true }
 command_answer Incorrect workspace = reply_answer reply.Incorrect workspace
 
--- the report of an error of a statement
-abbrev pub report_of : EvalError → Report
-report_of error.Value = report.Value
-report_of error.Index = report.Index
-report_of error.Rank = report.Rank
-report_of error.Length = report.Length
-report_of error.Domain = report.Domain
-report_of error.Limit = report.Limit
-
 -- A statement's answer: an assignment writes nothing, another statement its value's text; an error is reported.
 abbrev pub IsStatementAnswer : List ℕ → Expr → Outcome ArrayValue → Answer WorkspaceValue → Type 0
 IsStatementAnswer line tree (done value after) answer = MatchBool (is_assignment tree) (answer ≡ text_answer [] after) (IsPrintedAnswer value after answer)
-IsStatementAnswer line tree (failed error column after) answer = answer ≡ report_answer (report_of error) line column after
+IsStatementAnswer line tree (failed report column after) answer = answer ≡ report_answer report line column after
 
 -- the answer to a line that reads so
 abbrev pub IsAnswerTo : WorkspaceValue → List ℕ → Reading → Answer WorkspaceValue → Type 0

@@ -8,13 +8,13 @@ ghost use Rattle.apl_syntax.specs.Reading.{command as command_reading, statement
 ghost use Rattle.apl_eval.specs.Workspace.{opening_workspace};
 ghost use Rattle.apl_session.specs.Lines.{IsUnbroken};
 ghost use Rattle.apl_session.specs.LineAnswer.{IsLineOutcome, IsLineAnswered, next_after};
-ghost use Rattle.apl_session.specs.Step.{report_of, session_semantics};
+ghost use Rattle.apl_session.specs.Step.{session_semantics};
 ghost use Rattle.apl_session.specs.LineStep.{IsLineStep};
 
 use super::interpreter::{Next, RunFault};
 use super::lines::trim_return;
 use apl_array::Origin;
-use apl_eval::{EvalError, EvalStop, Shown, Workspace, eval};
+use apl_eval::{EvalStop, Shown, Workspace, eval};
 use apl_grammar::Program;
 use apl_pool::{Cut, Gate, Pool};
 use apl_print::{
@@ -172,24 +172,10 @@ fn answer_statement<R: Threads + Sync, C: Cut + Sync, G: Gate + Sync, S: Sink>(
     match eval(workspace, rt, alloc, pool, program) {
         Ok(Shown::Silent) => Ok(Next::Go),
         Ok(Shown::Text(text)) => go_on(put_all(sink, text.as_bytes())),
-        Err(EvalStop::Error { error, column }) => {
-            go_on(put_report(sink, report_of(error), line, Some(column)))
+        Err(EvalStop::Error { report, column }) => {
+            go_on(put_report(sink, report, line, Some(column)))
         }
         Err(EvalStop::Memory) => go_on(put_report(sink, Report::WsFull, line, None)),
-    }
-}
-
-/// The report of an error of a statement.
-fn report_of(error: EvalError) -> Report
-    ensures { result ≡ report_of error }
-{
-    match error {
-        EvalError::Value => Report::Value,
-        EvalError::Index => Report::Index,
-        EvalError::Rank => Report::Rank,
-        EvalError::Length => Report::Length,
-        EvalError::Domain => Report::Domain,
-        EvalError::Limit => Report::Limit,
     }
 }
 

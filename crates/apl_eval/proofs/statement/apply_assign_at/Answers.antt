@@ -2,7 +2,7 @@ use Rattle.std.proofs.Common.{◌≡◌, ◌+◌, ◌∷◌, ◌++◌, ℕ, leng
 use Rattle.std.specs.Prelude.{option_copied}
 use Rattle.std.specs.FinMap.{insert}
 use Rattle.apl_array.specs.Array.{ArrayValue}
-use Rattle.apl_eval.specs.declared.error.EvalError.{EvalError}
+use Rattle.apl_print.specs.declared.reports.Report.{Report}
 use Rattle.apl_eval.specs.Workspace.{assigned}
 use Rattle.apl_eval.specs.Meaning.{assign_at_column, assign_at_outcome, assign_at_outcome_of}
 use Rattle.apl_eval.specs.Steps.{onto, waiting, ended, staged_in, HasValue}
@@ -30,7 +30,7 @@ returns-in-Ok g c =
     let is = step-assign_at w target slots right below c.args.stack.now count stack in
     let chosen : map option_copied c.as_slice.result.now ≡ slots = ap (map option_copied) c.as_slice.ensures.value ∙ c.in_ok-chosen.ensures in
     let result = rw (c.array_named-array.ensures, c.as_str-name.ensures, chosen, c.deref.ensures) at c.in-Ok.ensures in
-    let outcome = ap (λ (r : Result ArrayValue EvalError). onto below (assign_at_outcome_of r target.column target.name target.arrow right w)) result in
+    let outcome = ap (λ (r : Result ArrayValue Report). onto below (assign_at_outcome_of r target.column target.name target.arrow right w)) result in
     let kept : c.insert.new.self ≡ insert c.args.staged.now target.name c.in-Ok.changed =
     c.in_ok-insert-in-Ok.ensures.ok ∙ (λ i. insert c.args.staged.now (c.as_str-name.ensures i) (c.in_ok-changed-in-Ok.ensures.ok i)) in
     let now : assigned target.name c.in-Ok.changed w ≡ staged_in c.insert.new.self c.args.context.now.workspace.now =
@@ -49,10 +49,10 @@ returns-in-Err-Error g c =
     let is = step-assign_at w target slots right below c.args.stack.now count stack in
     let chosen : map option_copied c.as_slice.result.now ≡ slots = ap (map option_copied) c.as_slice.ensures.value ∙ c.in_ok-chosen.ensures in
     let answers = rw (c.array_named-array.ensures, c.as_str-name.ensures, chosen, c.deref.ensures, c.in-Err-Error.is, c.in-Err-Error.field-0-is) at c.assign_at.ensures in
-    let outcome = ap (λ (r : Result ArrayValue EvalError). onto below (assign_at_outcome_of r target.column target.name target.arrow right w)) answers in
-    let error = c.in-Err-Error.error in
-    let shown : assign_at_column target.column target.arrow error ≡ c.assign_at_column.result =
-    sym (c.assign_at_column.ensures ∙ ap (λ (r : EvalError). assign_at_column target.column target.arrow r) c.in-Err-Error.error-is) in
-    let failed : onto below (assign_at_outcome target.column target.name target.arrow slots right w) ≡ ended error c.assign_at_column.result w =
-    outcome ∙ ap (λ (column : ℕ). ended error column w) shown in
-    is ∙ failed ∙ ap (λ (r : EvalError). ended r c.assign_at_column.result w) (sym c.in-Err-Error.error-is)
+    let outcome = ap (λ (r : Result ArrayValue Report). onto below (assign_at_outcome_of r target.column target.name target.arrow right w)) answers in
+    let report = c.in-Err-Error.report in
+    let shown : assign_at_column target.column target.arrow report ≡ c.assign_at_column.result =
+    sym (c.assign_at_column.ensures ∙ ap (λ (r : Report). assign_at_column target.column target.arrow r) c.in-Err-Error.report-is) in
+    let failed : onto below (assign_at_outcome target.column target.name target.arrow slots right w) ≡ ended report c.assign_at_column.result w =
+    outcome ∙ ap (λ (column : ℕ). ended report column w) shown in
+    is ∙ failed ∙ ap (λ (r : Report). ended r c.assign_at_column.result w) (sym c.in-Err-Error.report-is)

@@ -13,8 +13,8 @@ returns-in-Ok-Text-clause-answered g c = let w = rw c.as_bytes.ensures.value at 
 
 pub returns-in-Err-Error-clause-answered : goal.returns-in-Err-Error-clause-answered
 returns-in-Err-Error-clause-answered g c =
-    outcome_of_error c.args.workspace.now c.eval.new.workspace c.args.line.now c.args.program.now c.requires c.in-Err-Error.error c.in-Err-Error.column _ _ c.report.result c.go_on-in-Err-Error.result
-    (λ tree same. rw c.in-Err-Error.field-0-is at (c.in-Err-Error.ensures tree same)) c.go_on-in-Err-Error.ensures (rw c.report_of.ensures at c.report.ensures.writes)
+    outcome_of_error c.args.workspace.now c.eval.new.workspace c.args.line.now c.args.program.now c.requires c.in-Err-Error.report c.in-Err-Error.column _ _ c.report.result c.go_on-in-Err-Error.result
+    (λ tree same. rw c.in-Err-Error.field-0-is at (c.in-Err-Error.ensures tree same)) c.go_on-in-Err-Error.ensures c.report.ensures.writes
 
 pub returns-in-Err-Memory-clause-answered : goal.returns-in-Err-Memory-clause-answered
 returns-in-Err-Memory-clause-answered g c =
