@@ -1,14 +1,14 @@
 //! What is true of all answers, each law the contract of a function that does nothing.
-ghost use Rattle.std.specs.Prelude.{◌≡◌, ◌↔◌, ℕ, List, Result, Ok, Err, IfOk};
+ghost use Rattle.std.specs.Prelude.{◌≡◌, ◌↔◌, ℕ, List, Result, Ok, Err};
 ghost use Rattle.apl_array.specs.declared.array.Elem.{Elem};
 ghost use Rattle.apl_array.specs.declared.array.Kind.{Kind};
 ghost use Rattle.apl_array.specs.Array.{ArrayValue, IsArray};
-ghost use Rattle.apl_array.specs.Range.{IsElementInRange, HasNumbersInRange};
-ghost use Rattle.apl_array.specs.Shape.{IsShape, IsIndexOf};
+ghost use Rattle.apl_array.specs.Range.{HasNumbersInRange};
+ghost use Rattle.apl_array.specs.Shape.{IsShape};
 ghost use Rattle.apl_array.specs.Limits.{IsWithinLimits};
 ghost use Rattle.apl_pool.specs.declared.kernel.Fault.{Fault};
 ghost use Rattle.apl_answer.specs.Faults.{op_fault_of};
-ghost use Rattle.apl_answer.specs.Pointwise.{answer_of, IsArrayOf, IsLeastFaultOf};
+ghost use Rattle.apl_answer.specs.Pointwise.{answer_of, HaveElementsInRange, IsArrayOf, IsLeastFaultOf};
 ghost use Rattle.apl_answer.specs.Rows.{Row, HavePassed, result_of};
 
 use apl_array::places_match_index_lists;
@@ -27,8 +27,7 @@ pub fn answer_is_each_outcome()
 /// An answer whose outcomes are in the range has its numbers in the range.
 pub fn answer_is_in_range()
     ensures { (shape : List ℕ) (outcome : List ℕ → Result Elem Fault) (kind : Kind) (a : ArrayValue)
-        → ((index : List ℕ) → IsIndexOf shape index → IfOk (outcome index) IsElementInRange)
-        → answer_of shape outcome kind ≡ Ok a → HasNumbersInRange a }
+        → HaveElementsInRange shape outcome → answer_of shape outcome kind ≡ Ok a → HasNumbersInRange a }
 {
     places_match_index_lists();
 }
@@ -37,11 +36,9 @@ pub fn answer_is_in_range()
 /// row, of which both are needed only if its checks have passed.
 pub fn answer_is_within_limits()
     ensures answer { (shape : List ℕ) (outcome : List ℕ → Result Elem Fault) (kind : Kind) (a : ArrayValue)
-        → IsShape shape → ((index : List ℕ) → IsIndexOf shape index → IfOk (outcome index) IsElementInRange)
-        → answer_of shape outcome kind ≡ Ok a → IsWithinLimits a }
+        → IsShape shape → HaveElementsInRange shape outcome → answer_of shape outcome kind ≡ Ok a → IsWithinLimits a }
     ensures row { (row : Row) (a : ArrayValue) → (HavePassed row.checks → IsShape row.shape)
-        → (HavePassed row.checks → (index : List ℕ) → IsIndexOf row.shape index → IfOk (row.outcome index) IsElementInRange)
-        → result_of row ≡ Ok a → IsWithinLimits a }
+        → (HavePassed row.checks → HaveElementsInRange row.shape row.outcome) → result_of row ≡ Ok a → IsWithinLimits a }
 {
     places_match_index_lists();
 }

@@ -19,4 +19,4 @@ pub use fault::OpFault;
 pub use fill::{array_from_fill, fill_array};
 pub use laws::{answer_is_each_outcome, answer_is_in_range, answer_is_within_limits};
 pub use row_order::array_of_elements;
-pub use uniform::fill_uniform;
+pub use uniform::{constant_array, fill_uniform};

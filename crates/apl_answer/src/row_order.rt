@@ -1,12 +1,10 @@
 //! The elements of an array in row order, in another shape.
-ghost use Rattle.std.specs.Prelude.{◌≡◌, ℕ, pos, ◌<◌, ◌≤◌, List, Result, Ok, length, map, slice_index_or};
-ghost use Rattle.apl_array.specs.declared.array.Elem.{Elem};
+ghost use Rattle.std.specs.Prelude.{◌≤◌, pos, Ok, length, map, slice_index_or};
 ghost use Rattle.apl_array.specs.declared.array.Elem.TheVariants.{Int};
 ghost use Rattle.apl_array.specs.Array.{element_in};
-ghost use Rattle.apl_array.specs.Shape.{count_of, index_at};
-ghost use Rattle.apl_pool.specs.declared.kernel.Fault.{Fault};
+ghost use Rattle.apl_array.specs.Shape.{count_of};
 ghost use Rattle.apl_pool.specs.declared.kernel.TheConstants.{MOST_PLACES};
-ghost use Rattle.apl_answer.specs.Pointwise.{answer_of, IsAnswerOf};
+ghost use Rattle.apl_answer.specs.Pointwise.{IsAnswerAt};
 
 use crate::element::ElementType;
 use crate::fault::OpFault;
@@ -55,8 +53,7 @@ fn in_row_order<T: ElementType + Send + Sync, R: Threads + Sync, C: Cut + Sync, 
     elements: &[T],
 ) -> Result<Array, OpFault>
     requires { count_of shape ≤ length elements.now }
-    ensures { (outcome : List ℕ → Result Elem Fault) → ((place : ℕ) → place < count_of shape → Ok (slice_index_or (map T.elem_of elements.now) place (Int (pos 0))) ≡ outcome (index_at shape place))
-        → IsAnswerOf (answer_of shape outcome T.kind) result }
+    ensures { IsAnswerAt shape T.kind (λ place. Ok (slice_index_or (map T.elem_of elements.now) place (Int (pos 0)))) result }
 {
     let kernel = RowOrder {
         elements,
@@ -76,8 +73,7 @@ pub fn array_of_elements<R: Threads + Sync, C: Cut + Sync, G: Gate + Sync>(
     b: &Array,
 ) -> Result<Array, OpFault>
     requires { count_of shape ≤ count_of b.now.shape }
-    ensures { (outcome : List ℕ → Result Elem Fault) → ((place : ℕ) → place < count_of shape → Ok (element_in b.now place) ≡ outcome (index_at shape place))
-        → IsAnswerOf (answer_of shape outcome b.now.kind) result }
+    ensures { IsAnswerAt shape b.now.kind (λ place. Ok (element_in b.now place)) result }
 {
     match b.numbers() {
         Some(numbers) => in_row_order(rt, alloc, pool, shape, numbers),

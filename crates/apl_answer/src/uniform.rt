@@ -1,8 +1,15 @@
 //! One number, or one fault, at all places.
 ghost use Rattle.std.specs.Prelude.{◌≡◌, ◌≤◌, IfOk, IfErr};
+ghost use Rattle.apl_array.specs.declared.array.Elem.TheVariants.{Int};
+ghost use Rattle.apl_array.specs.declared.array.Kind.TheVariants.{Number};
 ghost use Rattle.apl_pool.specs.declared.kernel.TheConstants.{MOST_PLACES};
 ghost use Rattle.apl_pool.specs.Pool.{AreValues, IsStopOf};
+ghost use Rattle.apl_answer.specs.Elements.{element_outcome};
+ghost use Rattle.apl_answer.specs.Pointwise.{IsAnswerAt};
 
+use crate::fault::OpFault;
+use crate::fill::array_from_fill;
+use apl_array::{Array, Shape};
 use apl_pool::{Cut, Fault, Gate, Kernel, Pool, Stop};
 use std::alloc::Global;
 use std::thread::Threads;
@@ -45,4 +52,18 @@ pub fn fill_uniform<R: Threads + Sync, C: Cut + Sync, G: Gate + Sync>(
     ensures stop { IfErr result (IsStopOf (λ place. outcome) count) }
 {
     pool.fill(rt, alloc, &Uniform { count, outcome })
+}
+
+/// The array of this shape with one number at all places, or the fault at the first of them. `Memory` may come in place of any answer.
+pub fn constant_array<R: Threads + Sync, C: Cut + Sync, G: Gate + Sync>(
+    rt: &R,
+    alloc: Global,
+    pool: &Pool<C, G>,
+    shape: Shape,
+    outcome: Result<i64, Fault>,
+) -> Result<Array, OpFault>
+    ensures { IsAnswerAt shape Number (λ place. element_outcome Int outcome) result }
+{
+    let filled = fill_uniform(rt, alloc, pool, shape.count(), outcome);
+    array_from_fill(shape, filled)
 }

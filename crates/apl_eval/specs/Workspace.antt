@@ -17,6 +17,14 @@ pub record WorkspaceValue : Type 0 where
   pub origin : Origin
   pub width : ℕ
 
+-- its parts
+abbrev pub parts_of : WorkspaceValue → NameValues × (Origin × ℕ)
+parts_of w = (w.names, (w.origin, w.width))
+
+-- the workspace of such parts
+abbrev pub workspace_of : NameValues × (Origin × ℕ) → WorkspaceValue
+workspace_of parts = record { names = parts.0; origin = parts.1.0; width = parts.1.1 }
+
 -- the value of a name, if it has one
 abbrev pub value_of : List ℕ → WorkspaceValue → Option ArrayValue
 value_of name w = get w.names name

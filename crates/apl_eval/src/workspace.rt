@@ -27,11 +27,11 @@ impl Model for Workspace {
     ghost use Rattle.apl_array.specs.contracts.axis.Origin as origins;
     ghost use Rattle.apl_eval.specs.contracts.names.Names as stored;
     ghost use Rattle.apl_print.specs.Width.{least_width, most_width};
-    ghost use Rattle.apl_eval.specs.Workspace.{NameValues, WorkspaceValue};
+    ghost use Rattle.apl_eval.specs.Workspace.{NameValues, WorkspaceValue, parts_of, workspace_of};
 
     ghost Value = { WorkspaceValue };
 
-    ghost coded = { code_by (NameValues × (Origin × ℕ)) (coded× stored.the_row.coded (coded× origins.the_row.coded coded_ℕ)) (λ w. (w.names, (w.origin, w.width))) (λ p. record { names = p.0; origin = p.1.0; width = p.1.1 }) (λ _. refl) };
+    ghost coded = { code_by (NameValues × (Origin × ℕ)) (coded× stored.the_row.coded (coded× origins.the_row.coded coded_ℕ)) parts_of workspace_of (λ _. refl) };
 
     ghost view = { λ w. record { names = w.names; origin = w.origin; width = w.width } };
 

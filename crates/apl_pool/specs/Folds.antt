@@ -1,5 +1,5 @@
 -- What a worker answers for the items at a stretch of places. No contract of a public function cites this file.
-use Rattle.std.specs.Prelude.{◌≡◌, ℕ, ◌+◌, ◌*◌, ◌<◌, ℤ, List, Bool, true, false, Option, Some, None, Result, Ok, Err, slice_index_or}
+use Rattle.std.specs.Prelude.{◌≡◌, ℕ, ◌+◌, ◌*◌, ◌/◌, ◌%◌, ◌<◌, ℤ, List, Bool, true, false, Option, Some, None, Result, Ok, Err, slice_index, slice_index_or}
 use Rattle.apl_pool.specs.declared.kernel.Fault.{Fault}
 use Rattle.apl_pool.specs.declared.kernel.Stop.{Stop}
 use Rattle.apl_pool.specs.Parts.{AreValuesFrom, IsStopFrom}
@@ -23,6 +23,10 @@ module _ {S X : Type 0} (step : X → ℤ → Result ℤ Fault) (item_count : S 
   IsFolded from to (Some s) = IsFoldFrom from to s
   IsFolded from to None = from ≡ to
 
+  -- the summary of the places of piece `number`, where `starts` has the first place of each piece
+  abbrev pub IsFoldedPiece : List ℕ → ℕ → Option S → Type 0
+  IsFoldedPiece starts number = IsFolded (slice_index starts number) (slice_index starts (number + 1))
+
   -- what a worker answers for these places
   abbrev pub IsFoldedPart : ℕ → ℕ → Result (Option S) Stop → Type 0
   IsFoldedPart from to (Ok folded) = IsFolded from to folded
@@ -31,6 +35,10 @@ module _ {S X : Type 0} (step : X → ℤ → Result ℤ Fault) (item_count : S 
   -- the first of a list is the summary of these places
   abbrev pub IsFoldedFirst : ℕ → ℕ → List (Option S) → Type 0
   IsFoldedFirst from to values = IsFolded from to (slice_index_or values 0 None)
+
+-- The first of a list is the summary of piece `number` of the pieces of all rows: the rows' first pieces come first
+abbrev pub IsPieceOfRows : {S X : Type 0} → (X → ℤ → Result ℤ Fault) → (S → ℕ) → (S → ℤ → Result ℤ Fault) → (ℕ → ℕ → Result X Fault) → (rows : ℕ) → List ℕ → ℕ → List (Option S) → Type 0
+IsPieceOfRows step item_count does outcome rows starts number = IsFoldedFirst step item_count does (outcome (number % rows)) (slice_index starts (number / rows)) (slice_index starts (number / rows + 1))
 
 -- A marked part is the summary of its piece. Each row has `count` pieces, which begin and end at `start`. The rows' first pieces come
 -- first

@@ -19,6 +19,10 @@ module _ {T : Type 0} (outcome : ℕ → Result T Fault) where
     pub len : from + length values ≡ to
     pub each : (k : ℕ) (d : T) → k < length values → outcome (from + k) ≡ Ok (slice_index_or values k d)
 
+  -- the values at the places of piece `number`, where `starts` has the first place of each piece
+  abbrev pub AreValuesOfPiece : List ℕ → ℕ → List T → Type 0
+  AreValuesOfPiece starts number = AreValuesFrom (slice_index starts number) (slice_index starts (number + 1))
+
   -- of a list for all places, the items at these places are the values there
   abbrev pub AreValuesAt : ℕ → ℕ → List T → Type 0
   AreValuesAt from to values = (k : ℕ) (d : T) → from ≤ k → k < to → outcome k ≡ Ok (slice_index_or values k d)

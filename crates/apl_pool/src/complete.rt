@@ -1,7 +1,7 @@
 //! What the first worker does after the others: the pieces that nobody brought.
 ghost use Rattle.std.specs.Prelude.{◌≡◌, ℕ, ◌+◌, ◌-◌, ◌<◌, ◌≤◌, ◌⊎◌, true, OnOk, IfErr, length, slice_index, slice_index_or};
 ghost use Rattle.apl_pool.specs.declared.kernel.TheConstants.{MOST_PLACES};
-ghost use Rattle.apl_pool.specs.Parts.{AreValuesFrom, AreValuesAt, IsStopFrom};
+ghost use Rattle.apl_pool.specs.Parts.{AreValuesFrom, AreValuesOfPiece, AreValuesAt, IsStopFrom};
 ghost use Rattle.apl_pool.specs.Crew.{AreMarks};
 
 use super::copies::Copies;
@@ -52,7 +52,7 @@ where
     K::Out: Copy,
     requires places { pieces.now.places ≡ K.place_count kernel.now }
     requires room { length values.old ≡ pieces.now.places }
-    requires marks { AreMarks (λ n. AreValuesFrom (K.outcome kernel.now) (slice_index pieces.now.starts.items n) (slice_index pieces.now.starts.items (n + 1))) (slice_index pieces.now.starts.items) pieces.now.count values.old marks.now }
+    requires marks { AreMarks (AreValuesOfPiece (K.outcome kernel.now) pieces.now.starts.items) (slice_index pieces.now.starts.items) pieces.now.count values.old marks.now }
     ensures ok { OnOk result (AreValuesFrom (K.outcome kernel.now) 0 (K.place_count kernel.now) values.new) }
     ensures stop { IfErr result (IsStopFrom (K.outcome kernel.now) 0 (K.place_count kernel.now)) }
     ensures len { length values.new ≡ length values.old }

@@ -3,7 +3,7 @@
 ghost use Rattle.std.specs.Thread.{IsSync};
 ghost use Rattle.std.specs.Prelude.{◌≡◌, ℕ, ◌+◌, ◌-◌, ◌<◌, ◌≤◌, ◌*◌, replicate};
 ghost use Rattle.apl_board.specs.Seats.{view, IsSeatOf};
-ghost use Rattle.apl_pool.specs.Crew.{AreSeatsOf, AreRoomsFor};
+ghost use Rattle.apl_pool.specs.Crew.{AreSeatsOf, AreRoomsFor, AreReady};
 
 use super::copies::Copies;
 use super::ends::Ends;
@@ -169,12 +169,12 @@ pub(crate) fn work_together<T: Send, R: Threads + Sync, F: Task<T> + Sync, G: Ga
     }
     let (rest, one) = split_one(rooms, board, seats, workers);
     let last = move || -> Seats<T>
-        requires { IsSync F.row × IsSync G.row × AreRoomsFor T.row F.start_of F.piece_count rooms.now task.now × (F.piece_count task.now ≡ shares.now.rows * shares.now.pieces.count) × AreSeatsOf rooms.now board.now one 1 }
+        requires { IsSync F.row × IsSync G.row × AreReady T.row F.start_of F.piece_count rooms.now task.now board.now (shares.now.rows * shares.now.pieces.count) one 1 }
         ensures { AreSeatsOf rooms.entry.now board.entry.now result 1 }
     { work(rooms, board, task, gate, shares, worker, own, one) };
     let before = move || -> Seats<T>
-        requires { IsSync R.row × IsSync F.row × IsSync G.row × (0 < others) × (others ≤ shares.now.tasks) × AreRoomsFor T.row F.start_of F.piece_count rooms.now task.now
-            × (F.piece_count task.now ≡ shares.now.rows * shares.now.pieces.count) × AreSeatsOf rooms.now board.now rest others }
+        requires { IsSync R.row × IsSync F.row × IsSync G.row × (0 < others) × (others ≤ shares.now.tasks)
+            × AreReady T.row F.start_of F.piece_count rooms.now task.now board.now (shares.now.rows * shares.now.pieces.count) rest others }
         ensures { AreSeatsOf rooms.entry.now board.entry.now result others × (result.copies.items ≡ replicate copies.count copies.number) }
     {
         work_together(

@@ -3,7 +3,7 @@ ghost use Rattle.std.specs.Prelude.{◌≡◌, ℕ, ◌+◌, ◌-◌, ◌*◌, �
 ghost use Rattle.apl_pool.specs.declared.kernel.Fault.{Fault};
 ghost use Rattle.apl_pool.specs.declared.kernel.TheConstants.{MOST_PLACES};
 ghost use Rattle.apl_pool.specs.declared.summary.TheConstants.{LONGEST_RUN};
-ghost use Rattle.apl_pool.specs.Folds.{items_in, IsFolded, IsFoldedPart, ArePartsOf};
+ghost use Rattle.apl_pool.specs.Folds.{items_in, IsFolded, IsFoldedPiece, IsFoldedPart, ArePartsOf};
 ghost use Rattle.apl_pool.specs.Summaries.{AreFolds};
 
 use super::copies::Copies;
@@ -172,7 +172,7 @@ fn join_parts<S: Summary + Drop, K: Kernel<Out = S::Item>, G: Gate>(
     requires marks { rows * pieces.now.count ≡ length marks.now }
     requires most { rows * pieces.now.count ≤ MOST_PLACES }
     requires right { (n : ℕ) → n < pieces.now.count → slice_index_or marks.now (n * rows + row) false ≡ true
-        → IsFolded S.step S.item_count S.outcome (K.outcome kernel.now) (slice_index pieces.now.starts.items n) (slice_index pieces.now.starts.items (n + 1)) (slice_index_or parts.old (n * rows + row) None) }
+        → IsFoldedPiece S.step S.item_count S.outcome (K.outcome kernel.now) pieces.now.starts.items n (slice_index_or parts.old (n * rows + row) None) }
     ensures folded { IsFoldedPart S.step S.item_count S.outcome (K.outcome kernel.now) 0 (K.place_count kernel.now) result }
     ensures len { length parts.new ≡ length parts.old }
     ensures kept { (n other : ℕ) → row < other → other < rows → slice_index_or parts.new (n * rows + other) None ≡ slice_index_or parts.old (n * rows + other) None }

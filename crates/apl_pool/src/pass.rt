@@ -3,7 +3,7 @@ ghost use Rattle.std.specs.Thread.{IsSync};
 ghost use Rattle.std.specs.Prelude.{◌≡◌, ◌<◌, ◌≤◌, IfOk, IfSome, length, ◌*◌, replicate};
 ghost use Rattle.core.specs.Mem.Slots.{slots_items, slots_len, IsFull, Refills};
 ghost use Rattle.apl_board.specs.Seats.{view, IsSeatOf};
-ghost use Rattle.apl_pool.specs.Crew.{AreMarks};
+ghost use Rattle.apl_pool.specs.Crew.{AreMarksOf, IsPassReady};
 
 use super::copies::Copies;
 use super::crew::{Seats, work_together};
@@ -52,7 +52,7 @@ fn fill_row<T: Send, R: Threads + Sync, F: Task<T> + Sync, G: Gate + Sync>(
     requires pieces { F.piece_count task.now ≡ shares.now.rows * shares.now.pieces.count }
     requires seat { IsSeatOf board.now seat × ((view seat).share ≡ shares.now.tasks) }
     ensures row { Refills row result.0 }
-    ensures marks { IfSome result.1 (λ b. AreMarks (F.is_right task.now) (F.start_of task.now) (F.piece_count task.now) (slots_items result.0) b.marks.items) }
+    ensures marks { IfSome result.1 (λ b. AreMarksOf F.is_right F.start_of F.piece_count task.now (slots_items result.0) b.marks.items) }
     ensures copies { IfSome result.1 (λ b. b.copies.items ≡ replicate copies.count copies.number) }
 {
     let workers = shares.tasks() as u8;
@@ -85,7 +85,7 @@ pub(crate) fn fill_rooms<T: Send, R: Threads + Sync, F: Task<T> + Sync, G: Gate 
     requires all { F.start_of task.now (F.piece_count task.now) ≡ length values.old }
     requires pieces { F.piece_count task.now ≡ pass.now.shares.now.rows * pass.now.shares.now.pieces.count }
     ensures len { length values.new ≡ length values.old }
-    ensures marks { IfOk result (λ b. AreMarks (F.is_right task.now) (F.start_of task.now) (F.piece_count task.now) values.new b.marks.items) }
+    ensures marks { IfOk result (λ b. AreMarksOf F.is_right F.start_of F.piece_count task.now values.new b.marks.items) }
     ensures copies { IfOk result (λ b. b.copies.items ≡ replicate copies.count copies.number) }
 {
     let (alloc, gate, shares) = (pass.alloc, pass.gate, pass.shares);
@@ -100,9 +100,9 @@ pub(crate) fn fill_rooms<T: Send, R: Threads + Sync, F: Task<T> + Sync, G: Gate 
             &mut (),
             pass.rt,
             |row: Slots<T>, _: (), rt: &R| -> (Slots<T>, (), Option<PassOutput>)
-                requires { IsSync F.row × IsSync G.row × IsFull row × (F.start_of task.now (F.piece_count task.now) ≡ slots_len row) × (F.piece_count task.now ≡ shares.now.rows * shares.now.pieces.count)
-                    × IsSeatOf board seat × ((view seat).share ≡ shares.now.tasks) }
-                ensures { Refills row result.0 × IfSome result.2 (λ b. AreMarks (F.is_right task.entry.now) (F.start_of task.entry.now) (F.piece_count task.entry.now) (slots_items result.0) b.marks.items)
+                requires { IsSync F.row × IsSync G.row × IsFull row
+                    × IsPassReady F.start_of F.piece_count task.now (slots_len row) (shares.now.rows * shares.now.pieces.count) board seat shares.now.tasks }
+                ensures { Refills row result.0 × IfSome result.2 (λ b. AreMarksOf F.is_right F.start_of F.piece_count task.entry.now (slots_items result.0) b.marks.items)
                     × IfSome result.2 (λ b. b.copies.items ≡ replicate copies.count copies.number) }
             {
                 let (row, brought) = fill_row(

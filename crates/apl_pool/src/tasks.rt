@@ -1,8 +1,8 @@
 //! What the workers of a pass write into the room of each piece: the values at its places, or a summary of them.
-ghost use Rattle.std.specs.Prelude.{◌≡◌, ◌≤◌, ◌+◌, ◌*◌, ◌/◌, ◌%◌, slice_index};
+ghost use Rattle.std.specs.Prelude.{◌≡◌, ◌≤◌, ◌*◌, slice_index};
 ghost use Rattle.apl_pool.specs.declared.kernel.TheConstants.{MOST_PLACES};
-ghost use Rattle.apl_pool.specs.Parts.{AreValuesFrom};
-ghost use Rattle.apl_pool.specs.Folds.{IsFoldedFirst};
+ghost use Rattle.apl_pool.specs.Parts.{AreValuesOfPiece};
+ghost use Rattle.apl_pool.specs.Folds.{IsPieceOfRows};
 
 use super::folds::fold_places;
 use super::kernel::{Kernel, Stop};
@@ -25,7 +25,7 @@ impl<'a, T: Copy, K: Kernel<Out = T>> Task<T> for Values<'a, K> {
 
     ghost start_of = { λ t n. slice_index t.pieces.now.starts.items n };
 
-    ghost is_right = { λ t n values. AreValuesFrom (K.outcome t.kernel.now) (slice_index t.pieces.now.starts.items n) (slice_index t.pieces.now.starts.items (n + 1)) values };
+    ghost is_right = { λ t. AreValuesOfPiece (K.outcome t.kernel.now) t.pieces.now.starts.items };
 
     fn count(&self) -> usize {
         self.pieces.count()
@@ -59,7 +59,7 @@ impl<'a, S: Summary + Drop, K: Rows<Out = S::Item>> Task<Option<S>> for Summarie
 
     ghost start_of = { λ t n. n };
 
-    ghost is_right = { λ t n values. IsFoldedFirst S.step S.item_count S.outcome (K.outcome t.rows.now (n % K.row_count t.rows.now)) (slice_index t.pieces.now.starts.items (n / K.row_count t.rows.now)) (slice_index t.pieces.now.starts.items (n / K.row_count t.rows.now + 1)) values };
+    ghost is_right = { λ t. IsPieceOfRows S.step S.item_count S.outcome (K.outcome t.rows.now) (K.row_count t.rows.now) t.pieces.now.starts.items };
 
     fn count(&self) -> usize {
         self.rows.rows() * self.pieces.count()

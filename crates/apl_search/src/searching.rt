@@ -1,19 +1,17 @@
 //! The elements of one argument found in the other.
-ghost use Rattle.std.specs.Prelude.{◌≡◌, ℕ, pos, ◌+◌, ◌<◌, ◌≤◌, List, Result, Ok, map, length};
-ghost use Rattle.apl_array.specs.declared.array.Elem.{Elem};
+ghost use Rattle.std.specs.Prelude.{◌≡◌, pos, ◌+◌, ◌<◌, ◌≤◌, Result, Ok, map, length};
 ghost use Rattle.apl_array.specs.declared.array.Kind.TheVariants.{Number};
 ghost use Rattle.apl_array.specs.declared.array.Elem.TheVariants.{Int};
-ghost use Rattle.apl_array.specs.Shape.{count_of, index_at};
 ghost use Rattle.apl_pool.specs.declared.kernel.Fault.{Fault};
 ghost use Rattle.apl_pool.specs.declared.kernel.TheConstants.{MOST_PLACES};
-ghost use Rattle.apl_answer.specs.Pointwise.{answer_of, IsAnswerOf};
+ghost use Rattle.apl_answer.specs.Pointwise.{answer_of, IsAnswerOf, IsAnswerAt};
 ghost use Rattle.apl_answer.specs.Rows.{Answers};
 ghost use Rattle.apl_search.specs.Finding.{found_outcome, member_outcome};
 ghost use Rattle.apl_search.specs.Searching.{index_of_row, member_row};
 
 use crate::finding::{Searchable, Sorted};
 use crate::workers::Workers;
-use apl_answer::{OpFault, array_from_fill, fill_array, fill_uniform};
+use apl_answer::{OpFault, constant_array, fill_array};
 use apl_array::{Array, Origin, places_match_index_lists};
 use apl_pool::{Cut, Fault, Gate, Kernel, Pool};
 use std::alloc::Global;
@@ -123,15 +121,12 @@ impl<R: Threads + Sync, C: Cut + Sync, G: Gate + Sync> Workers<'_, R, C, G> {
     }
 
     /// One number at all places of an array's shape.
-    fn constant_array(&self, b: &Array, number: usize) -> Result<Array, OpFault>
+    fn same_everywhere(&self, b: &Array, number: usize) -> Result<Array, OpFault>
         requires fits { number ≤ MOST_PLACES + 1 }
-        ensures { (outcome : List ℕ → Result Elem Fault) → ((place : ℕ) → place < count_of b.now.shape → Ok (Int (pos number)) ≡ outcome (index_at b.now.shape place))
-            → IsAnswerOf (answer_of b.now.shape outcome Number) result }
+        ensures { IsAnswerAt b.now.shape Number (λ place. Ok (Int (pos number))) result }
     {
         let shape = b.shape().copy(self.alloc)?;
-        let count = shape.count();
-        let filled = fill_uniform(self.rt, self.alloc, self.pool, count, Ok(number as i64));
-        array_from_fill(shape, filled)
+        constant_array(self.rt, self.alloc, self.pool, shape, Ok(number as i64))
     }
 }
 
@@ -156,7 +151,7 @@ pub fn index_of<R: Threads + Sync, C: Cut + Sync, G: Gate + Sync>(
     let past = origin.number() as usize + a.shape().count();
     if let Some(list) = a.numbers() {
         let Some(elements) = b.numbers() else {
-            return workers.constant_array(b, past);
+            return workers.same_everywhere(b, past);
         };
         return workers.first_places(list, b, elements, origin);
     }
@@ -164,7 +159,7 @@ pub fn index_of<R: Threads + Sync, C: Cut + Sync, G: Gate + Sync>(
         unreachable!()
     };
     let Some(elements) = b.characters() else {
-        return workers.constant_array(b, past);
+        return workers.same_everywhere(b, past);
     };
     workers.first_places(list, b, elements, origin)
 }
@@ -185,7 +180,7 @@ pub fn member<R: Threads + Sync, C: Cut + Sync, G: Gate + Sync>(
     places_match_index_lists();
     if let Some(list) = b.numbers() {
         let Some(elements) = a.numbers() else {
-            return workers.constant_array(a, 0);
+            return workers.same_everywhere(a, 0);
         };
         return workers.members(a, elements, list);
     }
@@ -193,7 +188,7 @@ pub fn member<R: Threads + Sync, C: Cut + Sync, G: Gate + Sync>(
         unreachable!()
     };
     let Some(elements) = a.characters() else {
-        return workers.constant_array(a, 0);
+        return workers.same_everywhere(a, 0);
     };
     workers.members(a, elements, list)
 }

@@ -6,6 +6,8 @@ use Rattle.apl_array.specs.Array.{ArrayValue}
 use Rattle.apl_answer.specs.Arguments.{fill_of, rank_of, has_elements, has_one_element, is_same_kind, is_same_shape}
 use Rattle.apl_answer.specs.declared.fault.OpFault.TheVariants.{Rank, Length, Domain}
 use Rattle.apl_answer.specs.Rows.{Check}
+use Rattle.apl_walk.specs.declared.maps.Map.{Map}
+use Rattle.apl_walk.specs.Maps.{walked}
 
 -- the place that a walk reaches, and 0 where it reaches none
 abbrev pub place_or_zero : Option ℕ → ℕ
@@ -45,3 +47,22 @@ value_step b = if has_one_element b.shape then 0 else 1
 pub record IsReplacement (a b : ArrayValue) (selected : List ℕ) : Type 0 where
   pub each : (has_one_element b.shape || is_same_shape b.shape selected) ≡ true
   pub kind : 0 < count_of b.shape → a.kind ≡ b.kind
+
+-- ---- a list that is written over
+
+-- the place that is chosen by the index list at a place of a walk
+abbrev pub chosen_at : List Map → ℕ → ℕ
+chosen_at maps place = place_or_zero (walked maps place)
+
+-- the number of the value that stays at a place, after `count` choices
+abbrev pub number_at : List Map → (step count place : ℕ) → ℕ
+number_at maps step count place = last_number (λ p. chosen_at maps p) step place count
+
+-- at each of the first `count` places there is the value of the last of n choices of it, and else its own element
+abbrev pub HaveValues : {T : Type 0} → (choice : ℕ → ℕ) (step n : ℕ) (elements values : List T) (fill : T) (count : ℕ) (room : List T) → Type 0
+HaveValues choice step n elements values fill count room = (p : ℕ) → p < count → slice_index_or room p fill ≡ value_numbered elements values fill (last_number choice step p n) p
+
+-- a list with the values of `extent` more choices, from the choice `from` on
+abbrev pub AreWrittenOver : {T : Type 0} → (chosen : ℕ → ℕ) (extent from step : ℕ) (values : List T) (fill : T) (old new : List T) → Type 0
+AreWrittenOver {T} chosen extent from step values fill old new = (choice : ℕ → ℕ) (elements : List T) → ((i : ℕ) → i < extent → chosen i ≡ choice (from + i))
+    → HaveValues choice step from elements values fill (length old) old → HaveValues choice step (from + extent) elements values fill (length old) new

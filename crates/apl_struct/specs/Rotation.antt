@@ -1,6 +1,14 @@
 -- Indexes counted round. No contract of a public function cites this file.
-use Rattle.std.specs.Prelude.{ℕ, ℤ, pos, zero, suc, nat_abs, ◌+◌, ◌*◌, List, slice_index}
+use Rattle.std.specs.Prelude.{◌≡◌, ℕ, ℤ, pos, zero, suc, nat_abs, ◌+◌, ◌*◌, List, Result, Ok, slice_index, slice_index_or, remove}
 use Rattle.std.specs.Int.{int_rem_euclid}
+use Rattle.apl_array.specs.declared.array.Elem.{Elem}
+use Rattle.apl_array.specs.declared.array.Kind.{Kind}
+use Rattle.apl_array.specs.Shape.{place_of}
+use Rattle.apl_array.specs.Array.{ArrayValue}
+use Rattle.apl_answer.specs.declared.fault.OpFault.{OpFault}
+use Rattle.apl_answer.specs.Pointwise.{answer_of, IsAnswerOf}
+use Rattle.apl_struct.specs.Gathering.{along_axis}
+use Rattle.apl_struct.specs.Rearranging.{rotated_index}
 use Rattle.apl_struct.specs.Along.{line_index, line_number, line_place}
 use Rattle.apl_walk.specs.Steps.{wrapped}
 
@@ -12,3 +20,16 @@ rotation_of (suc m) z = nat_abs (int_rem_euclid z (pos (suc m)))
 -- the place on the line of a place that its rotation takes there, where an axis has n indexes and neighbours along it are `inner` apart
 abbrev pub turned_place : (n inner : ℕ) (by : List ℕ) (place : ℕ) → ℕ
 turned_place n inner by place = line_place n inner (n * inner) place (wrapped n (line_index n inner place + slice_index by (line_number n inner place)))
+
+-- the number by which the line along axis k that goes through an index list is rotated
+abbrev pub line_rotation : List ℤ → List ℕ → ℕ → List ℕ → ℤ
+line_rotation rotations shape k index = slice_index_or rotations (place_of (remove shape k) (remove index k)) (pos 0)
+
+-- the index list in the argument if each line along axis k is rotated by its number
+abbrev pub rotated_source : List ℤ → List ℕ → ℕ → List ℕ → List ℕ
+rotated_source rotations shape k index = along_axis k (rotated_index (line_rotation rotations shape k index) (slice_index shape k)) index
+
+-- the array of this shape and kind whose element is known at each list of indexes
+abbrev pub IsArrayEverywhere : List ℕ → Kind → (List ℕ → Elem) → Result ArrayValue OpFault → Type 0
+IsArrayEverywhere shape kind at_index result = (element : List ℕ → Elem) → ((index : List ℕ) → at_index index ≡ element index)
+    → IsAnswerOf (answer_of shape (λ index. Ok (element index)) kind) result

@@ -8,7 +8,20 @@ use Rattle.apl_answer.specs.declared.fault.OpFault.{OpFault}
 use Rattle.apl_answer.specs.declared.fault.OpFault.TheVariants.{Memory}
 use Rattle.apl_answer.specs.Arguments.{rank_of, numbers_of}
 use Rattle.apl_answer.specs.Rows.{Check, first_failure_or}
+use Rattle.apl_walk.specs.declared.maps.Map.{Map}
+use Rattle.apl_walk.specs.Maps.{extent_of, map_extent, map_step, walked}
+use Rattle.apl_walk.specs.Steps.{and_step}
 use Rattle.apl_struct.specs.Indexing.{Slots, are_slots_within, selected_shape}
+
+-- ---- walks
+
+-- the place that a walk from place `start` reaches
+abbrev pub reached_from : (start : ℕ) → List Map → (place : ℕ) → Option ℕ
+reached_from start maps place = and_step (Some start) (walked maps place)
+
+-- the place that it reaches with one more axis before the others
+abbrev pub reached_with : (start : ℕ) → List Map → Map → (place : ℕ) → Option ℕ
+reached_with start maps map place = and_step (reached_from start maps place) (map_step map (place / extent_of maps % map_extent map))
 
 -- ---- slots
 

@@ -1,12 +1,9 @@
 //! Results that differ from an argument along one axis.
-ghost use Rattle.std.specs.Prelude.{◌≡◌, ℕ, ◌+◌, ◌*◌, ◌/◌, ◌%◌, ◌<◌, ◌≤◌, IfOk, IfSome, List, Ok, Option, Some, option_map, length, drop, slice_index, slice_set, remove};
-ghost use Rattle.apl_array.specs.declared.array.Elem.{Elem};
-ghost use Rattle.apl_array.specs.Shape.{IsIndexOf, count_of, place_of};
+ghost use Rattle.std.specs.Prelude.{◌≡◌, ℕ, ◌+◌, ◌*◌, ◌/◌, ◌<◌, ◌≤◌, IfOk, length, drop, slice_index, slice_set, remove};
+ghost use Rattle.apl_array.specs.Shape.{count_of, place_of};
 ghost use Rattle.apl_pool.specs.declared.kernel.TheConstants.{MOST_PLACES};
-ghost use Rattle.apl_answer.specs.Pointwise.{answer_of, IsAnswerOf};
-ghost use Rattle.apl_struct.specs.Gathering.{element_or_fill, along_axis_or_none};
+ghost use Rattle.apl_struct.specs.Along.{step_between, IsArrayAlong};
 ghost use Rattle.apl_walk.specs.declared.map.TheConstants.{MOST_STEP};
-ghost use Rattle.apl_walk.specs.Steps.{and_step};
 ghost use Rattle.apl_walk.specs.Maps.{extent_of, map_extent, map_step, walked};
 ghost use Rattle.apl_walk.specs.Walks.{maps_of};
 
@@ -69,8 +66,8 @@ fn walk_along<'a>(
     requires most { outer * (map_extent map * inner) ≤ MOST_PLACES }
     requires near { outer * block ≤ MOST_STEP }
     ensures extent { IfOk result (λ walk. extent_of (maps_of walk) ≡ outer * (map_extent map.entry * inner)) }
-    ensures place { IfOk result (λ walk. (place : ℕ) → place < outer * (map_extent map.entry * inner) → walked (maps_of walk) place
-        ≡ and_step (and_step (Some (place % inner)) (map_step map.entry (place / inner % map_extent map.entry))) (Some (place / (map_extent map.entry * inner) * block))) }
+    ensures place { let m = map.entry in IfOk result (λ walk. (place : ℕ) → place < outer * (map_extent m * inner)
+        → walked (maps_of walk) place ≡ step_between (map_extent m) (map_step m) inner block place) }
 {
     let walk = Walk::new(alloc).with(Map::Window(Window::whole(inner, 1)))?;
     let walk = walk.with(map)?;
@@ -90,11 +87,7 @@ impl<R: Threads + Sync, C: Cut + Sync, G: Gate + Sync> Workers<'_, R, C, G> {
         requires axis { k < length b.now.shape }
         requires shape { shape ≡ slice_set b.now.shape k (map_extent map) }
         requires some { 0 < count_of shape }
-        ensures { (taken : ℕ → Option ℕ) (element : List ℕ → Elem)
-            → ((i : ℕ) → i < map_extent map.entry → map_step map.entry i ≡ option_map (λ j. j * count_of (drop (k + 1) b.now.shape)) (taken i))
-            → ((i : ℕ) → i < map_extent map.entry → IfSome (taken i) (λ j. j < slice_index b.now.shape k))
-            → ((index : List ℕ) → IsIndexOf shape index → element_or_fill b.now (along_axis_or_none k taken index) ≡ element index)
-            → IsAnswerOf (answer_of shape (λ index. Ok (element index)) b.now.kind) result }
+        ensures { IsArrayAlong shape b.now.kind b.now k (count_of (drop (k + 1) b.now.shape)) (map_extent map.entry) (map_step map.entry) result }
     {
         places_match_index_lists();
         changed_axis_has_place();

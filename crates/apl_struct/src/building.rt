@@ -1,14 +1,12 @@
 //! Shapes, elements in row order, other shapes, and numbers from the origin.
-ghost use Rattle.std.specs.Prelude.{◌≡◌, ℕ, ◌≤◌, ◌<◌, ◌==◌, ◌⊎◌, ◌||◌, List, [], ◌∷◌, map, not, true, false, Ok, Some, MatchResult};
+ghost use Rattle.std.specs.Prelude.{◌≡◌, ◌≤◌, ◌<◌, ◌==◌, ◌||◌, [], ◌∷◌, map, not, Ok, Some};
 ghost use Rattle.std.specs.List.{list_all};
 ghost use Rattle.apl_array.specs.Axes.{place_number};
-ghost use Rattle.apl_array.specs.declared.array.Elem.{Elem};
-ghost use Rattle.apl_array.specs.Shape.{is_shape, count_of, index_at};
+ghost use Rattle.apl_array.specs.Shape.{count_of};
 ghost use Rattle.apl_array.specs.declared.shape.TheConstants.{MOST_ELEMENTS};
 ghost use Rattle.apl_pool.specs.declared.kernel.TheConstants.{MOST_PLACES};
-ghost use Rattle.apl_answer.specs.declared.fault.OpFault.TheVariants.{Limit, Memory};
 ghost use Rattle.apl_answer.specs.Arguments.{has_elements, is_natural, size_of};
-ghost use Rattle.apl_answer.specs.Pointwise.{answer_of, IsAnswerOf};
+ghost use Rattle.apl_answer.specs.Pointwise.{IsArrayAt, IsShapeOf};
 ghost use Rattle.apl_answer.specs.Rows.{Answers};
 ghost use Rattle.apl_walk.specs.Gathered.{filled_at};
 ghost use Rattle.apl_struct.specs.Building.{shape_of_row, ravel_row, reshape_source, reshape_row, iota_row};
@@ -99,8 +97,7 @@ impl<R: Threads + Sync, C: Cut + Sync, G: Gate + Sync> Workers<'_, R, C, G> {
     ) -> Result<Array, OpFault>
         requires kind { b.now.kind ≡ T.kind }
         requires ravel { b.now.ravel ≡ map T.elem_of elements.now }
-        ensures { (element : List ℕ → Elem) → ((place : ℕ) → place < count_of shape → filled_at b.now (Some (reshape_source (size_of b.now) place)) ≡ element (index_at shape place))
-            → IsAnswerOf (answer_of shape (λ index. Ok (element index)) b.now.kind) result }
+        ensures { IsArrayAt shape b.now.kind (λ place. filled_at b.now (Some (reshape_source (size_of b.now) place))) result }
     {
         // An array that was asked something is known to be lawful.
         let _size = b.shape().count();
@@ -110,8 +107,7 @@ impl<R: Threads + Sync, C: Cut + Sync, G: Gate + Sync> Workers<'_, R, C, G> {
 
     /// The array of this shape with the elements of an argument in row order, again and again, and fills where it has none.
     pub(crate) fn repeat(&self, shape: Shape, b: &Array) -> Result<Array, OpFault>
-        ensures { (element : List ℕ → Elem) → ((place : ℕ) → place < count_of shape → filled_at b.now (Some (reshape_source (size_of b.now) place)) ≡ element (index_at shape place))
-            → IsAnswerOf (answer_of shape (λ index. Ok (element index)) b.now.kind) result }
+        ensures { IsArrayAt shape b.now.kind (λ place. filled_at b.now (Some (reshape_source (size_of b.now) place))) result }
     {
         match b.numbers() {
             Some(numbers) => self.repeat_elements(shape, b, numbers),
@@ -141,9 +137,7 @@ fn are_natural(numbers: &[i64]) -> bool
 
 /// The shape with these lengths, each from 0 up. It is refused where it passes a limit (`Limit`).
 fn shape_with(alloc: Global, lengths: &[i64]) -> Result<Shape, OpFault>
-    ensures { MatchResult result
-        (λ shape. (is_shape (map place_number lengths.now) ≡ true) × (shape ≡ map place_number lengths.now))
-        (λ fault. (fault ≡ Memory) ⊎ ((fault ≡ Limit) × (is_shape (map place_number lengths.now) ≡ false))) }
+    ensures { IsShapeOf (map place_number lengths.now) result }
 {
     if lengths.len() > MOST_AXES {
         return Err(OpFault::Limit);

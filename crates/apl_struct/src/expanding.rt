@@ -1,13 +1,12 @@
 //! Axes with the next index at each one of some bits, and fills at the zeros.
-ghost use Rattle.std.specs.Prelude.{◌≡◌, true, false, ℕ, pos, ◌<◌, ◌≤◌, if◌then◌else◌, IfOk, MatchOption, map, sum, length, slice_index};
+ghost use Rattle.std.specs.Prelude.{◌≡◌, true, false, pos, ◌<◌, ◌≤◌, if◌then◌else◌, IfOk, MatchOption, length};
 ghost use Rattle.std.specs.List.{list_all};
 ghost use Rattle.std.specs.Ordering.{int_eq};
-ghost use Rattle.apl_array.specs.Axes.{place_number};
 ghost use Rattle.apl_pool.specs.declared.kernel.TheConstants.{MOST_PLACES};
 ghost use Rattle.apl_answer.specs.Arguments.{is_bit};
 ghost use Rattle.apl_answer.specs.Rows.{Answers};
 ghost use Rattle.apl_struct.specs.Compressing.{expand_row};
-ghost use Rattle.apl_struct.specs.Expanding.{expanded_entry};
+ghost use Rattle.apl_struct.specs.Expanding.{AreEntriesOf};
 ghost use Rattle.apl_struct.specs.declared.expanding.TheConstants.{ABSENT};
 
 use crate::arguments::numbers_among;
@@ -34,7 +33,9 @@ fn entry_at(bit: i64, ones: u32) -> u32
 /// How many ones are before each one, and `ABSENT` at each zero, and how many there are, where each number is 0 or 1.
 fn expanded_entries(alloc: Global, bits: &[i64]) -> Result<Option<(Vec<u32>, usize)>, AllocError>
     requires most { length bits.now ≤ MOST_PLACES }
-    ensures { IfOk result (λ found. MatchOption found (list_all is_bit bits.now ≡ false) (λ made. (list_all is_bit bits.now ≡ true) × (length made.0.items ≡ length bits.now) × ((i : ℕ) → i < length bits.now → slice_index made.0.items i ≡ expanded_entry (map place_number bits.now) i) × (made.1 ≡ sum (map place_number bits.now)) × (made.1 ≤ length bits.now))) }
+    ensures { IfOk result (λ found. MatchOption found
+        (list_all is_bit bits.now ≡ false)
+        (λ made. (list_all is_bit bits.now ≡ true) × AreEntriesOf bits.now made.0.items made.1)) }
 {
     let mut entries = Vec::with_capacity(alloc, bits.len())?;
     let mut ones = 0;

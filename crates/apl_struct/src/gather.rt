@@ -3,8 +3,8 @@
 ghost use Rattle.std.specs.Prelude.{◌≡◌, ℕ, ◌<◌, List, Ok, length};
 ghost use Rattle.apl_array.specs.declared.array.Elem.{Elem};
 ghost use Rattle.apl_array.specs.Array.{element_at};
-ghost use Rattle.apl_array.specs.Shape.{count_of, index_at};
-ghost use Rattle.apl_answer.specs.Pointwise.{answer_of, IsAnswerOf};
+ghost use Rattle.apl_array.specs.Shape.{count_of};
+ghost use Rattle.apl_answer.specs.Pointwise.{answer_of, IsAnswerOf, IsArrayAt};
 ghost use Rattle.apl_walk.specs.Gathered.{filled_at};
 ghost use Rattle.apl_walk.specs.Maps.{extent_of, walked};
 ghost use Rattle.apl_walk.specs.Walks.{maps_of};
@@ -20,8 +20,7 @@ impl<R: Threads + Sync, C: Cut + Sync, G: Gate + Sync> Workers<'_, R, C, G> {
     /// The array of this shape with an argument's elements at the places that a walk reaches.
     pub(crate) fn gather_walk(&self, shape: Shape, b: &Array, walk: Walk) -> Result<Array, OpFault>
         requires extent { extent_of (maps_of walk) ≡ count_of shape }
-        ensures { (element : List ℕ → Elem) → ((place : ℕ) → place < count_of shape → filled_at b.now (walked (maps_of walk.entry) place) ≡ element (index_at shape place))
-            → IsAnswerOf (answer_of shape (λ index. Ok (element index)) b.now.kind) result }
+        ensures { IsArrayAt shape b.now.kind (λ place. filled_at b.now (walked (maps_of walk.entry) place)) result }
     {
         apl_walk::gather(self.rt, self.alloc, self.pool, shape, b, walk)
     }

@@ -1,11 +1,10 @@
 //! Joined arrays.
-ghost use Rattle.std.specs.Prelude.{◌≡◌, ℕ, ◌+◌, ◌*◌, ◌<◌, ◌≤◌, ◌==◌, ◌&&◌, ◌||◌, List, map, length, not, true, Ok, slice_index, slice_set, remove, drop};
-ghost use Rattle.apl_array.specs.declared.array.Elem.{Elem};
+ghost use Rattle.std.specs.Prelude.{◌≡◌, ◌+◌, ◌*◌, ◌<◌, ◌≤◌, ◌==◌, ◌&&◌, ◌||◌, map, length, not, true, Ok, slice_index, slice_set, remove, drop};
 ghost use Rattle.apl_array.specs.declared.array.Elem.TheVariants.{Int, Chr};
-ghost use Rattle.apl_array.specs.Shape.{count_of, index_at};
+ghost use Rattle.apl_array.specs.Shape.{count_of};
 ghost use Rattle.apl_pool.specs.declared.kernel.TheConstants.{MOST_PLACES};
 ghost use Rattle.apl_answer.specs.Arguments.{has_elements, is_numbers, is_number_kind, is_same_kind, is_same_shape};
-ghost use Rattle.apl_answer.specs.Pointwise.{answer_of, IsAnswerOf};
+ghost use Rattle.apl_answer.specs.Pointwise.{answer_of, IsAnswerOf, IsArrayAt};
 ghost use Rattle.apl_answer.specs.Rows.{Answers};
 ghost use Rattle.apl_struct.specs.Joined.{joined_at};
 ghost use Rattle.apl_struct.specs.Joining.{joined_rank, can_join, slices_shape, joined_kind, catenated_element, catenate_row};
@@ -121,8 +120,7 @@ impl<R: Threads + Sync, C: Cut + Sync, G: Gate + Sync> Workers<'_, R, C, G> {
         requires kind { joined_kind a.now b.now ≡ T.kind }
         requires left { a.now.ravel ≡ map T.elem_of left.now }
         requires right { b.now.ravel ≡ map T.elem_of right.now }
-        ensures { (element : List ℕ → Elem) → ((place : ℕ) → place < count_of shape → joined_at a.now b.now seam.left seam.right place ≡ element (index_at shape place))
-            → IsAnswerOf (answer_of shape (λ index. Ok (element index)) (joined_kind a.now b.now)) result }
+        ensures { IsArrayAt shape (joined_kind a.now b.now) (joined_at a.now b.now seam.left seam.right) result }
     {
         let fill = T::fill();
         let kernel = ByLines::new(Joined {

@@ -1,12 +1,11 @@
 //! Permuted axes, and diagonals.
-ghost use Rattle.std.specs.Prelude.{◌≡◌, ℕ, ◌+◌, ◌*◌, ◌^◌, ◌<◌, ◌≤◌, List, [], All, Ok, Some, IfOk, MatchOption, true, length, sum, reverse};
+ghost use Rattle.std.specs.Prelude.{◌≡◌, ℕ, ◌+◌, ◌*◌, ◌^◌, ◌<◌, ◌≤◌, [], All, Ok, Some, IfOk, MatchOption, true, length, sum, reverse};
 ghost use Rattle.std.specs.List.{range_with_len};
-ghost use Rattle.apl_array.specs.declared.array.Elem.{Elem};
 ghost use Rattle.apl_array.specs.Array.{element_at};
-ghost use Rattle.apl_array.specs.Shape.{IsShape, IsIndexOf, count_of, index_at};
+ghost use Rattle.apl_array.specs.Shape.{IsShape, count_of, index_at};
 ghost use Rattle.apl_array.specs.Transposition.{AreAxesInto, strides, items_onto, least, inner_product, source_index, transposed_shape, source_strides};
 ghost use Rattle.apl_pool.specs.declared.kernel.TheConstants.{MOST_PLACES};
-ghost use Rattle.apl_answer.specs.Pointwise.{answer_of, IsAnswerOf};
+ghost use Rattle.apl_answer.specs.Pointwise.{IsArrayBy};
 ghost use Rattle.apl_answer.specs.Rows.{Answers};
 ghost use Rattle.apl_walk.specs.declared.map.TheConstants.{MOST_STEP};
 ghost use Rattle.apl_struct.specs.Rearranging.{are_all_named, named_axes, transpose_row, transpose_by_row};
@@ -70,8 +69,7 @@ impl<R: Threads + Sync, C: Cut + Sync, G: Gate + Sync> Workers<'_, R, C, G> {
     /// The array of this shape to whose axes those of an argument become.
     fn transposed(&self, shape: Shape, b: &Array, axes: &[usize]) -> Result<Array, OpFault>
         requires into { AreAxesInto b.now.shape axes.now shape }
-        ensures { (element : List ℕ → Elem) → ((index : List ℕ) → IsIndexOf shape index → element_at b.now (source_index axes.now index) ≡ element index)
-            → IsAnswerOf (answer_of shape (λ index. Ok (element index)) b.now.kind) result }
+        ensures { IsArrayBy shape b.now.kind (λ index. element_at b.now (source_index axes.now index)) result }
     {
         places_match_index_lists();
         transposed_index_has_place();

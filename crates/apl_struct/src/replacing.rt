@@ -1,19 +1,18 @@
 //! Elements in the place of chosen ones.
-ghost use Rattle.std.specs.Prelude.{◌≡◌, ℕ, ◌+◌, ◌<◌, ◌≤◌, List, ◌∷◌, Ok, Some, IfOk, IfErr, length, map, option_copied, slice_index_or, vec_len};
-ghost use Rattle.apl_array.specs.declared.array.Elem.{Elem};
-ghost use Rattle.apl_array.specs.Shape.{count_of, index_at};
+ghost use Rattle.std.specs.Prelude.{◌≡◌, ℕ, ◌+◌, ◌<◌, ◌≤◌, ◌∷◌, Ok, Some, IfOk, IfErr, length, map, option_copied, slice_index_or, vec_len};
+ghost use Rattle.apl_array.specs.Shape.{count_of};
 ghost use Rattle.apl_array.specs.Array.{IsArray, element_at};
 ghost use Rattle.apl_pool.specs.declared.kernel.TheConstants.{MOST_PLACES};
 ghost use Rattle.apl_pool.specs.declared.kernel.Stop.TheVariants.{Memory};
 ghost use Rattle.apl_answer.specs.Arguments.{fill_of};
-ghost use Rattle.apl_answer.specs.Pointwise.{answer_of, IsAnswerOf};
+ghost use Rattle.apl_answer.specs.Pointwise.{answer_of, IsAnswerOf, IsArrayAt};
 ghost use Rattle.apl_answer.specs.Rows.{Answers};
 ghost use Rattle.apl_struct.specs.Indexing.{last_choice, replaced_element, replace_row};
 ghost use Rattle.apl_walk.specs.declared.maps.TheConstants.{MOST_MAPS};
 ghost use Rattle.apl_walk.specs.Maps.{map_extent, map_step, extent_of, walked};
 ghost use Rattle.apl_walk.specs.Steps.{and_step};
 ghost use Rattle.apl_struct.specs.Selecting.{IsCheckedResult, IsSelection};
-ghost use Rattle.apl_struct.specs.Numbering.{place_or_zero, IsReached, last_number, value_numbered, element_numbered, replacement_checks, value_step, IsReplacement};
+ghost use Rattle.apl_struct.specs.Numbering.{place_or_zero, chosen_at, number_at, HaveValues, AreWrittenOver, IsReached, value_numbered, element_numbered, replacement_checks, value_step, IsReplacement};
 
 use crate::arguments::is_same_shape;
 use crate::indexing::selection;
@@ -41,9 +40,7 @@ fn write_line<T: Copy>(
     requires step { step ≤ 1 }
     requires most { from + map_extent last ≤ MOST_PLACES }
     requires within { (i : ℕ) → i < map_extent last → IsReached (length room.old) (and_step (map_step last i) (Some base)) }
-    ensures values { (choice : ℕ → ℕ) (elements : List T) → ((i : ℕ) → i < map_extent last.entry → place_or_zero (and_step (map_step last.entry i) (Some base)) ≡ choice (from + i))
-        → ((p : ℕ) → p < length room.old → slice_index_or room.old p fill ≡ value_numbered elements values.now fill (last_number choice step p from) p)
-        → (p : ℕ) → p < length room.old → slice_index_or room.new p fill ≡ value_numbered elements values.now fill (last_number choice step p (from + map_extent last.entry)) p }
+    ensures values { AreWrittenOver (λ i. place_or_zero (and_step (map_step last.entry i) (Some base))) (map_extent last.entry) from step values.now fill room.old room.new }
     ensures len { length room.new ≡ length room.old }
 {
     for i in 0..last.extent() {
@@ -69,8 +66,7 @@ fn write_lines<T: Copy>(
     requires most { extent_of (last.now ∷ outer.now) ≤ MOST_PLACES }
     requires step { step ≤ 1 }
     requires within { (place : ℕ) → place < extent_of (last.now ∷ outer.now) → IsReached (length room.old) (walked (last.now ∷ outer.now) place) }
-    ensures values { (p : ℕ) → p < length room.old → slice_index_or room.new p fill
-        ≡ value_numbered room.old values.now fill (last_number (λ place. place_or_zero (walked (last.now ∷ outer.now) place)) step p (extent_of (last.now ∷ outer.now))) p }
+    ensures values { HaveValues (λ place. chosen_at (last.now ∷ outer.now) place) step (extent_of (last.now ∷ outer.now)) room.old values.now fill (length room.old) room.new }
     ensures len { length room.new ≡ length room.old }
 {
     let extent = last.extent();
@@ -115,10 +111,7 @@ impl<R: Threads + Sync, C: Cut + Sync, G: Gate + Sync> Workers<'_, R, C, G> {
         requires most { count ≤ MOST_PLACES }
         requires step { step ≤ 1 }
         requires within { (place : ℕ) → place < count → IsReached (count_of shape) (walked (last.now ∷ outer.now) place) }
-        ensures { (element : List ℕ → Elem) → ((place : ℕ) → place < count_of shape
-            → value_numbered (map T.elem_of elements.now) (map T.elem_of values.now) (fill_of T.kind)
-            (last_number (λ p. place_or_zero (walked (last.now ∷ outer.now) p)) step place count) place ≡ element (index_at shape place))
-            → IsAnswerOf (answer_of shape (λ index. Ok (element index)) T.kind) result }
+        ensures { IsArrayAt shape T.kind (λ place. value_numbered (map T.elem_of elements.now) (map T.elem_of values.now) (fill_of T.kind) (number_at (last.now ∷ outer.now) step count place) place) result }
     {
         let mut all = self.copied(elements)?;
         write_lines(
@@ -152,9 +145,7 @@ impl<R: Threads + Sync, C: Cut + Sync, G: Gate + Sync> Workers<'_, R, C, G> {
         requires step { step ≤ 1 }
         requires within { (place : ℕ) → place < count → IsReached (count_of shape) (walked (last.now ∷ outer.now) place) }
         requires kinds { a.now.kind ≡ b.now.kind }
-        ensures { (element : List ℕ → Elem) → ((place : ℕ) → place < count_of shape
-            → element_numbered a.now b.now (last_number (λ p. place_or_zero (walked (last.now ∷ outer.now) p)) step place count) place ≡ element (index_at shape place))
-            → IsAnswerOf (answer_of shape (λ index. Ok (element index)) a.now.kind) result }
+        ensures { IsArrayAt shape a.now.kind (λ place. element_numbered a.now b.now (number_at (last.now ∷ outer.now) step count place) place) result }
     {
         // An array that was asked something is known to be lawful.
         let _kind = a.kind();

@@ -1,15 +1,14 @@
 //! Rotated lines.
-ghost use Rattle.std.specs.Prelude.{◌≡◌, ◌||◌, ◌==◌, ◌⊎◌, true, ℕ, pos, ◌+◌, ◌%◌, ◌<◌, ◌≤◌, List, Ok, Some, IfOk, map, length, slice_index, slice_index_or, remove};
-ghost use Rattle.apl_array.specs.declared.array.Elem.{Elem};
+ghost use Rattle.std.specs.Prelude.{◌≡◌, ◌||◌, ◌==◌, ◌⊎◌, true, ℕ, ◌+◌, ◌%◌, ◌<◌, ◌≤◌, Some, IfOk, map, length, slice_index, remove};
 ghost use Rattle.apl_array.specs.Array.{element_at};
-ghost use Rattle.apl_array.specs.Shape.{IsIndexOf, count_of, index_at, place_of};
+ghost use Rattle.apl_array.specs.Shape.{IsIndexOf};
 ghost use Rattle.apl_pool.specs.declared.kernel.TheConstants.{MOST_PLACES};
 ghost use Rattle.apl_answer.specs.Arguments.{is_same_shape, has_one_element, rank_of};
-ghost use Rattle.apl_answer.specs.Pointwise.{answer_of, IsAnswerOf};
+ghost use Rattle.apl_answer.specs.Pointwise.{IsArrayAt};
 ghost use Rattle.apl_answer.specs.Rows.{Answers};
 ghost use Rattle.apl_struct.specs.Gathering.{along_axis};
 ghost use Rattle.apl_struct.specs.Rearranging.{rotated_index, rotate_row};
-ghost use Rattle.apl_struct.specs.Rotation.{rotation_of, turned_place};
+ghost use Rattle.apl_struct.specs.Rotation.{rotation_of, turned_place, rotated_source, IsArrayEverywhere};
 ghost use Rattle.apl_walk.specs.Gathered.{filled_at};
 ghost use Rattle.apl_walk.specs.Steps.{wrapped};
 
@@ -59,8 +58,7 @@ impl<R: Threads + Sync, C: Cut + Sync, G: Gate + Sync> Workers<'_, R, C, G> {
     /// All lines along axis `k` rotated by one number.
     fn rotate_all(&self, b: &Array, k: usize, rotation: i64) -> Result<Array, OpFault>
         requires { k < length b.now.shape }
-        ensures { (element : List ℕ → Elem) → ((index : List ℕ) → element_at b.now (along_axis k (rotated_index rotation (slice_index b.now.shape k)) index) ≡ element index)
-            → IsAnswerOf (answer_of b.now.shape (λ index. Ok (element index)) b.now.kind) result }
+        ensures { IsArrayEverywhere b.now.shape b.now.kind (λ index. element_at b.now (along_axis k (rotated_index rotation (slice_index b.now.shape k)) index)) result }
     {
         let shape = b.shape().copy(self.alloc)?;
         if shape.count() == 0 {
@@ -89,9 +87,7 @@ impl<R: Threads + Sync, C: Cut + Sync, G: Gate + Sync> Workers<'_, R, C, G> {
         requires most { inner ≤ MOST_PLACES }
         requires kind { b.now.kind ≡ T.kind }
         requires ravel { b.now.ravel ≡ map T.elem_of elements.now }
-        ensures { (element : List ℕ → Elem)
-            → ((place : ℕ) → place < count_of shape → filled_at b.now (Some (turned_place rotations.entry.length inner rotations.entry.by.now place)) ≡ element (index_at shape place))
-            → IsAnswerOf (answer_of shape (λ index. Ok (element index)) b.now.kind) result }
+        ensures { IsArrayAt shape b.now.kind (λ place. filled_at b.now (Some (turned_place rotations.entry.length inner rotations.entry.by.now place))) result }
     {
         let count = shape.count();
         let past = T::fill();
@@ -125,9 +121,7 @@ impl<R: Threads + Sync, C: Cut + Sync, G: Gate + Sync> Workers<'_, R, C, G> {
     ) -> Result<Array, OpFault>
         requires some { 0 < inner }
         requires most { inner ≤ MOST_PLACES }
-        ensures { (element : List ℕ → Elem)
-            → ((place : ℕ) → place < count_of shape → filled_at b.now (Some (turned_place rotations.entry.length inner rotations.entry.by.now place)) ≡ element (index_at shape place))
-            → IsAnswerOf (answer_of shape (λ index. Ok (element index)) b.now.kind) result }
+        ensures { IsArrayAt shape b.now.kind (λ place. filled_at b.now (Some (turned_place rotations.entry.length inner rotations.entry.by.now place))) result }
     {
         match b.numbers() {
             Some(numbers) => self.rotate_elements(shape, b, numbers, rotations, inner),
@@ -143,9 +137,7 @@ impl<R: Threads + Sync, C: Cut + Sync, G: Gate + Sync> Workers<'_, R, C, G> {
     /// Each line along axis `k` rotated by a number of its own.
     fn rotate_each(&self, b: &Array, k: usize, rotations: &[i64]) -> Result<Array, OpFault>
         requires { k < length b.now.shape }
-        ensures { (element : List ℕ → Elem)
-            → ((index : List ℕ) → element_at b.now (along_axis k (rotated_index (slice_index_or rotations.now (place_of (remove b.now.shape k) (remove index k)) (pos 0)) (slice_index b.now.shape k)) index) ≡ element index)
-            → IsAnswerOf (answer_of b.now.shape (λ index. Ok (element index)) b.now.kind) result }
+        ensures { IsArrayEverywhere b.now.shape b.now.kind (λ index. element_at b.now (rotated_source rotations.now b.now.shape k index)) result }
     {
         places_match_index_lists();
         inserted_index_has_place();

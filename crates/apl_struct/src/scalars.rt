@@ -1,11 +1,11 @@
 //! Results that differ from an argument along one axis, where a scalar serves as a vector.
-ghost use Rattle.std.specs.Prelude.{◌≡◌, ◌⊎◌, true, false, ℕ, ◌*◌, ◌<◌, ◌≤◌, List, Ok, IfOk, IfSome, MatchResult, Option, max, option_map, length, slice_index, slice_set};
-ghost use Rattle.apl_array.specs.declared.array.Elem.{Elem};
-ghost use Rattle.apl_array.specs.Shape.{IsIndexOf, count_of, is_shape};
+ghost use Rattle.std.specs.Prelude.{◌≡◌, ℕ, ◌*◌, ◌<◌, ◌≤◌, Ok, IfOk, max, length, slice_index, slice_set};
+ghost use Rattle.apl_array.specs.Shape.{count_of};
 ghost use Rattle.apl_pool.specs.declared.kernel.TheConstants.{MOST_PLACES};
 ghost use Rattle.apl_answer.specs.Arguments.{rank_of};
-ghost use Rattle.apl_answer.specs.Pointwise.{answer_of, IsAnswerOf};
+ghost use Rattle.apl_answer.specs.Pointwise.{IsArrayBy, IsShapeOf};
 ghost use Rattle.apl_struct.specs.Compressing.{as_vector};
+ghost use Rattle.apl_struct.specs.Along.{IsArrayAlong};
 ghost use Rattle.apl_struct.specs.Gathering.{element_or_fill, along_axis_or_none};
 ghost use Rattle.apl_struct.specs.Scalars.{entry_index, vector_stride};
 ghost use Rattle.apl_walk.specs.Maps.{map_extent, map_step};
@@ -62,9 +62,7 @@ pub(crate) fn shape_with_axis(
     length: usize,
 ) -> Result<Shape, OpFault>
     requires { k < max 1 (rank_of b.now) }
-    ensures { (n : ℕ) → MatchResult result
-        (λ shape. (is_shape (slice_set (as_vector n b.now).shape k length) ≡ true) × (shape ≡ slice_set (as_vector n b.now).shape k length))
-        (λ fault. (fault ≡ OpFault.Memory) ⊎ ((fault ≡ OpFault.Limit) × (is_shape (slice_set (as_vector n b.now).shape k length) ≡ false))) }
+    ensures { (n : ℕ) → IsShapeOf (slice_set (as_vector n b.now).shape k length) result }
 {
     let lengths = lengths_with(alloc, b, k, length)?;
     Ok(Shape::new(alloc, lengths.as_slice())?)
@@ -99,11 +97,7 @@ impl<R: Threads + Sync, C: Cut + Sync, G: Gate + Sync> Workers<'_, R, C, G> {
         requires axis { k < max 1 (rank_of b.now) }
         requires shape { (n : ℕ) → shape ≡ slice_set (as_vector n b.now).shape k (map_extent map) }
         requires some { 0 < count_of shape }
-        ensures { (n : ℕ) (taken : ℕ → Option ℕ) (element : List ℕ → Elem)
-            → ((i : ℕ) → i < map_extent map.entry → map_step map.entry i ≡ option_map (λ j. j * vector_stride b.now k) (taken i))
-            → ((i : ℕ) → i < map_extent map.entry → IfSome (taken i) (λ j. j < slice_index (as_vector n b.now).shape k))
-            → ((index : List ℕ) → IsIndexOf shape index → element_or_fill (as_vector n b.now) (along_axis_or_none k taken index) ≡ element index)
-            → IsAnswerOf (answer_of shape (λ index. Ok (element index)) b.now.kind) result }
+        ensures { (n : ℕ) → IsArrayAlong shape b.now.kind (as_vector n b.now) k (vector_stride b.now k) (map_extent map.entry) (map_step map.entry) result }
     {
         if b.shape().rank() > 0 {
             return self.gather_mapped(shape, b, k, map);
@@ -129,10 +123,7 @@ impl<R: Threads + Sync, C: Cut + Sync, G: Gate + Sync> Workers<'_, R, C, G> {
         requires length { axis_length ≡ slice_index (as_vector axis_length b.now).shape k }
         requires shape { (n : ℕ) → shape ≡ slice_set (as_vector n b.now).shape k (length entries.now) }
         requires most { length entries.now ≤ MOST_PLACES }
-        ensures { (element : List ℕ → Elem)
-            → ((index : List ℕ) → IsIndexOf shape index
-            → element_or_fill (as_vector axis_length b.now) (along_axis_or_none k (λ i. entry_index axis_length (slice_index entries.now i)) index) ≡ element index)
-            → IsAnswerOf (answer_of shape (λ index. Ok (element index)) b.now.kind) result }
+        ensures { IsArrayBy shape b.now.kind (λ index. element_or_fill (as_vector axis_length b.now) (along_axis_or_none k (λ i. entry_index axis_length (slice_index entries.now i)) index)) result }
     {
         if shape.count() == 0 {
             return self.empty(shape, b);

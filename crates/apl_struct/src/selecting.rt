@@ -1,5 +1,5 @@
 //! The walk over an array of which the slots of an index choose.
-ghost use Rattle.std.specs.Prelude.{◌≡◌, ℕ, ◌+◌, ◌*◌, ◌/◌, ◌%◌, ◌<◌, ◌≤◌, true, All, Some, IfOk, length, vec_len};
+ghost use Rattle.std.specs.Prelude.{◌≡◌, ℕ, ◌+◌, ◌*◌, ◌/◌, ◌<◌, ◌≤◌, true, All, Some, IfOk, length, vec_len};
 ghost use Rattle.apl_array.specs.declared.shape.TheConstants.{MOST_AXES};
 ghost use Rattle.apl_array.specs.Shape.{count_of};
 ghost use Rattle.apl_pool.specs.declared.kernel.TheConstants.{MOST_PLACES};
@@ -9,7 +9,7 @@ ghost use Rattle.apl_walk.specs.Steps.{and_step};
 ghost use Rattle.apl_walk.specs.Maps.{extent_of, map_extent, map_step, walked};
 ghost use Rattle.apl_walk.specs.Walks.{maps_of};
 ghost use Rattle.apl_struct.specs.Indexing.{is_slot_within, are_slots_within, selected_shape};
-ghost use Rattle.apl_struct.specs.Selecting.{slot_count, slot_index, chosen_place, IsSelection};
+ghost use Rattle.apl_struct.specs.Selecting.{reached_from, reached_with, slot_count, slot_index, chosen_place, IsSelection};
 
 use crate::slots::NumberArray;
 use apl_array::{Array, Origin, places_match_index_lists};
@@ -60,8 +60,7 @@ impl<'a> Selected<'a> {
         requires start { self.start ≤ MOST_AXES * MOST_STEP }
         requires count { axis_length * self.count ≤ MOST_PLACES }
         ensures extent { IfOk result (λ s. extent_of (maps_of s.walk) ≡ map_extent map.entry * extent_of (maps_of self.entry.walk)) }
-        ensures place { IfOk result (λ s. (place : ℕ) → and_step (Some s.start) (walked (maps_of s.walk) place)
-            ≡ and_step (and_step (Some self.entry.start) (walked (maps_of self.entry.walk) place)) (map_step map.entry (place / extent_of (maps_of self.entry.walk) % map_extent map.entry))) }
+        ensures place { IfOk result (λ s. (place : ℕ) → reached_from s.start (maps_of s.walk) place ≡ reached_with self.entry.start (maps_of self.entry.walk) map.entry place) }
         ensures few { IfOk result (λ s. vec_len s.walk.inner ≤ vec_len self.entry.walk.inner + 1) }
         ensures start { IfOk result (λ s. s.start ≤ self.entry.start + MOST_STEP) }
         ensures count { IfOk result (λ s. s.count ≡ axis_length * self.entry.count) }

@@ -1,9 +1,10 @@
 //! What two arguments that are joined are taken for: slices along an axis.
-ghost use Rattle.std.specs.Prelude.{◌≡◌, ◌+◌, ◌<◌, ◌≤◌, ◌⊎◌, true, false, MatchResult, IfOk, slice_index, slice_set, insert, remove};
+ghost use Rattle.std.specs.Prelude.{◌≡◌, ◌+◌, ◌<◌, ◌≤◌, IfOk, slice_index, insert, remove};
 ghost use Rattle.apl_array.specs.declared.shape.TheConstants.{MOST_ELEMENTS};
 ghost use Rattle.smallvec.specs.SmallVec.{small_vec_len};
-ghost use Rattle.apl_answer.specs.declared.fault.OpFault.TheVariants.{Length, Memory};
+ghost use Rattle.apl_answer.specs.declared.fault.OpFault.TheVariants.{Length};
 ghost use Rattle.apl_answer.specs.Arguments.{is_same_shape};
+ghost use Rattle.apl_struct.specs.Joined.{IsJoint};
 ghost use Rattle.apl_struct.specs.Joining.{joined_rank, slices_shape};
 
 use crate::arguments::is_same_shape;
@@ -70,11 +71,7 @@ pub(crate) fn joint_of(
 ) -> Result<Joint, OpFault>
     requires rank { rank ≡ joined_rank a.now b.now }
     requires axis { k < rank }
-    ensures { let left = slices_shape rank k a.now b.now in let right = slices_shape rank k b.now a.now in
-        MatchResult result
-        (λ joint. (is_same_shape (remove left k) (remove right k) ≡ true) × (joint.lengths.items ≡ slice_set left k (slice_index left k + slice_index right k))
-        × (joint.left ≡ slice_index left k) × (joint.right ≡ slice_index right k))
-        (λ fault. (fault ≡ Memory) ⊎ ((fault ≡ Length) × (is_same_shape (remove left k) (remove right k) ≡ false))) }
+    ensures { IsJoint (slices_shape rank k a.now b.now) (slices_shape rank k b.now a.now) k result }
 {
     let mut lengths = slices_lengths(alloc, a, b, rank, k)?;
     let mut others = slices_lengths(alloc, b, a, rank, k)?;

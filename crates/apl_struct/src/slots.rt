@@ -45,8 +45,8 @@ pub(crate) fn push_slots<'a>(
     judged: &mut Vec<Option<NumberArray<'a>>>,
 ) -> Result<(), OpFault>
     requires { vec_len judged.old + length slots.now ≤ vec_capacity judged.old }
-    ensures { IsCheckedResult ((list_all is_slot_of_numbers (map option_copied slots.now), Domain) ∷ [])
-        (λ u. (judged.new.items ≡ judged.old.items ++ map option_copied slots.now) × AreArrays (map option_copied slots.now)) result }
+    ensures { let all = map option_copied slots.now in
+        IsCheckedResult ((list_all is_slot_of_numbers all, Domain) ∷ []) (λ u. (judged.new.items ≡ judged.old.items ++ all) × AreArrays all) result }
 {
     let [slot, slots @ ..] = slots else {
         return Ok(());

@@ -1,17 +1,16 @@
 //! Elements taken from the ends of the axes, or left away there.
-ghost use Rattle.std.specs.Prelude.{◌≡◌, ℕ, ◌+◌, ◌*◌, ◌<◌, ◌≤◌, length, map, nat_abs, List, All, Ok, Err, Result, IfOk, IfErr, option_map, if◌then◌else◌};
+ghost use Rattle.std.specs.Prelude.{◌≡◌, ℕ, ◌+◌, ◌*◌, ◌<◌, ◌≤◌, length, map, nat_abs, List, All, Ok, Err, Result, IfOk, IfErr, option_map};
 ghost use Rattle.apl_array.specs.Array.{ArrayValue};
-ghost use Rattle.apl_array.specs.declared.array.Elem.{Elem};
-ghost use Rattle.apl_array.specs.Shape.{IsShape, is_shape, IsIndexOf, count_of, place_of, index_at};
+ghost use Rattle.apl_array.specs.Shape.{IsShape, count_of, place_of, index_at};
 ghost use Rattle.apl_pool.specs.declared.kernel.TheConstants.{MOST_PLACES};
 ghost use Rattle.apl_answer.specs.Arguments.{rank_of, size_of, numbers_of};
-ghost use Rattle.apl_answer.specs.Pointwise.{answer_of, IsAnswerOf};
+ghost use Rattle.apl_answer.specs.Pointwise.{IsArrayBy};
 ghost use Rattle.apl_answer.specs.Rows.{Answers, first_failure_or};
 ghost use Rattle.apl_struct.specs.Gathering.{element_or_fill};
 ghost use Rattle.apl_struct.specs.Taking.{with_axes, taking_checks, taken_index, take_source, take_row, drop_row};
 ghost use Rattle.apl_walk.specs.Maps.{step_of, extent_of, walked};
 ghost use Rattle.apl_walk.specs.Walks.{maps_of};
-ghost use Rattle.apl_struct.specs.Shaped.{with_shape, left_number, left_numbers};
+ghost use Rattle.apl_struct.specs.Shaped.{with_shape, left_number, left_numbers, HavePassedButLimit, IsArrayOrLimit};
 
 use crate::arguments::numbers_among;
 use crate::shapes::lawful_shape;
@@ -109,8 +108,7 @@ fn magnitudes(alloc: Global, numbers: &[i64]) -> Result<Vec<usize>, AllocError>
 fn taking_numbers<'a>(a: &'a Array, b: &Array) -> Result<&'a [i64], OpFault>
     ensures refused { IfErr result (λ fault. (shape : List ℕ) (answer : Result ArrayValue OpFault)
         → first_failure_or (taking_checks a.now (with_axes (size_of a.now) b.now) shape) answer ≡ Err fault) }
-    ensures judged { IfOk result (λ numbers. (shape : List ℕ) (answer : Result ArrayValue OpFault)
-        → first_failure_or (taking_checks a.now (with_axes (size_of a.now) b.now) shape) answer ≡ (if is_shape shape then answer else Err OpFault.Limit)) }
+    ensures judged { IfOk result (λ numbers. HavePassedButLimit (taking_checks a.now (with_axes (size_of a.now) b.now))) }
     ensures numbers { IfOk result (λ numbers. numbers_of a.now ≡ numbers.now) }
     ensures len { IfOk result (λ numbers. length numbers.now ≡ size_of a.now) }
     ensures axes { IfOk result (λ numbers. length numbers.now ≡ rank_of (with_axes (size_of a.now) b.now)) }
@@ -155,8 +153,7 @@ impl<R: Threads + Sync, C: Cut + Sync, G: Gate + Sync> Workers<'_, R, C, G> {
         requires count { count_of argument.now ≡ count_of b.now.shape }
         requires len { length numbers.now ≡ length argument.now }
         requires shape { shape ≡ map nat_abs numbers.now }
-        ensures { (element : List ℕ → Elem) → ((index : List ℕ) → IsIndexOf shape index → element_or_fill (with_shape argument.now b.now) (take_source numbers.now argument.now index) ≡ element index)
-            → IsAnswerOf (answer_of shape (λ index. Ok (element index)) b.now.kind) result }
+        ensures { IsArrayBy shape b.now.kind (λ index. element_or_fill (with_shape argument.now b.now) (take_source numbers.now argument.now index)) result }
     {
         places_match_index_lists();
         // An array that was asked something is known to be lawful.
@@ -174,9 +171,7 @@ impl<R: Threads + Sync, C: Cut + Sync, G: Gate + Sync> Workers<'_, R, C, G> {
     fn taken(&self, numbers: &[i64], b: &Array, argument: &Shape) -> Result<Array, OpFault>
         requires count { count_of argument.now ≡ count_of b.now.shape }
         requires len { length numbers.now ≡ length argument.now }
-        ensures { (element : List ℕ → Elem)
-            → ((index : List ℕ) → IsIndexOf (map nat_abs numbers.now) index → element_or_fill (with_shape argument.now b.now) (take_source numbers.now argument.now index) ≡ element index)
-            → IsAnswerOf (if is_shape (map nat_abs numbers.now) then answer_of (map nat_abs numbers.now) (λ index. Ok (element index)) b.now.kind else Err OpFault.Limit) result }
+        ensures { IsArrayOrLimit (map nat_abs numbers.now) b.now.kind (λ index. element_or_fill (with_shape argument.now b.now) (take_source numbers.now argument.now index)) result }
     {
         let lengths = magnitudes(self.alloc, numbers)?;
         let shape = Shape::new(self.alloc, lengths.as_slice())?;

@@ -38,7 +38,7 @@ returns-in_default-numbers g c =
     let first = origin_cast c.args.origin c.number.result c.number.ensures.value in
     let past : unsigned_abs (to_z w64 (of_z w64 c.number.result)) + c.count.result ≡ origin_number c.args.origin + count_of a.shape = rw (first, c.count.ensures.count) (search rules) in
     rw vector
-    (c.constant_array.ensures (found_outcome a.ravel b c.args.origin) (λ place inside.
+    (c.same_everywhere.ensures (found_outcome a.ravel b c.args.origin) (λ place inside.
     let same = c.places_match_index_lists.ensures.same_place b.shape place inside in
     rw past (past_the_end a b c.numbers.ensures.lawful c.numbers-in-Some.ensures.lawful differ place inside same c.args.origin)))
 
@@ -52,6 +52,6 @@ returns-in_default-characters-2 g c =
     let first = origin_cast c.args.origin c.number.result c.number.ensures.value in
     let past : unsigned_abs (to_z w64 (of_z w64 c.number.result)) + c.count.result ≡ origin_number c.args.origin + count_of a.shape = rw (first, c.count.ensures.count) (search rules) in
     rw vector
-    (c.constant_array-in_default-characters-2.ensures (found_outcome a.ravel b c.args.origin) (λ place inside.
+    (c.same_everywhere-in_default-characters-2.ensures (found_outcome a.ravel b c.args.origin) (λ place inside.
     let same = c.places_match_index_lists.ensures.same_place b.shape place inside in
     rw past (past_the_end a b c.numbers.ensures.lawful c.characters-2.ensures.lawful differ place inside same c.args.origin)))

@@ -27,7 +27,7 @@ returns-in_default-numbers g c =
     let b = c.args.b.now in
     let numbers : b.kind ≡ Number = ap (λ v. v.kind) c.in-Some.ensures.numbers in
     let differ : b.kind ≡ a.kind → ⊥ = λ e. true≢false (sym (c.in_default-numbers.ensures.kind.1 (sym e ∙ numbers))) in
-    c.constant_array.ensures (member_outcome a b.ravel) (λ place inside.
+    c.same_everywhere.ensures (member_outcome a b.ravel) (λ place inside.
     no_member b a c.numbers.ensures.lawful c.numbers-in-Some.ensures.lawful differ place inside (c.places_match_index_lists.ensures.same_place a.shape place inside))
 
 pub returns-in_default-characters-2 : goal.returns-in_default-characters-2
@@ -36,5 +36,5 @@ returns-in_default-characters-2 g c =
     let b = c.args.b.now in
     let characters : b.kind ≡ Character = ap (λ v. v.kind) c.in-Some-characters.ensures.characters in
     let differ : b.kind ≡ a.kind → ⊥ = λ e. true≢false (sym (c.in_default-characters-2.ensures.kind.1 (sym e ∙ characters))) in
-    c.constant_array-in_default-characters-2.ensures (member_outcome a b.ravel) (λ place inside.
+    c.same_everywhere-in_default-characters-2.ensures (member_outcome a b.ravel) (λ place inside.
     no_member b a c.numbers.ensures.lawful c.characters-2.ensures.lawful differ place inside (c.places_match_index_lists.ensures.same_place a.shape place inside))

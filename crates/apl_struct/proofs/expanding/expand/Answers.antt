@@ -32,7 +32,7 @@ returns g c =
     let numbers : numbers_of a ≡ bits = c.in_ok-bits.ensures.numbers.1 in
     let judged : (is_numbers a && list_all is_bit (numbers_of a)) ≡ true = rw (c.in_ok-bits.ensures.numbers.0, numbers) made.0 in
     let bits_are : length bits ≡ count_of a.shape = sym (ap length numbers) ∙ length-map a.ravel number_of ∙ c.shape.ensures.lawful.len in
-    let ones_is : ones ≡ sum counts = made.3 in
+    let ones_is : ones ≡ sum counts = made.1.2 in
     let long : ones ≡ c.vector_length.result = search rules in
     let length_is : c.vector_length.result ≡ slice_index vector.shape k =
     c.vector_length.ensures.length ∙ ap (λ m. slice_index (as_vector m b).shape j) ones_is ∙ ap (slice_index vector.shape) k_is in
@@ -56,7 +56,7 @@ returns g c =
     let here : i < length bits = omega (arith, inside.below j wide, extent_is) in
     ap (λ n. element_or_fill (as_vector n b) (option_map (slice_set index j) (entry_index n (slice_index c.as_slice.result.now i)))) ones_is
     ∙ ap (λ l. element_or_fill vector (option_map (slice_set index j) (entry_index (sum counts) (slice_index l i)))) c.as_slice.ensures.value
-    ∙ ap (λ e. element_or_fill vector (option_map (slice_set index j) (entry_index (sum counts) e))) (made.2 i here)
+    ∙ ap (λ e. element_or_fill vector (option_map (slice_set index j) (entry_index (sum counts) e))) (made.1.1 i here)
     ∙ ap (λ o. element_or_fill vector (option_map (slice_set index j) o))
     (entry_is counts i (omega (arith, here, length-map bits place_number)) (omega (arith, ones_is, long, c.vector_length.ensures.most)))) in
     let by_shape = subst (λ s. P s j) shape_is given in
