@@ -42,3 +42,14 @@ extent_of (m ∷ ms) = map_extent m * extent_of ms
 abbrev pub walked : List Map → ℕ → Option ℕ
 walked [] place = Some 0
 walked (m ∷ ms) place = and_step (map_step m (place % map_extent m)) (walked ms (place / map_extent m))
+
+-- the same with one more axis before the others
+abbrev pub walked_with : List Map → Map → ℕ → Option ℕ
+walked_with maps m place = and_step (walked maps place) (map_step m (place / extent_of maps % map_extent m))
+
+-- what the index list at a place adds along an axis and the next one, of two windows and of two maps
+abbrev pub windows_step : (outer inner : WindowMap) → ℕ → Option ℕ
+windows_step outer inner place = and_step (step_of inner (place % inner.extent)) (step_of outer (place / inner.extent % outer.extent))
+
+abbrev pub maps_step : (outer inner : Map) → ℕ → Option ℕ
+maps_step outer inner place = and_step (map_step inner (place % map_extent inner)) (map_step outer (place / map_extent inner % map_extent outer))

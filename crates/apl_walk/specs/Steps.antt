@@ -1,5 +1,5 @@
 -- What the indexes of an axis of a result add to a place of the argument. No contract of a public function cites this file.
-use Rattle.std.specs.Prelude.{◌≡◌, ℕ, ℤ, pos, ◌+◌, ◌-◌, ◌*◌, ◌/◌, ◌<◌, ◌-ℤ◌, ◌&&◌, nat_le, nat_lt, List, Option, Some, None, slice_index, slice_index_or, if◌then◌else◌}
+use Rattle.std.specs.Prelude.{◌≡◌, ℕ, ℤ, pos, ◌+◌, ◌-◌, ◌*◌, ◌/◌, ◌%◌, ◌<◌, ◌-ℤ◌, ◌&&◌, nat_le, nat_lt, List, Option, Some, None, slice_index, slice_index_or, if◌then◌else◌}
 use Rattle.apl_array.specs.Axes.{place_number}
 
 -- both steps, where there are both
@@ -27,6 +27,10 @@ rotated_step extent by stride i = Some (wrapped extent (i + by) * stride)
 -- the place of index i of the rotation of a line of `length` places, which begins after `before` such lines
 abbrev pub rotated_place : (length : ℕ) (by : List ℕ) (before line i : ℕ) → ℕ
 rotated_place length by before line i = before * length + wrapped length (i + slice_index by line)
+
+-- the place that index `row` of rotated lines of `length` indexes takes in column `column`, where each index has `inner` columns, a line each
+abbrev pub rotated_column : (length : ℕ) (by : List ℕ) (inner row column : ℕ) → ℕ
+rotated_column length by inner row column = rotated_place length by (row / length) (row / length * inner + column) (row % length) * inner + column
 
 -- number i of a list, less the number of the first index
 abbrev pub listed_step : (first : ℤ) (stride : ℕ) (numbers : List ℤ) (i : ℕ) → Option ℕ

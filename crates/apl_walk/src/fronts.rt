@@ -14,7 +14,7 @@ pub(crate) fn write_same<T: Copy>(value: T, count: usize, room: &mut [T])
 }
 
 /// How many copies are written at once.
-const COPIES: usize = 4;
+pub(crate) const COPIES: usize = 4;
 
 /// The same at the first places.
 #[inline(always)]
@@ -32,13 +32,11 @@ fn write_several<T: Copy>(value: T, room: &mut [T])
 /// The same at each of the first places, and perhaps at some after them. A few copies take no test at each.
 #[inline(always)]
 pub(crate) fn write_copies<T: Copy>(value: T, count: usize, room: &mut [T])
-    requires { count ≤ length room.old }
+    requires room { count ≤ length room.old }
+    requires several { COPIES ≤ length room.old }
     ensures each { (k : ℕ) (d : T) → k < count → slice_index_or room.new k d ≡ value }
     ensures len { length room.new ≡ length room.old }
 {
-    if room.len() < COPIES {
-        return write_same(value, count, room);
-    }
     write_several(value, room);
     if count > COPIES {
         write_same(value, count - COPIES, &mut room[COPIES..]);

@@ -1,8 +1,7 @@
 //! Results whose elements are an argument's, by the maps of their axes.
-ghost use Rattle.std.specs.Prelude.{◌≡◌, ℕ, ◌+◌, ◌*◌, ◌/◌, ◌%◌, ◌<◌, ◌≤◌, List, [], ◌∷◌, Ok, map, length};
-ghost use Rattle.apl_array.specs.declared.array.Elem.{Elem};
-ghost use Rattle.apl_array.specs.Shape.{count_of, index_at};
-ghost use Rattle.apl_answer.specs.Pointwise.{answer_of, IsAnswerOf};
+ghost use Rattle.std.specs.Prelude.{◌≡◌, ◌*◌, ◌/◌, ◌%◌, ◌≤◌, ◌∷◌, map, length};
+ghost use Rattle.apl_array.specs.Shape.{count_of};
+ghost use Rattle.apl_answer.specs.Pointwise.{IsArrayAt};
 ghost use Rattle.apl_walk.specs.Gathered.{filled_at};
 ghost use Rattle.apl_walk.specs.declared.maps.TheConstants.{MOST_MAPS};
 ghost use Rattle.apl_walk.specs.Steps.{and_step};
@@ -34,9 +33,7 @@ impl<R: Threads + Sync, C: Cut + Sync, G: Gate + Sync> Workers<'_, R, C, G> {
         requires extent { extent_of outer.now * M.extent last ≡ count_of shape }
         requires kind { b.now.kind ≡ T.kind }
         requires ravel { b.now.ravel ≡ map T.elem_of elements.now }
-        ensures { (element : List ℕ → Elem)
-            → ((place : ℕ) → place < count_of shape → filled_at b.now (and_step (M.step last (place % M.extent last)) (walked outer.now (place / M.extent last))) ≡ element (index_at shape place))
-            → IsAnswerOf (answer_of shape (λ index. Ok (element index)) b.now.kind) result }
+        ensures { IsArrayAt shape b.now.kind (λ place. filled_at b.now (and_step (M.step last (place % M.extent last)) (walked outer.now (place / M.extent last)))) result }
     {
         let lines = shape.count() / last.extent();
         let kernel = ByLines::new(Gathered::new(elements, outer, lines, last));
@@ -53,9 +50,7 @@ impl<R: Threads + Sync, C: Cut + Sync, G: Gate + Sync> Workers<'_, R, C, G> {
     ) -> Result<Array, OpFault>
         requires few { length outer.now ≤ MOST_MAPS }
         requires extent { extent_of outer.now * M.extent last ≡ count_of shape }
-        ensures { (element : List ℕ → Elem)
-            → ((place : ℕ) → place < count_of shape → filled_at b.now (and_step (M.step last (place % M.extent last)) (walked outer.now (place / M.extent last))) ≡ element (index_at shape place))
-            → IsAnswerOf (answer_of shape (λ index. Ok (element index)) b.now.kind) result }
+        ensures { IsArrayAt shape b.now.kind (λ place. filled_at b.now (and_step (M.step last (place % M.extent last)) (walked outer.now (place / M.extent last)))) result }
     {
         match b.numbers() {
             Some(numbers) => self.gather_elements(shape, b, numbers, outer, last),
@@ -78,8 +73,7 @@ impl<R: Threads + Sync, C: Cut + Sync, G: Gate + Sync> Workers<'_, R, C, G> {
     ) -> Result<Array, OpFault>
         requires few { length outer.now ≤ MOST_MAPS }
         requires extent { extent_of (last.now ∷ outer.now) ≡ count_of shape }
-        ensures { (element : List ℕ → Elem) → ((place : ℕ) → place < count_of shape → filled_at b.now (walked (last.now ∷ outer.now) place) ≡ element (index_at shape place))
-            → IsAnswerOf (answer_of shape (λ index. Ok (element index)) b.now.kind) result }
+        ensures { IsArrayAt shape b.now.kind (λ place. filled_at b.now (walked (last.now ∷ outer.now) place)) result }
     {
         match last {
             Map::Window(last) => self.gather_runs(shape, b, outer, *last),
@@ -103,8 +97,7 @@ pub fn gather<R: Threads + Sync, C: Cut + Sync, G: Gate + Sync>(
     walk: Walk,
 ) -> Result<Array, OpFault>
     requires extent { extent_of (maps_of walk) ≡ count_of shape }
-    ensures { (element : List ℕ → Elem) → ((place : ℕ) → place < count_of shape → filled_at b.now (walked (maps_of walk.entry) place) ≡ element (index_at shape place))
-        → IsAnswerOf (answer_of shape (λ index. Ok (element index)) b.now.kind) result }
+    ensures { IsArrayAt shape b.now.kind (λ place. filled_at b.now (walked (maps_of walk.entry) place)) result }
 {
     let maps = walk.into_maps()?;
     let workers = Workers { rt, alloc, pool };

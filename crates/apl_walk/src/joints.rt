@@ -4,7 +4,7 @@ ghost use Rattle.apl_pool.specs.declared.kernel.TheConstants.{MOST_PLACES};
 ghost use Rattle.apl_walk.specs.declared.map.TheConstants.{MOST_STEP};
 ghost use Rattle.apl_walk.specs.declared.maps.TheConstants.{MOST_MAPS};
 ghost use Rattle.apl_walk.specs.Steps.{and_step};
-ghost use Rattle.apl_walk.specs.Maps.{step_of, map_extent, map_step, extent_of, walked};
+ghost use Rattle.apl_walk.specs.Maps.{step_of, map_extent, map_step, extent_of, walked, walked_with, windows_step, maps_step};
 ghost use Rattle.apl_walk.specs.Walks.{maps_of};
 
 use crate::map::MOST_STEP;
@@ -43,8 +43,7 @@ impl Window {
     pub(crate) fn joined(&self, inner: &Window) -> Option<Window>
         requires { self.now.extent * inner.now.extent ≤ MOST_PLACES }
         ensures extent { IfSome result (λ w. w.extent ≡ self.now.extent * inner.now.extent) }
-        ensures step { IfSome result (λ w. (place : ℕ) → step_of w (place % w.extent)
-            ≡ and_step (step_of inner.now (place % inner.now.extent)) (step_of self.now (place / inner.now.extent % self.now.extent))) }
+        ensures step { IfSome result (λ w. (place : ℕ) → step_of w (place % w.extent) ≡ windows_step self.now inner.now place) }
     {
         if !inner.is_whole() || inner.stride == 0 || self.stride != inner.stride * inner.extent {
             return None;
@@ -64,8 +63,7 @@ impl Window {
 fn joined<'a>(outer: &Map<'a>, inner: &Map<'a>) -> Option<Map<'a>>
     requires { map_extent outer.now * map_extent inner.now ≤ MOST_PLACES }
     ensures extent { IfSome result (λ m. map_extent m ≡ map_extent outer.now * map_extent inner.now) }
-    ensures step { IfSome result (λ m. (place : ℕ) → map_step m (place % map_extent m)
-        ≡ and_step (map_step inner.now (place % map_extent inner.now)) (map_step outer.now (place / map_extent inner.now % map_extent outer.now))) }
+    ensures step { IfSome result (λ m. (place : ℕ) → map_step m (place % map_extent m) ≡ maps_step outer.now inner.now place) }
 {
     let Map::Window(inner) = inner else {
         return None;
@@ -106,8 +104,7 @@ impl<'a> Walk<'a> {
         requires few { vec_len self.inner < MOST_MAPS }
         requires extent { map_extent map * extent_of (maps_of self) ≤ MOST_PLACES }
         ensures extent { IfOk result (λ walk. extent_of (maps_of walk) ≡ map_extent map.entry * extent_of (maps_of self.entry)) }
-        ensures place { IfOk result (λ walk. (place : ℕ) → walked (maps_of walk) place
-            ≡ and_step (walked (maps_of self.entry) place) (map_step map.entry (place / extent_of (maps_of self.entry) % map_extent map.entry))) }
+        ensures place { IfOk result (λ walk. (place : ℕ) → walked (maps_of walk) place ≡ walked_with (maps_of self.entry) map.entry place) }
         ensures one { IfOk result (λ walk. vec_len walk.inner ≤ vec_len self.entry.inner + 1) }
     {
         let Walk { mut inner, first } = self;

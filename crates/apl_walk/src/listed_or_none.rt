@@ -1,8 +1,8 @@
 //! Axes each of whose indexes is listed, or has no place.
-ghost use Rattle.std.specs.Prelude.{◌≡◌, ℕ, ◌+◌, ◌-◌, ◌*◌, ◌<◌, ◌≤◌, Some, IfSome, length, slice_index};
+ghost use Rattle.std.specs.Prelude.{◌≡◌, ℕ, ◌+◌, ◌-◌, ◌*◌, ◌<◌, ◌≤◌, Some, IfSome, length, slice_index, slice_index_or, nat_lt, if◌then◌else◌};
 ghost use Rattle.apl_pool.specs.declared.kernel.TheConstants.{MOST_PLACES};
 ghost use Rattle.apl_walk.specs.declared.map.TheConstants.{MOST_STEP};
-ghost use Rattle.apl_walk.specs.Gathered.{value_or};
+ghost use Rattle.apl_walk.specs.Gathered.{value_or, AreAtEntries};
 ghost use Rattle.apl_walk.specs.Steps.{and_step, entry_step};
 
 use crate::map::{AxisMap, MOST_STEP};
@@ -19,24 +19,50 @@ pub struct ListedOrNone<'a> {
     ghost near: { axis_length * stride ≤ MOST_STEP },
 }
 
-/// The element at an entry's place, or the fill. One is read in any case, so that nothing hangs on a
-/// branch that no processor can foresee.
-#[inline(always)]
-fn element_or<T: Copy>(
-    elements: &[T],
-    base: usize,
-    entry: usize,
-    axis_length: usize,
-    stride: usize,
-    fill: T,
-) -> T
-    requires most { axis_length * stride ≤ MOST_STEP }
-    requires near { base + (axis_length - 1) * stride < length elements.now }
-    ensures { result ≡ value_or elements.now fill (and_step (entry_step axis_length stride entry) (Some base)) }
-{
-    let index = if entry < axis_length { entry } else { 0 };
-    let element = elements[base + index * stride];
-    if entry < axis_length { element } else { fill }
+impl ListedOrNone<'_> {
+    /// Writes the element at each index, and some element where there is no place.
+    #[inline(always)]
+    fn write_elements<T: Copy>(
+        &self,
+        elements: &[T],
+        base: usize,
+        from: usize,
+        count: usize,
+        room: &mut [T],
+    )
+        requires within { from + count ≤ length self.now.entries.now }
+        requires near { base + (self.now.axis_length - 1) * self.now.stride < length elements.now }
+        requires room { count ≤ length room.old }
+        ensures each { AreAtEntries self.now.entries.now from self.now.axis_length self.now.stride elements.now base count room.new }
+        ensures len { length room.new ≡ length room.old }
+    {
+        let entries = self.entries;
+        let stride = self.stride;
+        let last = self.axis_length.saturating_sub(1);
+        let line = &elements[base..];
+        for k in 0..count {
+            let index = last.min(entries[from + k] as usize);
+            room[k] = line[index * stride];
+        }
+    }
+
+    /// Writes the fill where there is no place.
+    #[inline(always)]
+    fn write_fills<T: Copy>(&self, from: usize, count: usize, fill: T, room: &mut [T])
+        requires within { from + count ≤ length self.now.entries.now }
+        requires room { count ≤ length room.old }
+        ensures each { (k : ℕ) (d : T) → k < count
+            → slice_index_or room.new k d ≡ (if nat_lt (slice_index self.now.entries.now (from + k)) self.now.axis_length then slice_index_or room.old k d else fill) }
+        ensures len { length room.new ≡ length room.old }
+    {
+        let entries = self.entries;
+        let axis_length = self.axis_length;
+        for k in 0..count {
+            let entry = entries[from + k] as usize;
+            let element = room[k];
+            room[k] = if entry < axis_length { element } else { fill };
+        }
+    }
 }
 
 impl AxisMap for ListedOrNone<'_> {
@@ -75,12 +101,8 @@ impl AxisMap for ListedOrNone<'_> {
         fill: T,
         room: &mut [T],
     ) {
-        let axis_length = self.axis_length;
-        let stride = self.stride;
-        let entries = self.entries;
-        for k in 0..count {
-            let entry = entries[from + k] as usize;
-            room[k] = element_or(elements, base, entry, axis_length, stride, fill);
-        }
+        // Neither of the two loops has a branch that no processor can foresee.
+        self.write_elements(elements, base, from, count, room);
+        self.write_fills(from, count, fill, room);
     }
 }

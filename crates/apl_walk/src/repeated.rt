@@ -1,9 +1,9 @@
 //! Axes each of whose indexes comes several times.
-ghost use Rattle.std.specs.Prelude.{◌≡◌, ℕ, ◌+◌, ◌-◌, ◌*◌, ◌/◌, ◌<◌, ◌≤◌};
+ghost use Rattle.std.specs.Prelude.{◌≡◌, ℕ, ◌+◌, ◌-◌, ◌*◌, ◌/◌, ◌<◌, ◌≤◌, length, slice_index_or};
 ghost use Rattle.apl_pool.specs.declared.kernel.TheConstants.{MOST_PLACES};
 ghost use Rattle.apl_walk.specs.declared.map.TheConstants.{MOST_STEP};
 
-use crate::fronts::write_copies;
+use crate::fronts::{COPIES, write_copies, write_same};
 use crate::map::{AxisMap, MOST_STEP};
 
 /// Each index of an axis, several times in a row.
@@ -16,6 +16,41 @@ pub struct Repeated {
     ghost times_some: { 0 < times },
     ghost most: { axis_length * times ≤ MOST_PLACES },
     ghost near: { axis_length * stride ≤ MOST_STEP },
+}
+
+impl Repeated {
+    /// Writes all copies of each index from one on, while there are places for them and for `COPIES`.
+    /// Answers how many indexes.
+    #[inline(always)]
+    fn write_whole<T: Copy>(
+        &self,
+        elements: &[T],
+        base: usize,
+        index: usize,
+        count: usize,
+        room: &mut [T],
+    ) -> usize
+        requires within { index * self.now.times + count ≤ self.now.axis_length * self.now.times }
+        requires near { base + (self.now.axis_length - 1) * self.now.stride < length elements.now }
+        requires room { count ≤ length room.old }
+        ensures within { result * self.now.times ≤ count }
+        ensures each { (k : ℕ) (d : T) → k < result * self.now.times → slice_index_or room.new k d ≡ slice_index_or elements.now (base + (index + k / self.now.times) * self.now.stride) d }
+        ensures len { length room.new ≡ length room.old }
+    {
+        let times = self.times;
+        let stride = self.stride;
+        let most = times.max(COPIES);
+        let mut step = index * stride;
+        let mut done = 0;
+        let mut whole = 0;
+        while done + most <= count {
+            write_copies(elements[base + step], times, &mut room[done..]);
+            done += times;
+            step += stride;
+            whole += 1;
+        }
+        whole
+    }
 }
 
 impl AxisMap for Repeated {
@@ -52,15 +87,19 @@ impl AxisMap for Repeated {
         room: &mut [T],
     ) {
         let times = self.times;
-        let mut step = from / times * self.stride;
+        let mut index = from / times;
         let mut left = times - from % times;
         let mut done = 0;
         while done < count {
             let copies = left.min(count - done);
-            write_copies(elements[base + step], copies, &mut room[done..]);
+            let value = elements[base + index * self.stride];
+            write_same(value, copies, &mut room[done..]);
             done += copies;
-            step += self.stride;
+            index += 1;
             left = times;
+            let whole = self.write_whole(elements, base, index, count - done, &mut room[done..]);
+            done += whole * times;
+            index += whole;
         }
     }
 }

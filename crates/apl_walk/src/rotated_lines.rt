@@ -105,8 +105,8 @@ pub struct RotatedColumns<'a, T> {
 }
 
 impl<T: Copy> Lined for RotatedColumns<'_, T> {
-    ghost use Rattle.std.specs.Prelude.{◌*◌, ◌/◌, ◌%◌, slice_index_or};
-    ghost use Rattle.apl_walk.specs.Steps.{rotated_place};
+    ghost use Rattle.std.specs.Prelude.{slice_index_or};
+    ghost use Rattle.apl_walk.specs.Steps.{rotated_column};
 
     type Out = T;
 
@@ -114,8 +114,7 @@ impl<T: Copy> Lined for RotatedColumns<'_, T> {
 
     ghost extent = { λ r. r.inner };
 
-    ghost value = { λ r row column. slice_index_or r.elements.now
-        (rotated_place r.rotations.length r.rotations.by.now (row / r.rotations.length) (row / r.rotations.length * r.inner + column) (row % r.rotations.length) * r.inner + column) r.past };
+    ghost value = { λ r row column. slice_index_or r.elements.now (rotated_column r.rotations.length r.rotations.by.now r.inner row column) r.past };
 
     fn count(&self) -> usize {
         self.count

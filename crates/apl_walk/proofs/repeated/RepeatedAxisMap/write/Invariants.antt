@@ -5,7 +5,7 @@ abbrev pub invariant-loop-done : goal.invariant-loop-done
 invariant-loop-done g l = record {
   high : l.done ≤ l.count;
   each : (k : ℕ) (d : g.row.T.Denot) → k < l.done → slice_index_or l.room k d ≡ slice_index_or l.elements (l.base + (l.from + k) / l.self.times * l.self.stride) d;
-  step : l.done < l.count → l.step ≡ (l.from + l.done) / l.self.times * l.self.stride;
+  index : l.done < l.count → l.index ≡ (l.from + l.done) / l.self.times;
   left : l.done < l.count → l.left + (l.from + l.done) % l.self.times ≡ l.self.times;
   len : length l.room ≡ length l.initial.room;
 }
