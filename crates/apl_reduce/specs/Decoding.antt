@@ -1,5 +1,5 @@
 -- A⊥B.
-use Rattle.std.specs.Prelude.{ℕ, ℤ, pos, ◌+◌, ◌+ℤ◌, ◌*ℤ◌, List, [], ◌∷◌, take, ◌||◌, ◌&&◌, ◌==◌, Result, Ok, Err, if◌then◌else◌, replicate}
+use Rattle.std.specs.Prelude.{ℕ, ℤ, pos, ◌+◌, ◌+ℤ◌, ◌*ℤ◌, List, [], ◌∷◌, take, Bool, ◌||◌, ◌&&◌, ◌==◌, Result, Ok, Err, if◌then◌else◌, replicate}
 use Rattle.std.specs.List.{list_all, range_with_len}
 use Rattle.apl_array.specs.declared.array.Elem.{Elem}
 use Rattle.apl_array.specs.declared.array.Elem.TheVariants.{Int}
@@ -29,6 +29,10 @@ decoded n radices digits =
     if list_all (λ k. in_range (value_of (take k radices) (take k digits))) (range_with_len 0 (n + 1))
     then Ok (Int (value_of radices digits)) else Err Limit
 
+-- both arguments have as many digits, or one of them has one element
+abbrev pub have_digits_alike : ArrayValue → ArrayValue → Bool
+have_digits_alike a b = has_one_element a.shape || (has_one_element b.shape || (size_of a == size_of b))
+
 -- how many digits there are: an argument of one element serves all of the other's
 abbrev pub decode_length : ArrayValue → ArrayValue → ℕ
 decode_length a b = if has_one_element a.shape then size_of b else size_of a
@@ -42,7 +46,7 @@ abbrev pub decode_row : ArrayValue → ArrayValue → Row
 decode_row a b =
     let n = decode_length a b in
     record {
-      checks = (is_list a && is_list b, Rank) ∷ (has_one_element a.shape || (has_one_element b.shape || (size_of a == size_of b)), Length)
+      checks = (is_list a && is_list b, Rank) ∷ (have_digits_alike a b, Length)
           ∷ ((n == 0) || (is_number_kind a.kind && is_number_kind b.kind), Domain) ∷ [];
       shape = [];
       kind = Number;

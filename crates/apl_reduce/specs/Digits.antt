@@ -1,8 +1,10 @@
 -- Digits by radices and the value of digits, as relations between whole numbers.
-use Rattle.std.specs.Prelude.{◌≡◌, ◌≢◌, ◌⊎◌, ℕ, ◌+◌, ◌<◌, ℤ, pos, ◌+ℤ◌, ◌*ℤ◌, List, map, length, drop, slice_index_or, unsigned_abs}
+use Rattle.std.specs.Prelude.{◌≡◌, ◌≢◌, ◌⊎◌, ℕ, ◌+◌, ◌<◌, ◌≤◌, ℤ, pos, ◌+ℤ◌, ◌*ℤ◌, List, map, length, take, drop, slice_index_or, unsigned_abs, false}
 use Rattle.std.specs.List.{range_with_len}
 use Rattle.std.specs.Int.{int_signum}
+use Rattle.apl_array.specs.Range.{in_range}
 use Rattle.apl_scalar.specs.Arithmetic.{residue}
+use Rattle.apl_summary.specs.ConsecutiveSums.{total}
 use Rattle.apl_reduce.specs.Decoding.{product}
 use Rattle.apl_reduce.specs.Encoding.{carry_past}
 
@@ -32,3 +34,7 @@ exact_carry radices b k = carry_past (drop k radices) b
 -- each digit times the product of the radices after its own
 abbrev pub place_values : List ℤ → List ℤ → List ℤ
 place_values radices digits = map (λ k. slice_index_or digits k (pos 0) *ℤ product (drop (k + 1) radices)) (range_with_len 0 (length digits))
+
+-- the value of some first digits of n is outside the range
+abbrev pub HasFrontOutside : ℕ → List ℤ → List ℤ → Type 0
+HasFrontOutside n radices digits = (k : ℕ) × (k ≤ n) × (in_range (total (place_values (take k radices) (take k digits))) ≡ false)

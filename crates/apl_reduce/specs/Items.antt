@@ -21,6 +21,10 @@ outer_number f left right place = dyadic_of f (item_in left (place / length righ
 abbrev pub pair_number : ScalarFunction → Elem → List Elem → ℕ → Result ℤ Fault
 pair_number f x others k = dyadic_of f x (item_in others k)
 
+-- a function of the elements at two places
+abbrev pub placed_number : ScalarFunction → List Elem → ℕ → List Elem → ℕ → Result ℤ Fault
+placed_number f left place right other = dyadic_of f (item_in left place) (item_in right other)
+
 -- the number that an element is, or the fault
 abbrev pub as_number : Result Elem Fault → Result ℤ Fault
 as_number (Ok x) = Ok (number_of x)

@@ -6,6 +6,7 @@ use Rattle.apl_pool.specs.declared.kernel.Fault.{Fault}
 use Rattle.apl_pool.specs.declared.kernel.TheConstants.{MOST_PLACES}
 use Rattle.apl_scalar.specs.Scalar.{dyadic_of}
 use Rattle.apl_reduce.specs.declared.layouts.Layout.{Layout}
+use Rattle.apl_reduce.specs.declared.layouts.TheConstants.{SEVERAL_LINES}
 use Rattle.apl_reduce.specs.Items.{item_in, as_number, judged_items}
 
 -- the places of item k in the arguments, at a place of the result
@@ -39,6 +40,10 @@ product_at layout left right place k = slice_index_or left (left_place layout pl
 -- the place of item k of a column in the right argument
 abbrev pub column_place : Layout → ℕ → ℕ → ℕ
 column_place layout column k = column * layout.right.line + k * layout.right.item
+
+-- The right argument is one by rows, of several columns, and each serves several lines. In the order of its columns it has room
+abbrev pub RepaysAnOrder : Layout → Type 0
+RepaysAnOrder layout = (layout.right.line ≡ 1) × (layout.right.item ≡ layout.columns) × (0 < layout.items) × (1 < layout.columns) × (SEVERAL_LINES * layout.columns ≤ layout.count) × (layout.columns * layout.items ≤ MOST_PLACES)
 
 -- as `layout`, but those of a column of the right argument are neighbours
 pub record IsByColumns (layout ordered : Layout) : Type 0 where

@@ -9,7 +9,7 @@ ghost use Rattle.apl_reduce.specs.Folded.{fold_at, number_of_axis};
 
 use crate::folded_rows::{fold_last_rows, fold_rows, from_place};
 use crate::line_folds::{Foldable, fold_along};
-use crate::pairs::NARROW;
+use crate::outer_products::NARROW;
 use crate::workers::shares_items;
 use apl_answer::ElementType;
 use apl_array::{
@@ -150,7 +150,8 @@ impl<T: Foldable, F: Function> AxisFolds<'_, T, F> {
         requires some { 0 < length totals.old }
         requires within { from + length totals.old ≤ self.now.axis.now.count }
         requires row { from % self.now.axis.now.inner + length totals.old ≤ self.now.axis.now.inner }
-        ensures values { result ≡ true → AreWritten (fold_at F.FUNCTION (map T.elem_of self.now.axis.now.elements.now) self.now.axis.now.items self.now.axis.now.block self.now.axis.now.inner) from (from + length totals.old) totals.new }
+        ensures values { let a = self.now.axis.now in
+            result ≡ true → AreWritten (fold_at F.FUNCTION (map T.elem_of a.elements.now) a.items a.block a.inner) from (from + length totals.old) totals.new }
         ensures len { length totals.new ≡ length totals.old }
     {
         let axis = self.axis;

@@ -2,8 +2,7 @@
 ghost use Rattle.std.specs.Prelude.{◌≡◌, ◌*◌, ◌<◌, ◌≤◌, ◌↔◌, IsTrue, IfOk, IfErr, length};
 ghost use Rattle.apl_pool.specs.declared.kernel.Stop.TheVariants.{Memory};
 ghost use Rattle.apl_pool.specs.declared.kernel.TheConstants.{MOST_PLACES};
-ghost use Rattle.apl_reduce.specs.declared.layouts.TheConstants.{SEVERAL_LINES};
-ghost use Rattle.apl_reduce.specs.Layouts.{HasColumns, IsByColumns, AreByColumns};
+ghost use Rattle.apl_reduce.specs.Layouts.{RepaysAnOrder, HasColumns, IsByColumns, AreByColumns};
 
 use crate::layouts::{Layout, Strides};
 use crate::workers::Workers;
@@ -14,7 +13,7 @@ use std::thread::Threads;
 impl Layout {
     /// Whether it pays to bring the right argument into the order of its columns, and there is room for that.
     pub(crate) fn repays_an_order(&self) -> bool
-        ensures { IsTrue result ↔ (self.now.right.line ≡ 1) × (self.now.right.item ≡ self.now.columns) × (0 < self.now.items) × (1 < self.now.columns) × (SEVERAL_LINES * self.now.columns ≤ self.now.count) × (self.now.columns * self.now.items ≤ MOST_PLACES) }
+        ensures { IsTrue result ↔ RepaysAnOrder self.now }
     {
         let by_rows = self.right.line == 1 && self.right.item == self.columns;
         by_rows

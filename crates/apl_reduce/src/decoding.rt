@@ -1,12 +1,12 @@
 //! The number that digits make in a list of radices.
 ghost use Rattle.std.specs.Prelude.{◌≡◌, ℕ, pos, ◌+ℤ◌, ◌*ℤ◌, ◌<◌, ◌==◌, ◌||◌, true, false, [], length, MatchOption, slice_index_or};
 ghost use Rattle.apl_array.specs.declared.array.Kind.TheVariants.{Number};
-ghost use Rattle.apl_answer.specs.Arguments.{has_one_element, is_number_kind, numbers_of, size_of};
+ghost use Rattle.apl_answer.specs.Arguments.{has_one_element, is_number_kind, numbers_of};
 ghost use Rattle.apl_answer.specs.Pointwise.{answer_of, IsAnswerOf};
 ghost use Rattle.apl_answer.specs.Rows.{Answers};
 ghost use Rattle.apl_scalar.specs.Scalar.{exact};
-ghost use Rattle.apl_reduce.specs.Decoding.{decode_length, decoded, decode_row};
-ghost use Rattle.apl_reduce.specs.Fronts.{served};
+ghost use Rattle.apl_reduce.specs.Decoding.{have_digits_alike, decode_length, decode_row};
+ghost use Rattle.apl_reduce.specs.Fronts.{served, served_value};
 
 use crate::range::limited;
 use crate::workers::Workers;
@@ -99,8 +99,8 @@ fn served_by(a: &Array) -> Option<Served<'_>>
 /// element serves all of the other's.
 fn digit_count(a: &Array, b: &Array) -> Option<usize>
     ensures { MatchOption result
-        ((has_one_element a.now.shape || (has_one_element b.now.shape || (size_of a.now == size_of b.now))) ≡ false)
-        (λ n. ((has_one_element a.now.shape || (has_one_element b.now.shape || (size_of a.now == size_of b.now))) ≡ true) × (n ≡ decode_length a.now b.now)) }
+        (have_digits_alike a.now b.now ≡ false)
+        (λ n. (have_digits_alike a.now b.now ≡ true) × (n ≡ decode_length a.now b.now)) }
 {
     let (left, right) = (a.shape().count(), b.shape().count());
     if left == 1 {
@@ -115,8 +115,8 @@ fn digit_count(a: &Array, b: &Array) -> Option<usize>
 impl<R: Threads + Sync, C: Cut + Sync, G: Gate + Sync> Workers<'_, R, C, G> {
     /// The scalar that a decode gives.
     fn decoded(&self, decoding: &Decoding) -> Result<Array, OpFault>
-        ensures { let n = decoding.now.count in
-            IsAnswerOf (answer_of [] (λ index. decoded n (served n decoding.now.radices.is_single decoding.now.radices.numbers.now) (served n decoding.now.digits.is_single decoding.now.digits.numbers.now)) Number) result }
+        ensures { let d = decoding.now in
+            IsAnswerOf (answer_of [] (λ index. served_value d.count d.radices.is_single d.radices.numbers.now d.digits.is_single d.digits.numbers.now) Number) result }
     {
         let Ok(shape) = Shape::new(self.alloc, &[]) else {
             unreachable!()

@@ -2,16 +2,21 @@
 ghost use Rattle.std.specs.Prelude.{◌≡◌};
 ghost use Rattle.apl_scalar.specs.Scalar.{dyadic_numbers};
 
+use apl_answer::ElementType;
 use apl_array::{Elem, ScalarFunction};
 use apl_pool::Fault;
 use apl_scalar::function_types::Function;
-use apl_scalar::{dyadic_elements, identity, with_type};
+use apl_scalar::{dyadic_elements, identity, with_type, write_pairs};
 use std::marker::PhantomData;
 
 /// A scalar function of two elements.
 pub(crate) trait Dyadic: Copy {
     ghost use Rattle.apl_array.specs.declared.function.ScalarFunction.{ScalarFunction};
+    ghost use Rattle.std.specs.Prelude.{◌≤◌, length, map};
+    ghost use Rattle.apl_pool.specs.declared.kernel.TheConstants.{MOST_PLACES};
+    ghost use Rattle.apl_pool.specs.Runs.{AreWritten};
     ghost use Rattle.apl_scalar.specs.Scalar.{dyadic_of, dyadic_numbers, identity_of};
+    ghost use Rattle.apl_reduce.specs.Items.{pair_number};
 
     ghost function: { Self → ScalarFunction };
 
@@ -26,6 +31,20 @@ pub(crate) trait Dyadic: Copy {
     /// What it gives of two numbers.
     fn of_numbers(&self, x: i64, y: i64) -> Result<i64, Fault>
         ensures { result ≡ dyadic_numbers (function self.now) x y };
+
+    /// Writes what it gives of one element and each of others into the room for them, up to some other or to the first that has a fault.
+    /// It answers how many it wrote.
+    fn write_row<T: ElementType, U: ElementType>(
+        &self,
+        x: T,
+        others: &[U],
+        room: &mut [i64],
+    ) -> usize
+        requires most { length others.now ≤ MOST_PLACES }
+        requires room { length others.now ≤ length room.old }
+        ensures within { result ≤ length others.now }
+        ensures values { AreWritten (pair_number (function self.now) (T.elem_of x) (map U.elem_of others.now)) 0 result room.new }
+        ensures len { length room.new ≡ length room.old };
 
     /// What the reduction of no element gives, if anything.
     fn identity(&self) -> Option<i64>
@@ -52,6 +71,16 @@ impl<F: Function + Copy> Dyadic for Typed<F> {
     #[inline(always)]
     fn of_numbers(&self, x: i64, y: i64) -> Result<i64, Fault> {
         F::apply(x, y)
+    }
+
+    #[inline(always)]
+    fn write_row<T: ElementType, U: ElementType>(
+        &self,
+        x: T,
+        others: &[U],
+        room: &mut [i64],
+    ) -> usize {
+        write_pairs::<F, T, U>(x, others, room)
     }
 
     #[inline(always)]
@@ -88,6 +117,16 @@ impl Dyadic for Chosen {
     #[inline(always)]
     fn of_numbers(&self, x: i64, y: i64) -> Result<i64, Fault> {
         with_type!(self.0, applied::<F>(x, y))
+    }
+
+    #[inline(always)]
+    fn write_row<T: ElementType, U: ElementType>(
+        &self,
+        x: T,
+        others: &[U],
+        room: &mut [i64],
+    ) -> usize {
+        with_type!(self.0, write_pairs::<F, T, U>(x, others, room))
     }
 
     #[inline(always)]

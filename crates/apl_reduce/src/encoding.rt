@@ -1,12 +1,10 @@
 //! Numbers taken apart into digits in a list of radices.
-ghost use Rattle.std.specs.Prelude.{◌≡◌, ℕ, ◌+◌, ◌*◌, ◌<◌, ◌≤◌, ◌++◌, ◌⊎◌, true, false, List, Result, MatchResult, drop, length, slice_index_or};
-ghost use Rattle.apl_array.specs.declared.array.Elem.{Elem};
+ghost use Rattle.std.specs.Prelude.{◌≡◌, ℕ, ◌+◌, ◌*◌, ◌<◌, ◌≤◌, Result, drop, length, slice_index_or};
 ghost use Rattle.apl_array.specs.declared.array.Kind.TheVariants.{Number};
-ghost use Rattle.apl_array.specs.Shape.{is_shape, count_of, index_at};
+ghost use Rattle.apl_array.specs.Shape.{count_of};
 ghost use Rattle.apl_pool.specs.declared.kernel.Fault.{Fault};
 ghost use Rattle.apl_pool.specs.declared.kernel.TheConstants.{MOST_PLACES};
-ghost use Rattle.apl_answer.specs.declared.fault.OpFault.TheVariants.{Limit, Memory};
-ghost use Rattle.apl_answer.specs.Pointwise.{answer_of, IsAnswerOf};
+ghost use Rattle.apl_answer.specs.Pointwise.{IsAnswerAt};
 ghost use Rattle.apl_answer.specs.Rows.{Answers};
 ghost use Rattle.apl_reduce.specs.declared.carry_divisor.CarryDivisor.TheVariants.{Nothing};
 ghost use Rattle.apl_reduce.specs.Encoding.{encode_row};
@@ -16,7 +14,7 @@ use crate::carry_divisor::{CarryDivisor, carry_divisors};
 use crate::carrying::digit_left;
 use crate::shapes::joined_shape;
 use crate::workers::Workers;
-use apl_answer::{OpFault, fill_array};
+use apl_answer::{OpFault, constant_array, fill_array};
 use apl_array::{Array, Shape, joined_index_has_place, places_match_index_lists};
 use apl_divisor::Divisor;
 use apl_pool::{Cut, Fault, Gate, Kernel, Pool};
@@ -82,8 +80,7 @@ impl<R: Threads + Sync, C: Cut + Sync, G: Gate + Sync> Workers<'_, R, C, G> {
     ) -> Result<Array, OpFault>
         requires places { count_of shape ≡ length radices.now * length numbers.now }
         requires most { length numbers.now ≤ MOST_PLACES }
-        ensures { (outcome : List ℕ → Result Elem Fault) → ((place : ℕ) → place < count_of shape → digit_in radices.now numbers.now place ≡ outcome (index_at shape place))
-            → IsAnswerOf (answer_of shape outcome Number) result }
+        ensures { IsAnswerAt shape Number (digit_in radices.now numbers.now) result }
     {
         let behind = carry_divisors(self.alloc, radices)?;
         let kernel = Encoding {
@@ -98,10 +95,9 @@ impl<R: Threads + Sync, C: Cut + Sync, G: Gate + Sync> Workers<'_, R, C, G> {
 
     /// `Domain`, or the array of this shape if it has no elements.
     fn refuse(&self, shape: Shape) -> Result<Array, OpFault>
-        ensures { (outcome : List ℕ → Result Elem Fault) → ((place : ℕ) → place < count_of shape → Result.Err Fault.Domain ≡ outcome (index_at shape place))
-            → IsAnswerOf (answer_of shape outcome Number) result }
+        ensures { IsAnswerAt shape Number (λ place. Result.Err Fault.Domain) result }
     {
-        self.constant_array(shape, Err(Fault::Domain))
+        constant_array(self.rt, self.alloc, self.pool, shape, Err(Fault::Domain))
     }
 }
 

@@ -1,5 +1,5 @@
 //! Right folds of rows at equal distances, all places of a stretch at once.
-ghost use Rattle.std.specs.Prelude.{◌≡◌, ℕ, ◌+◌, ◌*◌, ◌<◌, ◌≤◌, true, Ok, pos, drop, length, map, slice_index_or};
+ghost use Rattle.std.specs.Prelude.{◌≡◌, ℕ, ◌+◌, ◌*◌, ◌<◌, ◌≤◌, true, Ok, pos, drop, length, map, slice_index_or, slice_set};
 ghost use Rattle.apl_array.specs.declared.array.Elem.TheVariants.{Int};
 ghost use Rattle.apl_pool.specs.Runs.{AreWritten};
 ghost use Rattle.apl_pool.specs.declared.kernel.TheConstants.{MOST_PLACES};
@@ -9,13 +9,21 @@ ghost use Rattle.apl_reduce.specs.Items.{item_in};
 
 use crate::folding::{element_at, fold_step};
 use crate::line_folds::Foldable;
-use crate::pairs::put;
 use crate::run_folds::adds;
 use crate::wrapped::wrapped;
 use apl_answer::ElementType;
 use apl_pool::Fault;
 use apl_scalar::dyadic_elements;
 use apl_scalar::function_types::Function;
+
+/// Puts a value into the room for it.
+#[inline(always)]
+fn put<X: Copy>(room: &mut [X], place: usize, value: X)
+    requires { place < length room.old }
+    ensures { room.new ≡ slice_set room.old place value }
+{
+    room[place] = value;
+}
 
 /// The elements from a place on.
 #[inline(always)]

@@ -49,10 +49,9 @@ pub(crate) struct LineItems<'a, T, U, P: Dyadic> {
 
 impl<T: ElementType, U: ElementType, P: Dyadic> Items for LineItems<'_, T, U, P> {
     ghost use Rattle.std.specs.Prelude.{◌+◌, ◌*◌, map};
-    ghost use Rattle.apl_scalar.specs.Scalar.{dyadic_of};
-    ghost use Rattle.apl_reduce.specs.Items.{item_in};
+    ghost use Rattle.apl_reduce.specs.Items.{placed_number};
 
-    ghost outcome = { λ x k. dyadic_of (P.function x.pairing) (item_in (map T.elem_of x.left.now) (x.left_start + k * x.left_stride)) (item_in (map U.elem_of x.right.now) (x.right_start + k * x.right_stride)) };
+    ghost outcome = { λ x k. placed_number (P.function x.pairing) (map T.elem_of x.left.now) (x.left_start + k * x.left_stride) (map U.elem_of x.right.now) (x.right_start + k * x.right_stride) };
 
     ghost item_count = { λ x. x.count };
 

@@ -28,7 +28,6 @@ mod line_folds;
 mod magnitudes;
 mod near_sums;
 mod outer_products;
-mod pairs;
 mod quotient;
 mod range;
 mod reducing;

@@ -10,7 +10,6 @@ ghost use Rattle.apl_reduce.specs.Items.{outer_number, pair_number};
 ghost use Rattle.apl_reduce.specs.Products.{outer_row};
 
 use crate::dyadic::{Chosen, Dyadic, Typed};
-use crate::pairs::{NARROW, write_pairs};
 use crate::shapes::{characters_of, joined_shape};
 use crate::workers::Workers;
 use apl_answer::{ElementType, OpFault, array_from_fill};
@@ -22,6 +21,9 @@ use apl_scalar::with_type;
 use std::alloc::Global;
 use std::marker::PhantomData;
 use std::thread::Threads;
+
+/// Rows of fewer elements are gone through place by place.
+pub(crate) const NARROW: usize = 8;
 
 /// Each element of one list with each element of another, the right one varying fastest.
 #[derive(Drop)]
@@ -81,7 +83,7 @@ impl<T: ElementType, U: ElementType, F: Dyadic> Kernel for EachPair<'_, T, U, F>
             return from;
         }
         let (x, others) = self.row_from(from, to);
-        from + write_pairs(x, others, self.function, room)
+        from + self.function.write_row(x, others, room)
     }
 }
 

@@ -1,19 +1,18 @@
 //! Reduction along an axis.
-ghost use Rattle.std.specs.Prelude.{◌≡◌, ℕ, ◌<◌, ◌≤◌, List, Result, IsTrue, length, remove, slice_index};
-ghost use Rattle.apl_array.specs.declared.array.Elem.{Elem};
+ghost use Rattle.std.specs.Prelude.{◌≡◌, ◌<◌, ◌≤◌, IsTrue, length, remove, slice_index};
+ghost use Rattle.apl_array.specs.declared.array.Elem.TheVariants.{Int};
 ghost use Rattle.apl_array.specs.declared.array.Kind.TheVariants.{Number};
-ghost use Rattle.apl_array.specs.Shape.{count_of, index_at};
 ghost use Rattle.apl_array.specs.Valences.{has_dyadic};
-ghost use Rattle.apl_pool.specs.declared.kernel.Fault.{Fault};
+ghost use Rattle.apl_answer.specs.Elements.{element_outcome};
 ghost use Rattle.apl_answer.specs.Pointwise.{answer_of, IsAnswerOf};
 ghost use Rattle.apl_answer.specs.Rows.{Answers};
-ghost use Rattle.apl_scalar.specs.Scalar.{as_element, identity_of};
+ghost use Rattle.apl_scalar.specs.Scalar.{identity_of};
 ghost use Rattle.apl_reduce.specs.Folding.{identity_or_fault, reduction};
 ghost use Rattle.apl_reduce.specs.Reducing.{items_along, reduce_row};
 
 use crate::axis_items::{AxisItems, fill_character_folds, fill_number_folds};
 use crate::workers::Workers;
-use apl_answer::{OpFault, array_from_fill, array_of_elements, fill_uniform};
+use apl_answer::{OpFault, array_from_fill, array_of_elements, constant_array};
 use apl_array::{
     Array, Axis, ScalarFunction, Shape, inserted_index_has_place, places_match_index_lists,
     replaced_index_has_place,
@@ -25,7 +24,7 @@ use std::thread::Threads;
 
 /// What the reduction of no element gives.
 fn identity_or_fault(f: ScalarFunction) -> Result<i64, Fault>
-    ensures { as_element result ≡ identity_or_fault (identity_of f) }
+    ensures { element_outcome Int result ≡ identity_or_fault (identity_of f) }
 {
     match identity(f) {
         Some(number) => Ok(number),
@@ -34,19 +33,6 @@ fn identity_or_fault(f: ScalarFunction) -> Result<i64, Fault>
 }
 
 impl<R: Threads + Sync, C: Cut + Sync, G: Gate + Sync> Workers<'_, R, C, G> {
-    /// The array of this shape with one number at all places, or the fault.
-    pub(crate) fn constant_array(
-        &self,
-        shape: Shape,
-        outcome: Result<i64, Fault>,
-    ) -> Result<Array, OpFault>
-        ensures { (at_index : List ℕ → Result Elem Fault) → ((place : ℕ) → place < count_of shape → as_element outcome ≡ at_index (index_at shape place))
-            → IsAnswerOf (answer_of shape at_index Number) result }
-    {
-        let filled = fill_uniform(self.rt, self.alloc, self.pool, shape.count(), outcome);
-        array_from_fill(shape, filled)
-    }
-
     /// The array of this shape with the folds along axis `k`, of two and more items each.
     fn fold(&self, shape: Shape, f: ScalarFunction, b: &Array, k: usize) -> Result<Array, OpFault>
         requires axis { k < length b.now.shape }
@@ -57,7 +43,7 @@ impl<R: Threads + Sync, C: Cut + Sync, G: Gate + Sync> Workers<'_, R, C, G> {
         inserted_index_has_place();
         places_match_index_lists();
         if shape.count() == 0 {
-            return self.constant_array(shape, Ok(0));
+            return constant_array(self.rt, self.alloc, self.pool, shape, Ok(0));
         }
         let filled = match b.numbers() {
             Some(numbers) => {
@@ -104,7 +90,7 @@ pub fn reduce<R: Threads + Sync, C: Cut + Sync, G: Gate + Sync>(
     inserted_index_has_place();
     replaced_index_has_place();
     match b.shape().axis(k) {
-        0 => workers.constant_array(shape, identity_or_fault(f)),
+        0 => constant_array(rt, alloc, pool, shape, identity_or_fault(f)),
         1 => array_of_elements(rt, alloc, pool, shape, b),
         _ => workers.fold(shape, f, b, k),
     }

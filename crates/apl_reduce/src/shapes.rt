@@ -4,7 +4,7 @@ ghost use Rattle.apl_array.specs.declared.array.Kind.TheVariants.{Number};
 ghost use Rattle.apl_array.specs.Array.{character_array};
 ghost use Rattle.apl_array.specs.Shape.{is_shape, count_of};
 ghost use Rattle.apl_pool.specs.declared.kernel.TheConstants.{MOST_PLACES};
-ghost use Rattle.apl_answer.specs.declared.fault.OpFault.TheVariants.{Limit, Memory};
+ghost use Rattle.apl_answer.specs.Pointwise.{IsShapeOf};
 
 use apl_answer::OpFault;
 use apl_array::{Array, Shape, joined_index_has_place};
@@ -12,9 +12,7 @@ use std::alloc::Global;
 
 /// The shape with the lengths of two. It is refused if it passes a limit (`Limit`).
 pub(crate) fn joined_shape(alloc: Global, left: &[usize], right: &[usize]) -> Result<Shape, OpFault>
-    ensures { MatchResult result
-        (λ shape. (is_shape (left.now ++ right.now) ≡ true) × (shape ≡ left.now ++ right.now))
-        (λ fault. (fault ≡ Memory) ⊎ ((fault ≡ Limit) × (is_shape (left.now ++ right.now) ≡ false))) }
+    ensures { IsShapeOf (left.now ++ right.now) result }
 {
     let mut lengths = left.to_vec(alloc)?;
     lengths.extend_from_slice(right)?;

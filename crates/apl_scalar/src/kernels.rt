@@ -100,10 +100,6 @@ impl<P: Results> Kernel for ResultsKernel<P> {
 
     #[inline(always)]
     fn write_run(&self, from: usize, to: usize, room: &mut [i64]) -> usize {
-        if P::have_runs() {
-            write_results(self.results, from, to, room)
-        } else {
-            from
-        }
+        write_results(self.results, from, to, room)
     }
 }

@@ -16,6 +16,7 @@ mod kernels;
 mod laws;
 mod operands;
 mod passes;
+mod rows;
 mod runs;
 mod truth;
 
@@ -24,3 +25,4 @@ pub use apl_array::ScalarFunction as Prim;
 pub use arrays::{dyadic, monadic};
 pub use elements::{apply1, apply2, dyadic_elements, identity};
 pub use laws::{answers_are_in_range, answers_are_within_limits};
+pub use rows::write_pairs;

@@ -1,10 +1,10 @@
 //! The arguments of a dyadic function in row order. An argument of one element that is extended is
 //! that element, and no list is read for it.
-ghost use Rattle.std.specs.Prelude.{◌≡◌, ℕ, ◌<◌, ◌≤◌, Bool, true, false, Ok, map, length};
+ghost use Rattle.std.specs.Prelude.{◌≡◌, ℕ, ◌<◌, ◌≤◌, true, false, Ok, map, length};
 ghost use Rattle.apl_pool.specs.declared.kernel.TheConstants.{MOST_PLACES};
-ghost use Rattle.apl_array.specs.Shape.{count_of, index_at};
-ghost use Rattle.apl_scalar.specs.Extension.{extended_shape, source_index};
-ghost use Rattle.apl_scalar.specs.Operands.{operand_at};
+ghost use Rattle.apl_array.specs.Shape.{count_of};
+ghost use Rattle.apl_scalar.specs.Extension.{extended_shape};
+ghost use Rattle.apl_scalar.specs.Operands.{ServesFor};
 
 use apl_answer::ElementType;
 use apl_array::{Array, Elem, Shape, places_match_index_lists};
@@ -75,8 +75,6 @@ pub(crate) struct Pairs<'a, T> {
 }
 
 impl<'a, T: ElementType> Pairs<'a, T> {
-    ghost use Rattle.apl_array.specs.Array.{element_at};
-
     /// The pairs of the elements of two arrays, which `shape` extends.
     pub(crate) fn new(
         left_array: &Array,
@@ -89,10 +87,8 @@ impl<'a, T: ElementType> Pairs<'a, T> {
         requires left { left_array.now.ravel ≡ map T.elem_of left.now }
         requires right { right_array.now.ravel ≡ map T.elem_of right.now }
         ensures count { result.count ≡ count_of shape.now }
-        ensures left { (place : ℕ) → place < count_of shape.now → operand_at (map T.elem_of result.left.now) result.left_is_whole place
-            ≡ element_at left_array.now (source_index left_array.now.shape shape.now (index_at shape.now place)) }
-        ensures right { (place : ℕ) → place < count_of shape.now → operand_at (map T.elem_of result.right.now) result.right_is_whole place
-            ≡ element_at right_array.now (source_index right_array.now.shape shape.now (index_at shape.now place)) }
+        ensures left { ServesFor (map T.elem_of result.left.now) result.left_is_whole left_array.now shape.now }
+        ensures right { ServesFor (map T.elem_of result.right.now) result.right_is_whole right_array.now shape.now }
     {
         places_match_index_lists();
         Pairs {

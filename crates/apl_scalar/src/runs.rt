@@ -29,7 +29,7 @@ pub(crate) trait Results: Copy {
         requires { place < served self.now }
         ensures { result.1 ≡ true → outcome self.now place ≡ Ok result.0 };
 
-    /// Whether runs are quicker than results one by one.
+    /// Whether the likely results have no branches, so that a run of them is quick.
     fn have_runs() -> bool;
 }
 
@@ -73,7 +73,7 @@ fn write_before_fault<P: Results>(results: P, from: usize, count: usize, room: &
 
 /// Writes a run of results into the room for the places from `from` up to before `to`. It answers the place at which it stopped: that of a
 /// fault, or where the run ends. If one of the run is not sure, the results up to `to` are written one by one, since the next runs tend to
-/// be like this one.
+/// be like this one. So are results that have no quick runs.
 #[inline(always)]
 pub(crate) fn write_results<P: Results>(
     results: P,
@@ -84,14 +84,14 @@ pub(crate) fn write_results<P: Results>(
     requires order { from ≤ to }
     requires places { to ≤ P.served results }
     requires most { to ≤ MOST_PLACES }
-    requires room { from + length room.old ≡ to }
+    requires room { to ≤ from + length room.old }
     ensures order { from ≤ result }
     ensures within { result ≤ to }
     ensures values { AreWritten (P.outcome results) from result room.new }
     ensures len { length room.new ≡ length room.old }
 {
     let count = (to - from).min(LONGEST_RUN);
-    if write_likely(results, from, count, room) {
+    if P::have_runs() && write_likely(results, from, count, room) {
         return from + count;
     }
     write_before_fault(results, from, to - from, room)
