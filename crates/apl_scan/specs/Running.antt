@@ -1,12 +1,20 @@
 -- What the numbers of a line before a place do, in lines of neighbours. No contract of a public function cites this file.
-use Rattle.std.specs.Prelude.{◌≡◌, ℕ, ℤ, ◌+◌, ◌*◌, ◌/◌, ◌%◌, ◌<◌, ◌≤◌, List, take, drop, length, Result, slice_index_or}
+use Rattle.std.specs.Prelude.{◌≡◌, ℕ, ℤ, ◌+◌, ◌-◌, ◌*◌, ◌/◌, ◌%◌, ◌<◌, ◌≤◌, ◌++◌, List, [], ◌∷◌, take, drop, length, Option, Result, slice_index_or}
 use Rattle.apl_pool.specs.declared.kernel.Fault.{Fault}
 use Rattle.apl_pool.specs.Summaries.{IsSummaryOf}
+use Rattle.apl_summary.specs.Running.{IsSummaryOrNone}
 use Rattle.apl_scan.specs.declared.chunks.TheConstants.{CHUNK}
 
 -- `count` numbers from place `first` on
 abbrev pub stretch : List ℤ → (first count : ℕ) → List ℤ
 stretch numbers first count = take count (drop first numbers)
+
+-- the numbers of its line before a place, of lines of `items` numbers, and those of the whole chunks before it
+abbrev pub line_before : List ℤ → (items place : ℕ) → List ℤ
+line_before numbers items place = stretch numbers (place - place % items) (place % items)
+
+abbrev pub chunks_before : List ℤ → (items place : ℕ) → List ℤ
+chunks_before numbers items place = stretch numbers (place - place % items) (place % items / CHUNK * CHUNK)
 
 -- where the chunk of a row begins: a line of `items` numbers has `per_line` chunks, a row each
 abbrev pub chunk_start : (items per_line row : ℕ) → ℕ
@@ -18,6 +26,10 @@ pub record IsChunkBefore (per_line items place row : ℕ) : Type 0 where
   pub chunk : row % per_line + 1 ≡ place % items / CHUNK
 
 module _ {S : Type 0} (step : ℤ → ℤ → Result ℤ Fault) (item_count : S → ℕ) (outcome : S → ℤ → Result ℤ Fault) where
+  -- the summary of whatever numbers are before, and of one more
+  abbrev pub IsWithNext : (before : Option S) → (number : ℤ) → S → Type 0
+  IsWithNext before number s = (numbers : List ℤ) → IsSummaryOrNone step item_count outcome numbers before → IsSummaryOf step item_count outcome s (numbers ++ number ∷ [])
+
   -- of the chunk of a row
   abbrev pub IsOfChunk : List ℤ → (items per_line row : ℕ) → S → Type 0
   IsOfChunk numbers items per_line row s = IsSummaryOf step item_count outcome s (stretch numbers (chunk_start items per_line row) CHUNK)

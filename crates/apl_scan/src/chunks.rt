@@ -88,7 +88,8 @@ pub(crate) fn summarize<
     chunks: &Chunks,
 ) -> Result<RowSummaries<BoundedSummary<S>>, Stop>
     ensures rows { IfOk result (λ f. vec_len f.summaries ≡ chunks.now.rows) }
-    ensures joined { IfOk result (λ f. AreUpToChunks S.step (λ k. S.item_count k.summary) (λ k. S.outcome k.summary) chunks.now.numbers.now chunks.now.items chunks.now.per_line chunks.now.rows f.summaries.items) }
+    ensures joined { let c = chunks.now in
+        IfOk result (λ f. AreUpToChunks S.step (λ k. S.item_count k.summary) (λ k. S.outcome k.summary) c.numbers.now c.items c.per_line c.rows f.summaries.items) }
     ensures memory { IfErr result (λ stop. stop ≡ Stop.Memory) }
 {
     let count = chunks.numbers.len();

@@ -1,8 +1,9 @@
 //! What some numbers do, and one more after them.
-ghost use Rattle.std.specs.Prelude.{◌≡◌, ◌+◌, ◌≤◌, ℤ, List, [], ◌∷◌, ◌++◌, IfSome};
+ghost use Rattle.std.specs.Prelude.{◌≡◌, ◌+◌, ◌≤◌, ℤ, List, IfSome};
 ghost use Rattle.apl_pool.specs.declared.kernel.TheConstants.{MOST_PLACES};
-ghost use Rattle.apl_pool.specs.Summaries.{fold_onto, IsSummaryOf};
+ghost use Rattle.apl_pool.specs.Summaries.{fold_onto};
 ghost use Rattle.apl_summary.specs.Running.{IsSummaryOrNone};
+ghost use Rattle.apl_scan.specs.Running.{IsWithNext};
 
 use crate::bounded_summary::BoundedSummary;
 use apl_pool::{Fault, Summary};
@@ -14,8 +15,7 @@ pub(crate) fn with_next<S: Summary<Item = i64> + Drop>(
     number: i64,
 ) -> BoundedSummary<S>
     requires { IfSome before.now (λ s. S.item_count s.summary + 1 ≤ MOST_PLACES) }
-    ensures { (numbers : List ℤ) → IsSummaryOrNone S.step (λ k. S.item_count k.summary) (λ k. S.outcome k.summary) numbers before.now
-        → IsSummaryOf S.step (λ k. S.item_count k.summary) (λ k. S.outcome k.summary) result (numbers ++ number ∷ []) }
+    ensures { IsWithNext S.step (λ k. S.item_count k.summary) (λ k. S.outcome k.summary) before.now number result }
 {
     let next = BoundedSummary::<S>::one(number);
     match before {

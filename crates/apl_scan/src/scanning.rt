@@ -1,19 +1,16 @@
 //! Scan along an axis.
-ghost use Rattle.std.specs.Prelude.{◌≡◌, ℕ, ◌<◌, ◌≤◌, List, Result, IsTrue, length, map, slice_index};
-ghost use Rattle.apl_array.specs.declared.array.Elem.{Elem};
+ghost use Rattle.std.specs.Prelude.{◌≡◌, ◌<◌, ◌≤◌, IsTrue, length, map, slice_index};
 ghost use Rattle.apl_array.specs.declared.array.Elem.TheVariants.{Int};
 ghost use Rattle.apl_array.specs.declared.array.Kind.TheVariants.{Number};
-ghost use Rattle.apl_array.specs.Shape.{count_of, index_at};
+ghost use Rattle.apl_array.specs.Shape.{count_of};
 ghost use Rattle.apl_array.specs.Valences.{has_dyadic};
-ghost use Rattle.apl_pool.specs.declared.kernel.Fault.{Fault};
 ghost use Rattle.apl_answer.specs.Pointwise.{answer_of, IsAnswerOf};
 ghost use Rattle.apl_answer.specs.Rows.{Answers};
 ghost use Rattle.apl_reduce.specs.Folding.{reduction};
-ghost use Rattle.apl_scalar.specs.Scalar.{as_element};
 ghost use Rattle.apl_scan.specs.Scanning.{items_up_to, scanned, scan_row};
 
 use crate::lines::{AxisLines, fill_scans};
-use apl_answer::{OpFault, array_from_fill, array_of_elements, fill_uniform};
+use apl_answer::{OpFault, array_from_fill, array_of_elements, constant_array};
 use apl_array::{
     Array, Axis, ScalarFunction, Shape, places_match_index_lists, replaced_index_has_place,
     split_index_has_place,
@@ -21,21 +18,6 @@ use apl_array::{
 use apl_pool::{Cut, Fault, Gate, Pool};
 use std::alloc::Global;
 use std::thread::Threads;
-
-/// The array of this shape with one number at all places, or the fault.
-fn constant_array<R: Threads + Sync, C: Cut + Sync, G: Gate + Sync>(
-    rt: &R,
-    alloc: Global,
-    pool: &Pool<C, G>,
-    shape: Shape,
-    outcome: Result<i64, Fault>,
-) -> Result<Array, OpFault>
-    ensures { (at_index : List ℕ → Result Elem Fault) → ((place : ℕ) → place < count_of shape → as_element outcome ≡ at_index (index_at shape place))
-        → IsAnswerOf (answer_of shape at_index Number) result }
-{
-    let filled = fill_uniform(rt, alloc, pool, shape.count(), outcome);
-    array_from_fill(shape, filled)
-}
 
 /// The scan of numbers along axis `k`, of two and more items.
 fn scan_numbers<R: Threads + Sync, C: Cut + Sync, G: Gate + Sync>(

@@ -1,5 +1,5 @@
 //! The folds of numbers up to each place of lines of neighbours, by summaries.
-ghost use Rattle.std.specs.Prelude.{◌≡◌, ℕ, true, pos, ◌+◌, ◌-◌, ◌*◌, ◌/◌, ◌%◌, ◌<◌, ◌≤◌, ◌++◌, IfOk, IfErr, IfSome, MatchOption, length, replicate, vec_len, vec_capacity};
+ghost use Rattle.std.specs.Prelude.{◌≡◌, ℕ, true, ◌+◌, ◌-◌, ◌*◌, ◌/◌, ◌%◌, ◌<◌, ◌≤◌, IfOk, IfErr, IfSome, MatchOption, length, vec_len};
 ghost use Rattle.apl_pool.specs.declared.kernel.TheConstants.{MOST_PLACES};
 ghost use Rattle.apl_pool.specs.Pool.{AreValues, IsStopOf};
 ghost use Rattle.apl_pool.specs.Runs.{AreWritten};
@@ -8,7 +8,7 @@ ghost use Rattle.apl_summary.specs.Functions.{has_summary};
 ghost use Rattle.apl_summary.specs.Running.{IsSummaryOrNone};
 ghost use Rattle.apl_scan.specs.declared.chunks.TheConstants.{CHUNK};
 ghost use Rattle.apl_scan.specs.Lines.{scan_at};
-ghost use Rattle.apl_scan.specs.Running.{stretch, IsChunkBefore, AreUpToChunks};
+ghost use Rattle.apl_scan.specs.Running.{line_before, chunks_before, IsChunkBefore, AreUpToChunks};
 
 use crate::bounded_summary::BoundedSummary;
 use crate::chunks::{CHUNK, Chunks, summarize};
@@ -36,17 +36,6 @@ struct Scans<'a, S: Summary<Item = i64>> {
     ghost joined: { AreUpToChunks S.step (λ k. S.item_count k.summary) (λ k. S.outcome k.summary) numbers.now items per_line (length beginnings.now) beginnings.now },
 }
 
-/// Puts `len` ones after other values. They are no zeros: for these the compiler calls `memset`, which takes longer than a loop.
-fn append_ones(values: &mut Vec<i64>, len: usize)
-    requires { vec_len values.old + len ≤ vec_capacity values.old }
-    ensures items { values.new.items ≡ values.old.items ++ replicate len (pos 1) }
-    ensures capacity { vec_capacity values.new ≡ vec_capacity values.old }
-{
-    for _more in 0..len {
-        values.push_reserved(1);
-    }
-}
-
 impl<S: Running + Copy + Drop> Scans<'_, S> {
     /// The row of the last whole chunk of a line before a place, if there is one.
     fn chunk_before(&self, place: usize) -> Option<usize>
@@ -64,7 +53,7 @@ impl<S: Running + Copy + Drop> Scans<'_, S> {
     /// The summary of the whole chunks of a line before a place, if there are some.
     fn chunks_before(&self, place: usize) -> Option<BoundedSummary<S>>
         requires { place < length self.now.numbers.now }
-        ensures { IsSummaryOrNone S.step (λ k. S.item_count k.summary) (λ k. S.outcome k.summary) (stretch self.now.numbers.now (place - place % self.now.items) (place % self.now.items / CHUNK * CHUNK)) result }
+        ensures { IsSummaryOrNone S.step (λ k. S.item_count k.summary) (λ k. S.outcome k.summary) (chunks_before self.now.numbers.now self.now.items place) result }
     {
         let beginnings = self.beginnings;
         match self.chunk_before(place) {
@@ -76,7 +65,7 @@ impl<S: Running + Copy + Drop> Scans<'_, S> {
     /// The summary of the numbers of a line before a place, if there are some.
     fn before(&self, place: usize) -> Option<BoundedSummary<S>>
         requires { place < length self.now.numbers.now }
-        ensures { IsSummaryOrNone S.step (λ k. S.item_count k.summary) (λ k. S.outcome k.summary) (stretch self.now.numbers.now (place - place % self.now.items) (place % self.now.items)) result }
+        ensures { IsSummaryOrNone S.step (λ k. S.item_count k.summary) (λ k. S.outcome k.summary) (line_before self.now.numbers.now self.now.items place) result }
     {
         let rest = self.items.remainder(place) % CHUNK;
         let mut running = self.chunks_before(place);
@@ -110,7 +99,7 @@ impl<S: Running + Copy + Drop> Scans<'_, S> {
     ) -> usize
         requires within { from + length room.old ≤ length self.now.numbers.now }
         requires line { from % self.now.items + length room.old ≤ self.now.items }
-        requires running { IsSummaryOrNone S.step (λ k. S.item_count k.summary) (λ k. S.outcome k.summary) (stretch self.now.numbers.now (from - from % self.now.items) (from % self.now.items)) running.now }
+        requires running { IsSummaryOrNone S.step (λ k. S.item_count k.summary) (λ k. S.outcome k.summary) (line_before self.now.numbers.now self.now.items from) running.now }
         ensures most { result ≤ length room.old }
         ensures values { AreWritten (scan_at S.step self.now.numbers.now self.now.items 1) from (from + result) room.new }
         ensures len { length room.new ≡ length room.old }
@@ -217,13 +206,9 @@ fn put_line<S: Running>(alloc: Global, numbers: &[i64]) -> Result<Option<Vec<i64
     requires some { 0 < length numbers.now }
     ensures { IfOk result (λ line. IfSome line (λ v. AreValues (scan_at S.step numbers.now (length numbers.now) 1) (length numbers.now) v.items)) }
 {
-    let mut first = [0];
-    if S::scan_run(&None, &numbers[..1], &mut first) == 0 {
-        return Ok(None);
-    }
-    let mut values = Vec::with_capacity(alloc, numbers.len())?;
-    append_ones(&mut values, numbers.len());
-    if S::scan_run(&None, numbers, values.as_mut_slice()) < numbers.len() {
+    let room = Vec::with_capacity(alloc, numbers.len())?;
+    let values = S::append_scan(numbers, room);
+    if values.len() < numbers.len() {
         return Ok(None);
     }
     Ok(Some(values))

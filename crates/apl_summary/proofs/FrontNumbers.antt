@@ -1,6 +1,7 @@
 -- The numbers in front of others, and one more.
 use Rattle.std.proofs.Common.{◌≡◌, ℕ, suc, ℤ, pos, ◌+◌, ◌<◌, List, [], ◌∷◌, ◌++◌, length, take, Result, Ok, Err, slice_index_or, slice_set, refl, sym, ap, ◌∙◌, ⊎_elim, arith, take-suc, get_or-set_same, get_or-set_other}
 use Rattle.std.proofs.lemmas.Bool.{cases_lt}
+use Rattle.std.proofs.lemmas.List.{get_or_append_left, get_or_push}
 use Rattle.apl_pool.specs.declared.kernel.Fault.{Fault}
 use Rattle.apl_pool.specs.Summaries.{and_then, fold_onto}
 use Rattle.apl_summary.specs.Running.{AreFoldsBehind}
@@ -41,4 +42,16 @@ one_more_put step before numbers room k value here is are = λ j d inside.
     let same : j ≡ k = omega (arith, inside, last) in
     ap (λ n. fold_onto step (before ++ take n numbers) (slice_index_or numbers n (pos 0))) same ∙ is
     ∙ ap (λ (z : ℤ). Ok z) (sym (get_or-set_same room k value d here) ∙ ap (λ n. slice_index_or (slice_set room k value) n d) (sym same)))
+    (cases_lt j k)
+
+pub one_more_appended : (step : ℤ → ℤ → Result ℤ Fault) (before numbers values : List ℤ) (k : ℕ) (value : ℤ) → length values ≡ k
+    → fold_onto step (before ++ take k numbers) (slice_index_or numbers k (pos 0)) ≡ Ok value
+    → AreFoldsBehind step before numbers k values → AreFoldsBehind step before numbers (k + 1) (values ++ value ∷ [])
+one_more_appended step before numbers values k value len is are = λ j d inside.
+    ⊎_elim
+    (λ less. are j d less ∙ ap (λ (z : ℤ). Ok z) (sym (get_or_append_left values (value ∷ []) d j (omega (arith, less, len)))))
+    (λ last.
+    let same : j ≡ k = omega (arith, inside, last) in
+    ap (λ n. fold_onto step (before ++ take n numbers) (slice_index_or numbers n (pos 0))) same ∙ is
+    ∙ ap (λ (z : ℤ). Ok z) (sym (get_or_push values value d j (len ∙ sym same))))
     (cases_lt j k)

@@ -150,12 +150,16 @@ sum_front is_plus is_negated total least greatest x numbers is = record {
 
 -- ---- bits
 
-abbrev answer_for : (for_zero for_one : Bool) → ℤ → Bool
+abbrev pub answer_for : (for_zero for_one : Bool) → ℤ → Bool
 answer_for for_zero for_one z = if is_one z then for_one else for_zero
 
-at_bit : (f : ScalarFunction) (for_zero for_one t : Bool) (numbers : List ℤ) → AreRunningBits f for_zero for_one numbers → fold_onto (dyadic_numbers f) numbers (bit t) ≡ Ok (bit (answer_for for_zero for_one (bit t)))
+pub at_bit : (f : ScalarFunction) (for_zero for_one t : Bool) (numbers : List ℤ) → AreRunningBits f for_zero for_one numbers → fold_onto (dyadic_numbers f) numbers (bit t) ≡ Ok (bit (answer_for for_zero for_one (bit t)))
 at_bit f for_zero for_one true numbers are = are.one_is
 at_bit f for_zero for_one false numbers are = are.zero_is
+
+pub bit_is : (t : Bool) (x : ℤ) → x ≡ bit t → x ≡ bit (is_one x)
+bit_is true x is = rw is refl
+bit_is false x is = rw is refl
 
 -- what a number answers for one on its right is a bit
 pub bits_front : (f : ScalarFunction) (for_zero for_one : Bool) (x right z : ℤ) (numbers : List ℤ) → is_two_valued f ≡ true → dyadic_numbers f x right ≡ Ok z → AreRunningBits f for_zero for_one numbers

@@ -1,5 +1,5 @@
 -- What is known of the numbers before others. No contract of a public function cites this file.
-use Rattle.std.specs.Prelude.{◌≡◌, ℕ, ◌+◌, ◌-◌, ◌*◌, ◌≤◌, Bool, true, false, ◌&&◌, ℤ, pos, negsuc, neg_ℤ, ◌+ℤ◌, ◌-ℤ◌, ◌*ℤ◌, ◌≤ℤ◌, int_le, unsigned_abs, List, Result, Ok, Err, if◌then◌else◌}
+use Rattle.std.specs.Prelude.{◌≡◌, ℕ, ◌+◌, ◌-◌, ◌*◌, ◌≤◌, Bool, true, false, ◌&&◌, ℤ, pos, negsuc, neg_ℤ, ◌+ℤ◌, ◌-ℤ◌, ◌*ℤ◌, ◌≤ℤ◌, int_le, unsigned_abs, List, [], ◌∷◌, ◌++◌, Result, Ok, Err, if◌then◌else◌}
 use Rattle.apl_array.specs.declared.function.ScalarFunction.{ScalarFunction}
 use Rattle.apl_array.specs.declared.function.ScalarFunction.TheVariants.{Times}
 use Rattle.apl_array.specs.Range.{least_number, greatest_number}
@@ -12,6 +12,7 @@ use Rattle.apl_summary.specs.declared.constants.Bounds.{Bounds}
 use Rattle.apl_summary.specs.declared.constants.Constants.{Constants}
 use Rattle.apl_summary.specs.Constants.{bounds, of_both, signed_function}
 use Rattle.apl_summary.specs.Extremes.{extreme_function, extreme_of_two}
+use Rattle.apl_summary.specs.Running.{AreFoldsBehind}
 
 -- ---- sums and differences
 
@@ -48,6 +49,15 @@ pub record IsBoundedSum (is_plus is_negated : Bool) (total slack : ℤ) (numbers
   pub only_plus : is_plus ≡ true → is_negated ≡ false
   pub adds : (right : ℤ) → neg_ℤ slack ≤ℤ right → right ≤ℤ slack → fold_onto (dyadic_numbers (signed_function is_plus)) numbers right ≡ Ok (signed_total is_negated total right)
 
+-- of whatever numbers the first are the running sum, the others are the bounded sum
+abbrev pub IsBoundOf : (is_plus is_negated : Bool) → (total least greatest : ℤ) → (negated : Bool) → (sum slack : ℤ) → Type 0
+IsBoundOf is_plus is_negated total least greatest negated sum slack = (numbers : List ℤ) → IsRunningSum is_plus is_negated total least greatest numbers → IsBoundedSum is_plus negated sum slack numbers
+
+-- The first `count` values are the sums, or differences, of all numbers up to each of these. The running sum is of the numbers before them
+abbrev pub AreSumsAfter : (is_plus is_negated : Bool) → (total least greatest : ℤ) → (numbers : List ℤ) → (count : ℕ) → (values : List ℤ) → Type 0
+AreSumsAfter is_plus is_negated total least greatest numbers count values =
+    (before : List ℤ) → IsRunningSum is_plus is_negated total least greatest before → AreFoldsBehind (dyadic_numbers (signed_function is_plus)) before numbers count values
+
 -- ---- products
 
 -- the product of the numbers; a number after them of which the magnitude times `most` is in the range is refused by no end of them
@@ -64,6 +74,18 @@ IsRunningExtreme is_least item numbers = (right : ℤ) → IsI64 right → fold_
 pub record AreRunningBits (f : ScalarFunction) (for_zero for_one : Bool) (numbers : List ℤ) : Type 0 where
   pub zero_is : fold_onto (dyadic_numbers f) numbers (pos 0) ≡ Ok (bit for_zero)
   pub one_is : fold_onto (dyadic_numbers f) numbers (pos 1) ≡ Ok (bit for_one)
+
+-- of whatever numbers answer so for 0 and for 1, with one more item they answer so
+abbrev pub AreNextBits : ScalarFunction → (for_zero for_one : Bool) → (item : ℤ) → (next_zero next_one : Bool) → Type 0
+AreNextBits f for_zero for_one item next_zero next_one = (numbers : List ℤ) → AreRunningBits f for_zero for_one numbers → AreRunningBits f next_zero next_one (numbers ++ item ∷ [])
+
+-- of whatever numbers answer so, this is what they answer for what comes in
+abbrev pub IsBitsAnswer : ScalarFunction → (for_zero for_one : Bool) → (right answer : ℤ) → Type 0
+IsBitsAnswer f for_zero for_one right answer = (numbers : List ℤ) → AreRunningBits f for_zero for_one numbers → fold_onto (dyadic_numbers f) numbers right ≡ Ok answer
+
+-- and this is what they answer with one more item
+abbrev pub IsNextAnswer : ScalarFunction → (for_zero for_one : Bool) → (item right answer : ℤ) → Type 0
+IsNextAnswer f for_zero for_one item right answer = (numbers : List ℤ) → AreRunningBits f for_zero for_one numbers → fold_onto (dyadic_numbers f) (numbers ++ item ∷ []) right ≡ Ok answer
 
 -- the items at the places from `from` up to before `to`, and what they answer for 0 and for 1
 pub record AreBitsFrom (f : ScalarFunction) (outcome : ℕ → Result ℤ Fault) (from to : ℕ) (for_zero for_one : Bool) : Type 0 where

@@ -11,3 +11,7 @@ AreFoldsBehind step before numbers count values = (k : ℕ) (d : ℤ) → k < co
 abbrev pub IsSummaryOrNone : {S : Type 0} → (ℤ → ℤ → Result ℤ Fault) → (item_count : S → ℕ) → (outcome : S → ℤ → Result ℤ Fault) → List ℤ → Option S → Type 0
 IsSummaryOrNone step item_count outcome numbers (Some s) = IsSummaryOf step item_count outcome s numbers
 IsSummaryOrNone step item_count outcome numbers None = numbers ≡ []
+
+-- The first `count` values are the folds of all numbers up to each of these. The summary, if there is one, is of the numbers before them
+abbrev pub AreFoldsAfter : {S : Type 0} → (ℤ → ℤ → Result ℤ Fault) → (item_count : S → ℕ) → (outcome : S → ℤ → Result ℤ Fault) → Option S → (numbers : List ℤ) → (count : ℕ) → (values : List ℤ) → Type 0
+AreFoldsAfter step item_count outcome summary numbers count values = (before : List ℤ) → IsSummaryOrNone step item_count outcome before summary → AreFoldsBehind step before numbers count values

@@ -1,13 +1,13 @@
 //! Sums of all numbers up to each, or differences, while the numbers are so small together that none is refused.
-ghost use Rattle.std.specs.Prelude.{◌≡◌, ℕ, ℤ, pos, neg_ℤ, ◌-ℤ◌, ◌≤ℤ◌, ◌≤◌, List, nat_eq, IfSome, length};
+ghost use Rattle.std.specs.Prelude.{◌≡◌, ℕ, ℤ, pos, neg_ℤ, ◌-ℤ◌, ◌≤ℤ◌, ◌≤◌, [], nat_eq, IfSome, length, vec_len, vec_capacity};
 ghost use Rattle.apl_pool.specs.Summaries.{IsI64};
 ghost use Rattle.apl_scalar.specs.Scalar.{dyadic_numbers};
 ghost use Rattle.apl_summary.specs.Constants.{signed_function};
 ghost use Rattle.apl_summary.specs.Running.{AreFoldsBehind};
-ghost use Rattle.apl_summary.specs.Fronts.{signed_total, IsRunningSum, IsBoundedSum};
+ghost use Rattle.apl_summary.specs.Fronts.{signed_total, IsBoundedSum, IsBoundOf, AreSumsAfter};
 
 use crate::range::{greater_of, lesser_of};
-use crate::running::{PrefixState, scan_run_after};
+use crate::running::{PrefixState, append_scan_after, scan_run_after};
 use crate::running_sum::{RunningSum, is_minus};
 
 /// The fold of numbers by `+` if `MINUS` is 0, else by `-`, and how far that of every end of them stays within the range.
@@ -31,10 +31,11 @@ fn magnitude_within(number: i64, most: i64) -> Option<i64>
     ensures least { IfSome result (λ m. neg_ℤ m ≤ℤ number) }
     ensures greatest { IfSome result (λ m. number ≤ℤ m) }
 {
-    if number < -most || number > most {
+    let magnitude = number.unsigned_abs();
+    if magnitude > most as u64 {
         return None;
     }
-    Some(if number < 0 { -number } else { number })
+    Some(magnitude as i64)
 }
 
 /// How far the numbers from one that is not above 0 to one that is not below 0 are within the range.
@@ -63,9 +64,20 @@ fn total_with(is_negated: bool, total: i64, number: i64) -> i64
 }
 
 impl<const MINUS: u8> BoundedSum<MINUS> {
+    /// The bounded sum of no number.
+    fn none() -> Self
+        ensures { IsBoundedSum (nat_eq MINUS 0) result.is_negated result.total result.slack [] }
+    {
+        BoundedSum {
+            total: 0,
+            is_negated: false,
+            slack: i64::MAX,
+        }
+    }
+
     /// The bounded sum of the numbers of this running sum, if it can be told.
     fn of(sum: &RunningSum<MINUS>) -> Option<Self>
-        ensures { IfSome result (λ s. (numbers : List ℤ) → IsRunningSum (nat_eq MINUS 0) sum.now.is_negated sum.now.total sum.now.least sum.now.greatest numbers → IsBoundedSum (nat_eq MINUS 0) s.is_negated s.total s.slack numbers) }
+        ensures { IfSome result (λ s. IsBoundOf (nat_eq MINUS 0) sum.now.is_negated sum.now.total sum.now.least sum.now.greatest s.is_negated s.total s.slack) }
     {
         let least = lesser_of(sum.least, sum.total);
         let greatest = greater_of(sum.greatest, sum.total);
@@ -115,7 +127,7 @@ pub fn put_sums_behind<const MINUS: u8>(
 ) -> usize
     requires { length numbers.now ≡ length room.old }
     ensures most { result ≤ length room.old }
-    ensures folds { (before : List ℤ) → IsRunningSum (nat_eq MINUS 0) front.entry.is_negated front.entry.total front.entry.least front.entry.greatest before → AreFoldsBehind (dyadic_numbers (signed_function (nat_eq MINUS 0))) before numbers.now result room.new }
+    ensures folds { AreSumsAfter (nat_eq MINUS 0) front.entry.is_negated front.entry.total front.entry.least front.entry.greatest numbers.now result room.new }
     ensures len { length room.new ≡ length room.old }
 {
     if let Some(bounded) = BoundedSum::<MINUS>::of(&front) {
@@ -125,4 +137,20 @@ pub fn put_sums_behind<const MINUS: u8>(
         }
     }
     scan_run_after(front, numbers, room)
+}
+
+/// Puts the folds by `+` or `-` of all numbers up to each into a list that is empty and has room for them. It stops before the first that
+/// it can't tell.
+pub fn append_sums<const MINUS: u8>(numbers: &[i64], values: Vec<i64>) -> Vec<i64>
+    requires empty { vec_len values ≡ 0 }
+    requires room { length numbers.now ≤ vec_capacity values }
+    ensures most { vec_len result ≤ length numbers.now }
+    ensures folds { AreFoldsBehind (dyadic_numbers (signed_function (nat_eq MINUS 0))) [] numbers.now (vec_len result) result.items }
+{
+    let mut values = append_scan_after(BoundedSum::<MINUS>::none(), numbers, values);
+    if values.len() == numbers.len() {
+        return values;
+    }
+    values.clear();
+    append_scan_after(RunningSum::<MINUS>::none(), numbers, values)
 }

@@ -3,7 +3,7 @@ ghost use Rattle.std.specs.Prelude.{◌≡◌, ℕ};
 ghost use Rattle.apl_pool.specs.Summaries.{IsI64};
 
 use crate::extremum::{Extremum, extremum_of_run};
-use crate::running::{Running, scan_run_after};
+use crate::running::{Running, append_scan_after, scan_run_after};
 use crate::running_extreme::RunningExtreme;
 use apl_pool::{Fault, Kernel, Summary};
 
@@ -63,5 +63,9 @@ impl<const GREATEST: u8> Running for Extreme<GREATEST> {
             },
         };
         scan_run_after(front, numbers, room)
+    }
+
+    fn append_scan(numbers: &[i64], values: Vec<i64>) -> Vec<i64> {
+        append_scan_after(RunningExtreme::<GREATEST>::none(), numbers, values)
     }
 }

@@ -1,11 +1,11 @@
 //! The least or the greatest of items.
-ghost use Rattle.std.specs.Prelude.{◌≡◌, ℕ, ℤ, ◌+◌, ◌-◌, ◌*◌, ◌^◌, ◌<◌, ◌≤◌, Ok, IfSome};
+ghost use Rattle.std.specs.Prelude.{◌≡◌, ℕ, ◌+◌, ◌-◌, ◌*◌, ◌^◌, ◌<◌, ◌≤◌, Ok, IfSome};
 ghost use Rattle.apl_pool.specs.declared.kernel.TheConstants.{MOST_PLACES};
 ghost use Rattle.apl_pool.specs.declared.summary.TheConstants.{LONGEST_RUN};
 ghost use Rattle.apl_pool.specs.Summaries.{IsI64, IsSummaryFrom};
 ghost use Rattle.apl_scalar.specs.Scalar.{dyadic_numbers};
 ghost use Rattle.apl_summary.specs.Extremes.{extreme_function, extreme_of_two, extreme_outcome, extremum_of_one, extremum_of_both};
-ghost use Rattle.apl_summary.specs.ExtremeRuns.{IsBehindExtremum};
+ghost use Rattle.apl_summary.specs.ExtremeRuns.{IsBehindExtremum, IsExtremeOfPair};
 
 use crate::range::{greater_of, lesser_of};
 use apl_pool::Kernel;
@@ -73,7 +73,7 @@ fn item_at<K: Kernel<Out = i64>>(kernel: &K, place: usize) -> Option<i64>
 fn pair_at<K: Kernel<Out = i64>>(is_least: bool, kernel: &K, place: usize) -> Option<i64>
     requires places { place + 2 ≤ K.place_count kernel.now }
     requires fits { place + 2 < 2 ^ 64 }
-    ensures { IfSome result (λ pair. (x y : ℤ) × (K.outcome kernel.now place ≡ Ok x) × (K.outcome kernel.now (place + 1) ≡ Ok y) × IsI64 x × IsI64 y × (pair ≡ extreme_of_two is_least x y)) }
+    ensures { IfSome result (IsExtremeOfPair is_least (K.outcome kernel.now) place) }
 {
     let first = item_at(kernel, place)?;
     let second = item_at(kernel, place + 1)?;

@@ -1,12 +1,10 @@
 //! Folds of rows by their summaries.
-ghost use Rattle.std.specs.Prelude.{◌≡◌, ℕ, ℤ, ◌<◌, ◌≤◌, true, List, Result, IfOk, IfErr, slice_index_or};
-ghost use Rattle.apl_pool.specs.declared.kernel.Fault.{Fault};
+ghost use Rattle.std.specs.Prelude.{◌≡◌, ℤ, ◌<◌, ◌≤◌, true, List};
 ghost use Rattle.apl_pool.specs.declared.kernel.TheConstants.{MOST_PLACES};
-ghost use Rattle.apl_pool.specs.Pool.{AreValues, IsStopOf};
 ghost use Rattle.apl_pool.specs.Summaries.{and_then, fold_onto, IsSummaryOf, AreFolds};
 ghost use Rattle.apl_scalar.specs.Scalar.{dyadic_numbers};
 ghost use Rattle.apl_summary.specs.Functions.{has_summary};
-ghost use Rattle.apl_summary.specs.RowFolds.{AreRowFolds, stop_at_row};
+ghost use Rattle.apl_summary.specs.RowFolds.{HasRowFolds, HasRowStop, stop_at_row};
 
 use crate::with_summary;
 use apl_array::ScalarFunction;
@@ -65,8 +63,8 @@ fn row_folds<S: Summary<Item = i64> + Drop, K: FoldedRows>(
 ) -> Result<Vec<i64>, Stop>
     requires most { K.row_count rows.now ≤ MOST_PLACES }
     requires folds { AreFolds S.step S.item_count S.outcome (K.outcome rows.now) (K.row_count rows.now) (K.place_count rows.now) folds.summaries.items folds.end }
-    ensures values { (outcome : ℕ → Result ℤ Fault) → AreRowFolds S.step (K.outcome rows.now) (K.row_count rows.now) (K.place_count rows.now) (K.incoming rows.now) outcome → IfOk result (λ v. AreValues outcome (K.row_count rows.now) v.items) }
-    ensures stop { (outcome : ℕ → Result ℤ Fault) → AreRowFolds S.step (K.outcome rows.now) (K.row_count rows.now) (K.place_count rows.now) (K.incoming rows.now) outcome → IfErr result (IsStopOf outcome (K.row_count rows.now)) }
+    ensures values { HasRowFolds S.step (K.outcome rows.now) (K.row_count rows.now) (K.place_count rows.now) (K.incoming rows.now) result }
+    ensures stop { HasRowStop S.step (K.outcome rows.now) (K.row_count rows.now) (K.place_count rows.now) (K.incoming rows.now) result }
 {
     let summaries = folds.summaries.as_slice();
     let mut numbers = Vec::with_capacity(alloc, summaries.len())?;
@@ -95,8 +93,8 @@ fn fold_rows_by_summary<
 >(rt: &R, alloc: Global, pool: &Pool<C, G>, rows: &K) -> Result<Vec<i64>, Stop>
     requires some { 0 < K.place_count rows.now }
     requires most { K.row_count rows.now ≤ MOST_PLACES }
-    ensures values { (outcome : ℕ → Result ℤ Fault) → AreRowFolds S.step (K.outcome rows.now) (K.row_count rows.now) (K.place_count rows.now) (K.incoming rows.now) outcome → IfOk result (λ v. AreValues outcome (K.row_count rows.now) v.items) }
-    ensures stop { (outcome : ℕ → Result ℤ Fault) → AreRowFolds S.step (K.outcome rows.now) (K.row_count rows.now) (K.place_count rows.now) (K.incoming rows.now) outcome → IfErr result (IsStopOf outcome (K.row_count rows.now)) }
+    ensures values { HasRowFolds S.step (K.outcome rows.now) (K.row_count rows.now) (K.place_count rows.now) (K.incoming rows.now) result }
+    ensures stop { HasRowStop S.step (K.outcome rows.now) (K.row_count rows.now) (K.place_count rows.now) (K.incoming rows.now) result }
 {
     let folds: RowSummaries<S> = pool.fold_rows(rt, alloc, rows);
     row_folds(alloc, rows, folds)
@@ -115,8 +113,8 @@ pub fn fold_rows<R: Threads + Sync, C: Cut + Sync, G: Gate + Sync, K: FoldedRows
     requires summary { has_summary function ≡ true }
     requires some { 0 < K.place_count rows.now }
     requires most { K.row_count rows.now ≤ MOST_PLACES }
-    ensures values { (outcome : ℕ → Result ℤ Fault) → AreRowFolds (dyadic_numbers function) (K.outcome rows.now) (K.row_count rows.now) (K.place_count rows.now) (K.incoming rows.now) outcome → IfOk result (λ v. AreValues outcome (K.row_count rows.now) v.items) }
-    ensures stop { (outcome : ℕ → Result ℤ Fault) → AreRowFolds (dyadic_numbers function) (K.outcome rows.now) (K.row_count rows.now) (K.place_count rows.now) (K.incoming rows.now) outcome → IfErr result (IsStopOf outcome (K.row_count rows.now)) }
+    ensures values { HasRowFolds (dyadic_numbers function) (K.outcome rows.now) (K.row_count rows.now) (K.place_count rows.now) (K.incoming rows.now) result }
+    ensures stop { HasRowStop (dyadic_numbers function) (K.outcome rows.now) (K.row_count rows.now) (K.place_count rows.now) (K.incoming rows.now) result }
 {
     with_summary!(
         function,

@@ -1,8 +1,8 @@
 //! Numbers after others, each folded with all before it.
-ghost use Rattle.std.specs.Prelude.{◌≡◌, ◌≤◌, ℕ, ℤ, List, [], ◌∷◌, ◌++◌, Result, Ok, IfSome, length};
+ghost use Rattle.std.specs.Prelude.{◌≡◌, ◌≤◌, ℕ, ℤ, List, [], ◌∷◌, ◌++◌, Result, Ok, IfSome, length, vec_len, vec_capacity};
 ghost use Rattle.apl_pool.specs.declared.kernel.Fault.{Fault};
 ghost use Rattle.apl_pool.specs.Summaries.{fold_onto};
-ghost use Rattle.apl_summary.specs.Running.{AreFoldsBehind, IsSummaryOrNone};
+ghost use Rattle.apl_summary.specs.Running.{AreFoldsBehind, AreFoldsAfter};
 
 use apl_pool::{Fault, Summary};
 
@@ -14,11 +14,21 @@ pub trait Running: Summary<Item = i64> {
     fn scan_run(_before: &Option<Self>, _numbers: &[i64], _room: &mut [i64]) -> usize
         requires { length _numbers.now ≡ length _room.old }
         ensures most { result ≤ length _room.old }
-        ensures folds { (before : List ℤ) → IsSummaryOrNone Self.Summary.step Self.Summary.item_count Self.Summary.outcome before _before.now
-            → AreFoldsBehind Self.Summary.step before _numbers.now result _room.new }
+        ensures folds { AreFoldsAfter Self.Summary.step Self.Summary.item_count Self.Summary.outcome _before.now _numbers.now result _room.new }
         ensures len { length _room.new ≡ length _room.old }
     {
         0
+    }
+
+    /// Puts the folds of all numbers up to each into a list that is empty and has room for them. It puts the first of them, all or fewer,
+    /// and takes no memory.
+    fn append_scan(_numbers: &[i64], values: Vec<i64>) -> Vec<i64>
+        requires empty { vec_len values ≡ 0 }
+        requires room { length _numbers.now ≤ vec_capacity values }
+        ensures most { vec_len result ≤ length _numbers.now }
+        ensures folds { AreFoldsBehind Self.Summary.step [] _numbers.now (vec_len result) result.items }
+    {
+        values
     }
 }
 
@@ -56,4 +66,33 @@ pub fn scan_run_after<F: PrefixState + Drop>(front: F, numbers: &[i64], room: &m
         }
     }
     room.len()
+}
+
+/// Puts the folds of all numbers up to each into a list that is empty and has room for them. The front is of no
+/// number. It stops before the first that this can't tell.
+#[inline(always)]
+pub fn append_scan_after<F: PrefixState + Drop>(
+    front: F,
+    numbers: &[i64],
+    values: Vec<i64>,
+) -> Vec<i64>
+    requires none { F.is_of front [] }
+    requires empty { vec_len values ≡ 0 }
+    requires room { length numbers.now ≤ vec_capacity values }
+    ensures most { vec_len result ≤ length numbers.now }
+    ensures folds { AreFoldsBehind F.step [] numbers.now (vec_len result) result.items }
+    ensures capacity { vec_capacity result ≡ vec_capacity values }
+{
+    let mut state = front;
+    let mut values = values;
+    for k in 0..numbers.len() {
+        match state.with(numbers[k]) {
+            Some((value, next)) => {
+                values.push_reserved(value);
+                state = next;
+            }
+            None => return values,
+        }
+    }
+    values
 }

@@ -1,10 +1,10 @@
 //! What bits answer for the next one, under a function with two values.
-ghost use Rattle.std.specs.Prelude.{◌≡◌, ◌-◌, ◌<◌, ◌≤◌, ℤ, pos, List, [], ◌∷◌, ◌++◌, Ok, IfSome, if◌then◌else◌};
+ghost use Rattle.std.specs.Prelude.{◌≡◌, ◌-◌, ◌<◌, ◌≤◌, pos, [], Ok, IfSome, if◌then◌else◌};
 ghost use Rattle.apl_pool.specs.declared.summary.TheConstants.{LONGEST_RUN};
-ghost use Rattle.apl_pool.specs.Summaries.{fold_onto, IsSummaryFrom};
+ghost use Rattle.apl_pool.specs.Summaries.{IsSummaryFrom};
 ghost use Rattle.apl_scalar.specs.Scalar.{bit, is_one, dyadic_numbers};
 ghost use Rattle.apl_summary.specs.Answers.{two_valued_outcome};
-ghost use Rattle.apl_summary.specs.Fronts.{AreRunningBits, AreBitsFrom};
+ghost use Rattle.apl_summary.specs.Fronts.{AreRunningBits, IsBitsAnswer, AreNextBits, IsNextAnswer, AreBitsFrom};
 
 use crate::answers::{Answers, number};
 use crate::running::PrefixState;
@@ -12,12 +12,14 @@ use crate::two_valued::TwoValuedFunction;
 use apl_pool::Kernel;
 use std::marker::PhantomData;
 
-/// What numbers answer for 0 and for 1.
-#[derive(Clone, Copy)]
+/// What numbers answer for 0 and for 1. The answers are kept as numbers, since the compiler packs two of type `bool` into one at each step.
+#[derive(Drop)]
 pub struct RunningBits<P> {
-    pub for_zero: bool,
-    pub for_one: bool,
+    pub for_zero: i64,
+    pub for_one: i64,
     pub function: PhantomData<P>,
+    ghost zero: { for_zero ≡ bit (is_one for_zero) },
+    ghost one: { for_one ≡ bit (is_one for_one) },
 }
 
 /// Whether a number is 1.
@@ -31,24 +33,24 @@ fn is_one(number: i64) -> bool
 impl<P: TwoValuedFunction> RunningBits<P> {
     /// The answers of no number.
     pub fn none() -> Self
-        ensures { AreRunningBits P.FUNCTION result.for_zero result.for_one [] }
+        ensures { AreRunningBits P.FUNCTION (is_one result.for_zero) (is_one result.for_one) [] }
     {
         RunningBits {
-            for_zero: false,
-            for_one: true,
+            for_zero: 0,
+            for_one: 1,
             function: PhantomData,
         }
     }
 
     /// Numbers with these answers, if neither is a fault.
     pub fn of(answers: &Answers) -> Option<Self>
-        ensures zero { IfSome result (λ s. two_valued_outcome P.FUNCTION answers.now (pos 0) ≡ Ok (bit s.for_zero)) }
-        ensures one { IfSome result (λ s. two_valued_outcome P.FUNCTION answers.now (pos 1) ≡ Ok (bit s.for_one)) }
+        ensures zero { IfSome result (λ s. two_valued_outcome P.FUNCTION answers.now (pos 0) ≡ Ok (bit (is_one s.for_zero))) }
+        ensures one { IfSome result (λ s. two_valued_outcome P.FUNCTION answers.now (pos 1) ≡ Ok (bit (is_one s.for_one))) }
     {
         match (answers.whole::<P>(0), answers.whole::<P>(1)) {
             (Ok(for_zero), Ok(for_one)) => Some(RunningBits {
-                for_zero,
-                for_one,
+                for_zero: number(for_zero),
+                for_one: number(for_one),
                 function: PhantomData,
             }),
             _ => None,
@@ -57,17 +59,17 @@ impl<P: TwoValuedFunction> RunningBits<P> {
 
     /// What the numbers answer for 1, or else for 0.
     #[inline(always)]
-    fn answer(&self, is_one: bool) -> bool
-        ensures { result ≡ (if is_one then self.now.for_one else self.now.for_zero) }
+    fn answer(&self, to_one: bool) -> i64
+        ensures { result ≡ bit (if to_one then is_one self.now.for_one else is_one self.now.for_zero) }
     {
-        if is_one { self.for_one } else { self.for_zero }
+        if to_one { self.for_one } else { self.for_zero }
     }
 
     /// What the numbers and one more after them answer for a number.
     #[inline(always)]
-    fn answer_behind(&self, item: i64, right: i64) -> Option<bool>
-        ensures { IfSome result (λ b. (numbers : List ℤ) → AreRunningBits P.FUNCTION self.now.for_zero self.now.for_one numbers
-            → fold_onto (dyadic_numbers P.FUNCTION) (numbers ++ item ∷ []) right ≡ Ok (bit b)) }
+    fn answer_behind(&self, item: i64, right: i64) -> Option<i64>
+        ensures bit { IfSome result (λ b. b ≡ bit (is_one b)) }
+        ensures fold { IfSome result (IsNextAnswer P.FUNCTION (is_one self.now.for_zero) (is_one self.now.for_one) item right) }
     {
         match P::apply(item, right) {
             Ok(value) => Some(self.answer(is_one(value))),
@@ -81,8 +83,8 @@ impl<P: TwoValuedFunction + Drop> RunningBits<P> {
     #[inline(always)]
     fn with_bit(&self, item: i64) -> Option<(i64, Self)>
         requires { item ≡ bit (is_one item) }
-        ensures value { IfSome result (λ next. (xs : List ℤ) → AreRunningBits P.FUNCTION self.now.for_zero self.now.for_one xs → fold_onto (dyadic_numbers P.FUNCTION) xs item ≡ Ok next.0) }
-        ensures front { IfSome result (λ next. (xs : List ℤ) → AreRunningBits P.FUNCTION self.now.for_zero self.now.for_one xs → AreRunningBits P.FUNCTION next.1.for_zero next.1.for_one (xs ++ item ∷ [])) }
+        ensures value { IfSome result (λ next. IsBitsAnswer P.FUNCTION (is_one self.now.for_zero) (is_one self.now.for_one) item next.0) }
+        ensures front { IfSome result (λ next. AreNextBits P.FUNCTION (is_one self.now.for_zero) (is_one self.now.for_one) item (is_one next.1.for_zero) (is_one next.1.for_one)) }
     {
         let value = self.answer(is_one(item));
         let next = RunningBits {
@@ -90,7 +92,7 @@ impl<P: TwoValuedFunction + Drop> RunningBits<P> {
             for_one: self.answer_behind(item, 1)?,
             function: PhantomData,
         };
-        Some((number(value), next))
+        Some((value, next))
     }
 
     /// The answers of the items at the places from `from` up to before `to`, if they are bits.
@@ -98,7 +100,7 @@ impl<P: TwoValuedFunction + Drop> RunningBits<P> {
     fn of_places<K: Kernel<Out = i64>>(kernel: &K, from: usize, to: usize) -> Option<Self>
         requires order { from ≤ to }
         requires places { to ≤ K.place_count kernel.now }
-        ensures { IfSome result (λ s. AreBitsFrom P.FUNCTION (K.outcome kernel.now) from to s.for_zero s.for_one) }
+        ensures { IfSome result (λ s. AreBitsFrom P.FUNCTION (K.outcome kernel.now) from to (is_one s.for_zero) (is_one s.for_one)) }
     {
         let mut bits = RunningBits::none();
         for place in from..to {
@@ -113,12 +115,12 @@ impl<P: TwoValuedFunction + Drop> RunningBits<P> {
 }
 
 impl<P: TwoValuedFunction + Drop> PrefixState for RunningBits<P> {
-    ghost use Rattle.apl_scalar.specs.Scalar.{dyadic_numbers};
+    ghost use Rattle.apl_scalar.specs.Scalar.{dyadic_numbers, is_one};
     ghost use Rattle.apl_summary.specs.Fronts.{AreRunningBits};
 
     ghost step = { dyadic_numbers P.FUNCTION };
 
-    ghost is_of = { λ s. AreRunningBits P.FUNCTION s.for_zero s.for_one };
+    ghost is_of = { λ s. AreRunningBits P.FUNCTION (is_one s.for_zero) (is_one s.for_one) };
 
     #[inline(always)]
     fn with(&self, item: i64) -> Option<(i64, Self)> {
@@ -149,7 +151,7 @@ pub fn answers_of_run<P: TwoValuedFunction + Drop, K: Kernel<Out = i64>>(
     Some(Answers {
         count: (to - from) as u32,
         last,
-        for_zero: Ok(bits.for_zero),
-        for_one: Ok(bits.for_one),
+        for_zero: Ok(is_one(bits.for_zero)),
+        for_one: Ok(is_one(bits.for_one)),
     })
 }

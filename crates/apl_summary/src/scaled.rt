@@ -4,7 +4,7 @@ ghost use Rattle.apl_summary.specs.Coefficients.{AreCoefficients};
 
 use crate::bounded_product::BoundedProduct;
 use crate::coefficients::Coefficients;
-use crate::running::{Running, scan_run_after};
+use crate::running::{Running, append_scan_after, scan_run_after};
 use crate::small_coefficients::small_coefficients;
 use apl_pool::{Fault, Kernel, Summary};
 
@@ -68,5 +68,9 @@ impl Running for Scaled {
             Some(front) => scan_run_after(front, numbers, room),
             None => 0,
         }
+    }
+
+    fn append_scan(numbers: &[i64], values: Vec<i64>) -> Vec<i64> {
+        append_scan_after(BoundedProduct::none(), numbers, values)
     }
 }

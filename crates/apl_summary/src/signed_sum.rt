@@ -2,7 +2,7 @@
 ghost use Rattle.std.specs.Prelude.{◌≡◌, ℕ, nat_eq};
 ghost use Rattle.apl_summary.specs.Constants.{AreConstants};
 
-use crate::bounded_sum::put_sums_behind;
+use crate::bounded_sum::{append_sums, put_sums_behind};
 use crate::constants::Constants;
 use crate::running::Running;
 use crate::running_sum::RunningSum;
@@ -69,5 +69,9 @@ impl<const MINUS: u8> Running for SignedSum<MINUS> {
             Some(front) => put_sums_behind(front, numbers, room),
             None => 0,
         }
+    }
+
+    fn append_scan(numbers: &[i64], values: Vec<i64>) -> Vec<i64> {
+        append_sums::<MINUS>(numbers, values)
     }
 }

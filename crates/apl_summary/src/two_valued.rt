@@ -3,7 +3,7 @@ ghost use Rattle.std.specs.Prelude.{◌≡◌, ℕ, true, refl};
 ghost use Rattle.apl_summary.specs.Answers.{is_two_valued};
 
 use crate::answers::Answers;
-use crate::running::{Running, scan_run_after};
+use crate::running::{Running, append_scan_after, scan_run_after};
 use crate::running_bits::{RunningBits, answers_of_run};
 use apl_pool::{Fault, Kernel, Summary};
 use apl_scalar::function_types::{
@@ -118,5 +118,9 @@ impl<P: TwoValuedFunction + Drop> Running for TwoValued<P> {
             Some(front) => scan_run_after(front, numbers, room),
             None => 0,
         }
+    }
+
+    fn append_scan(numbers: &[i64], values: Vec<i64>) -> Vec<i64> {
+        append_scan_after(RunningBits::<P>::none(), numbers, values)
     }
 }

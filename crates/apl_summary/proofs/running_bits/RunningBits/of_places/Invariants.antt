@@ -1,5 +1,6 @@
+use Rattle.apl_scalar.specs.Scalar.{is_one}
 use Rattle.apl_summary.specs.Fronts.{AreBitsFrom}
 use Rattle.apl_summary.proofs.running_bits.RunningBits.of_places.Given as goal
 
 abbrev pub invariant-loop-place : goal.invariant-loop-place
-invariant-loop-place g l = AreBitsFrom g.P.Function.FUNCTION (g.K.Kernel.outcome l.kernel) l.from l.place l.bits.for_zero l.bits.for_one
+invariant-loop-place g l = AreBitsFrom g.P.Function.FUNCTION (g.K.Kernel.outcome l.kernel) l.from l.place (is_one l.bits.for_zero) (is_one l.bits.for_one)
