@@ -7,8 +7,8 @@ ghost use Rattle.apl_session.specs.Step.{session_semantics};
 ghost use Rattle.apl_session.specs.Run.{Answer, IsAnswer, IsDefinedRun, IsDeterministic, IsTotal, HasDefinedRun, HasOneDefinedRun};
 ghost use Rattle.apl_session.specs.Outcome.{AnswersAll, AnswersFront, AnswersLines, BeginsUnbroken, BeginsWithUnansweredLine};
 
-use super::interpreter::{Interpreter, RunFault};
-use super::runs::{BLOCK, run_with};
+use super::interpreter::{Interpreter, Next, RunFault};
+use super::runs::{BLOCK, answer_block};
 use super::sources::Source;
 use apl_eval::lawful_stays;
 use apl_pool::{Cut, Gate, Pool};
@@ -51,7 +51,29 @@ pub fn run<R: Threads + Sync, C: Cut + Sync, G: Gate + Sync, I: Source, S: Sink>
     ensures sink_sound { result ≢ Err RunFault.Write → S.failures sink.new ≡ S.failures sink.old }
 {
     let mut interpreter = Interpreter::new(rt, alloc, pool);
-    run_with(alloc, &mut interpreter, source, sink)
+    let mut room = [0; BLOCK];
+    let mut held = Vec::new(alloc);
+    'takes: loop {
+        let n = match source.take(&mut room) {
+            Ok(n) => n,
+            Err(_) => return Err(RunFault::Read),
+        };
+        if n == 0 {
+            break;
+        }
+        match answer_block(&mut interpreter, &mut held, &room[..n], sink) {
+            Ok(Next::Go) => {}
+            Ok(Next::End) => return Ok(()),
+            Err(fault) => return Err(fault),
+        }
+    }
+    if held.is_empty() {
+        return Ok(());
+    }
+    match interpreter.answer(held.as_slice(), sink) {
+        Ok(_) => Ok(()),
+        Err(fault) => Err(fault),
+    }
 }
 
 /// A line has one step at most in each workspace.

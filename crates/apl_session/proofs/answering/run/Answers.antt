@@ -3,19 +3,20 @@ use Rattle.std.proofs.lemmas.Grind.{common_steps}
 use Rattle.std.proofs.lemmas.List.{nil_from_length}
 use Rattle.std.proofs.lemmas.List.Elements.{All-nil}
 use Rattle.std.proofs.KnownBytes.{Consumes-nil}
+use Rattle.apl_eval.specs.Workspace.{opening_workspace}
 use Rattle.apl_session.specs.LineAnswer.{IsLineAnswered}
 use Rattle.apl_session.specs.declared.interpreter.RunFault.TheVariants.{Write, Memory}
 use Rattle.apl_session.specs.Step.{session_semantics}
 use Rattle.apl_session.proofs.RunLemmas.{none_yet, all_of_last, front_of_last, all_of_none}
 use Rattle.apl_session.proofs.SourceLemmas.{nothing_more, takes_more, ends_within, cut_within, memory_within, read_fails, ends_after, cut_after}
-use Rattle.apl_session.proofs.runs.run_with.Goals as goal
+use Rattle.apl_session.proofs.answering.run.Goals as goal
 
 pub takes-init : goal.takes-init
 takes-init g c = record {
   given = (
     [],
     Consumes-nil (g.I.Source.coming c.args.source.now),
-    rw c.new-held.ensures.items (none_yet session_semantics c.args.interpreter.now [] (g.S.Sink.taken c.args.sink.now)),
+    rw (c.new-held.ensures.items, c.new-interpreter.ensures) (none_yet session_semantics opening_workspace [] (g.S.Sink.taken c.args.sink.now)),
   );
   unbroken = rw c.new-held.ensures.items (All-nil (λ byte. byte ≡ 10 → ⊥));
   source_sound = refl;
