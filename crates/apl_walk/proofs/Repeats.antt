@@ -22,6 +22,17 @@ module _ (n times left : ℕ) (is : left + n % times ≡ times) where
       let rest : (n + left + whole * times) % times ≡ 0 = rw (next_there whole) (mod-mul-add (n / times + 1 + whole) times 0 some) in
       omega (arith, rest)
 
+  turned_there : n + left ≡ (n / times + 1) * times + 0
+  turned_there = omega (arith, div-add-mod' n times, is)
+
+  pub turn_quotient : 0 < times → (n + left) / times ≡ n / times + 1
+  turn_quotient some = rw turned_there (div-mul-add (n / times + 1) times 0 some)
+
+  pub turn_rest : 0 < times → times + (n + left) % times ≡ times
+  turn_rest some =
+      let rest : (n + left) % times ≡ 0 = rw turned_there (mod-mul-add (n / times + 1) times 0 some) in
+      omega (arith, rest)
+
   pub later_quotient : 0 < times → (j : ℕ) → (n + left + j) / times ≡ n / times + 1 + j / times
   later_quotient some j =
       let split : n + left + j ≡ (n / times + 1 + j / times) * times + j % times = omega (arith, next_there (j / times), div-add-mod' j times) in
@@ -36,3 +47,6 @@ pub index_below : (n times axis_length : ℕ) → n < axis_length * times → (n
 index_below n times axis_length inside =
     let short : n / times * times < axis_length * times = omega (arith, div-add-mod' n times, inside) in
     mul-le-mul_right times (omega (arith, lt_of_mul-lt-mul_right times short))
+
+pub step_reached : (n times stride axis_length : ℕ) → n < axis_length * times → n / times * stride ≤ (axis_length - 1) * stride
+step_reached n times stride axis_length inside = index_reached (n / times) times stride axis_length (omega (arith, div-add-mod' n times, inside))

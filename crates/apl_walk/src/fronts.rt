@@ -16,6 +16,9 @@ pub(crate) fn write_same<T: Copy>(value: T, count: usize, room: &mut [T])
 /// How many copies are written at once.
 pub(crate) const COPIES: usize = 4;
 
+/// So many places are written index by index.
+pub(crate) const FEW: usize = 16;
+
 /// The same at the first places.
 #[inline(always)]
 fn write_several<T: Copy>(value: T, room: &mut [T])
@@ -40,6 +43,20 @@ pub(crate) fn write_copies<T: Copy>(value: T, count: usize, room: &mut [T])
     write_several(value, room);
     if count > COPIES {
         write_same(value, count - COPIES, &mut room[COPIES..]);
+    }
+}
+
+/// The same at each place, and perhaps at some after them. Without room for several it goes one by one.
+#[inline(always)]
+pub(crate) fn write_few<T: Copy>(value: T, count: usize, room: &mut [T])
+    requires { count ≤ length room.old }
+    ensures each { (k : ℕ) (d : T) → k < count → slice_index_or room.new k d ≡ value }
+    ensures len { length room.new ≡ length room.old }
+{
+    if room.len() < COPIES {
+        write_same(value, count, room);
+    } else {
+        write_copies(value, count, room);
     }
 }
 

@@ -3,8 +3,9 @@ ghost use Rattle.std.specs.Prelude.{◌≡◌, ℕ, ◌+◌, ◌-◌, ◌*◌, �
 ghost use Rattle.apl_pool.specs.declared.kernel.TheConstants.{MOST_PLACES};
 ghost use Rattle.apl_walk.specs.declared.map.TheConstants.{MOST_STEP};
 ghost use Rattle.apl_walk.specs.Gathered.{value_or, AreAtEntries};
-ghost use Rattle.apl_walk.specs.Steps.{and_step, entry_step};
+ghost use Rattle.apl_walk.specs.Steps.{and_step, entry_step, BeginsWith};
 
+use crate::fronts::FEW;
 use crate::map::{AxisMap, MOST_STEP};
 
 /// The entries of a list. Those that are below the length of an axis are indexes of it, and at the
@@ -19,7 +20,51 @@ pub struct ListedOrNone<'a> {
     ghost near: { axis_length * stride ≤ MOST_STEP },
 }
 
+/// The element at an entry's place, or the fill. One is read in any case, so that nothing hangs on a
+/// branch that no processor can foresee.
+#[inline(always)]
+fn element_or<T: Copy>(
+    elements: &[T],
+    base: usize,
+    entry: usize,
+    axis_length: usize,
+    stride: usize,
+    fill: T,
+) -> T
+    requires most { axis_length * stride ≤ MOST_STEP }
+    requires near { base + (axis_length - 1) * stride < length elements.now }
+    ensures { result ≡ value_or elements.now fill (and_step (entry_step axis_length stride entry) (Some base)) }
+{
+    let index = if entry < axis_length { entry } else { 0 };
+    let element = elements[base + index * stride];
+    if entry < axis_length { element } else { fill }
+}
+
 impl ListedOrNone<'_> {
+    /// Writes the element at each index, and the fill where there is no place, one by one.
+    #[inline(always)]
+    fn write_each<T: Copy>(
+        &self,
+        elements: &[T],
+        base: usize,
+        from: usize,
+        count: usize,
+        fill: T,
+        room: &mut [T],
+    )
+        requires within { from + count ≤ length self.now.entries.now }
+        requires near { base + (self.now.axis_length - 1) * self.now.stride < length elements.now }
+        requires room { count ≤ length room.old }
+        ensures values { let l = self.now in
+            BeginsWith (λ k. value_or elements.now fill (and_step (entry_step l.axis_length l.stride (slice_index l.entries.now (from + k))) (Some base))) count room.new }
+        ensures len { length room.new ≡ length room.old }
+    {
+        for k in 0..count {
+            let entry = self.entries[from + k] as usize;
+            room[k] = element_or(elements, base, entry, self.axis_length, self.stride, fill);
+        }
+    }
+
     /// Writes the element at each index, and some element where there is no place.
     #[inline(always)]
     fn write_elements<T: Copy>(
@@ -101,6 +146,9 @@ impl AxisMap for ListedOrNone<'_> {
         fill: T,
         room: &mut [T],
     ) {
+        if count < FEW {
+            return self.write_each(elements, base, from, count, fill, room);
+        }
         // Neither of the two loops has a branch that no processor can foresee.
         self.write_elements(elements, base, from, count, room);
         self.write_fills(from, count, fill, room);

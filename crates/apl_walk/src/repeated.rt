@@ -3,7 +3,7 @@ ghost use Rattle.std.specs.Prelude.{◌≡◌, ℕ, ◌+◌, ◌-◌, ◌*◌, �
 ghost use Rattle.apl_pool.specs.declared.kernel.TheConstants.{MOST_PLACES};
 ghost use Rattle.apl_walk.specs.declared.map.TheConstants.{MOST_STEP};
 
-use crate::fronts::{COPIES, write_copies, write_same};
+use crate::fronts::{COPIES, FEW, write_copies, write_few, write_same};
 use crate::map::{AxisMap, MOST_STEP};
 
 /// Each index of an axis, several times in a row.
@@ -19,7 +19,36 @@ pub struct Repeated {
 }
 
 impl Repeated {
-    /// Writes all copies of each index from one on, while there are places for them and for `COPIES`.
+    /// Writes a few places, index by index.
+    #[inline(always)]
+    fn write_short<T: Copy>(
+        &self,
+        elements: &[T],
+        base: usize,
+        from: usize,
+        count: usize,
+        room: &mut [T],
+    )
+        requires within { from + count ≤ self.now.axis_length * self.now.times }
+        requires near { base + (self.now.axis_length - 1) * self.now.stride < length elements.now }
+        requires room { count ≤ length room.old }
+        ensures each { (k : ℕ) (d : T) → k < count → slice_index_or room.new k d ≡ slice_index_or elements.now (base + (from + k) / self.now.times * self.now.stride) d }
+        ensures len { length room.new ≡ length room.old }
+    {
+        let times = self.times;
+        let mut step = from / times * self.stride;
+        let mut left = times - from % times;
+        let mut done = 0;
+        while done < count {
+            let copies = left.min(count - done);
+            write_few(elements[base + step], copies, &mut room[done..]);
+            done += copies;
+            step += self.stride;
+            left = times;
+        }
+    }
+
+    /// Writes all copies of each index from one on, while more than a few places are left.
     /// Answers how many indexes.
     #[inline(always)]
     fn write_whole<T: Copy>(
@@ -86,6 +115,9 @@ impl AxisMap for Repeated {
         _fill: T,
         room: &mut [T],
     ) {
+        if count < FEW {
+            return self.write_short(elements, base, from, count, room);
+        }
         let times = self.times;
         let mut index = from / times;
         let mut left = times - from % times;

@@ -1,9 +1,43 @@
-use Rattle.std.proofs.Common.{◌≡◌, ℕ, ◌+◌, ◌-◌, ◌*◌, ◌/◌, length, ap, sym, ◌∙◌, arith, rules, slice_index_or}
+use Rattle.std.proofs.Common.{◌≡◌, ℕ, ◌+◌, ◌-◌, ◌*◌, ◌/◌, ◌<◌, length, ap, sym, ◌∙◌, arith, rules, slice_index_or}
 use Rattle.std.proofs.lemmas.List.{get_or_read, places}
 use borrow.Rule.Slice.PartMut.{put_mid}
 use Rattle.apl_walk.proofs.Lines.{more_begun}
 use Rattle.apl_walk.proofs.Repeats.{index_below, index_reached, next_there, copy_quotient, next_quotient, next_rest, later_quotient}
 use Rattle.apl_walk.proofs.repeated.RepeatedAxisMap.write.Goals as goal
+
+pub overflow_add-value : goal.overflow_add-value
+overflow_add-value g c =
+    let r = c.args.self.now in
+    let l = c.loop-done in
+    let before = c.loop-done-test.true in
+    let there = c.args.from + l.done in
+    let below = index_below there r.times r.axis_length (omega (arith, before, c.requires.within)) in
+    let line : l.index * r.times ≡ there / r.times * r.times = ap (λ q. q * r.times) (l.invariant.index before) in
+    let reached = index_reached l.index r.times r.stride r.axis_length (omega (arith, line, below, r.times_some)) in
+    let inside : c.args.base + l.index * r.stride < length c.args.elements.now = omega (arith, reached, c.requires.near) in
+    search (rules, inside)
+
+pub offset_bounds-elements-base : goal.offset_bounds-elements-base
+offset_bounds-elements-base g c =
+    let r = c.args.self.now in
+    let l = c.loop-done in
+    let before = c.loop-done-test.true in
+    let there = c.args.from + l.done in
+    let below = index_below there r.times r.axis_length (omega (arith, before, c.requires.within)) in
+    let line : l.index * r.times ≡ there / r.times * r.times = ap (λ q. q * r.times) (l.invariant.index before) in
+    let reached = index_reached l.index r.times r.stride r.axis_length (omega (arith, line, below, r.times_some)) in
+    omega (arith, reached, c.requires.near)
+
+pub bounds-elements-base : goal.bounds-elements-base
+bounds-elements-base g c =
+    let r = c.args.self.now in
+    let l = c.loop-done in
+    let before = c.loop-done-test.true in
+    let there = c.args.from + l.done in
+    let below = index_below there r.times r.axis_length (omega (arith, before, c.requires.within)) in
+    let line : l.index * r.times ≡ there / r.times * r.times = ap (λ q. q * r.times) (l.invariant.index before) in
+    let reached = index_reached l.index r.times r.stride r.axis_length (omega (arith, line, below, r.times_some)) in
+    omega (arith, reached, c.requires.near)
 
 pub write_whole-whole-requires-clause-within : goal.write_whole-whole-requires-clause-within
 write_whole-whole-requires-clause-within g c =
