@@ -2,9 +2,9 @@
 ghost use Rattle.std.specs.Prelude.{◌≡◌, ℕ, ◌<◌, ◌≤◌, min, true, false, All, Contains, IfOk, IfSome, MatchOption};
 ghost use Rattle.apl_board.specs.View.{extent_of, blank, times, once_below, with_given, with_reported, with_seen, after_none, IsAtMostEach, IsLeastOf};
 
-use super::seat::BoardSeat;
-use super::steps::{BoardRule, Claim, Look, Report};
-use super::view::{Extent, LEAST, MOST_SHARES, NEXT, NOWHERE, View};
+use crate::seat::BoardSeat;
+use crate::steps::{BoardRule, Claim, Look, Report};
+use crate::view::{Extent, LEAST, MOST_SHARES, NEXT, NOWHERE, View};
 use atomic_table::Table;
 use std::alloc::{AllocError, Global};
 

@@ -2,7 +2,7 @@
 ghost use Rattle.std.specs.Prelude.{◌≡◌, ◌<◌, ◌≤◌, []};
 ghost use Rattle.apl_board.specs.declared.view.TheConstants.{MOST_SHARES};
 
-use super::view::{MOST_SHARES, View};
+use crate::view::{MOST_SHARES, View};
 use atomic_table::Seat;
 
 /// The right to use a board, or a part of it. A seat has from 1 share to all shares of its board.

@@ -3,10 +3,10 @@ ghost use Rattle.std.specs.Prelude.{◌≡◌, ◌+◌, ◌*◌, ◌<◌, ◌≤
 ghost use Rattle.apl_board.specs.View.{rest_of, part_of, joined};
 ghost use Rattle.apl_board.specs.Seats.{view, IsSeatOf};
 
-use super::board::Board;
-use super::seat::{BoardSeat, SplitStop};
-use super::steps::{CutShare, JoinSeats, ShareBound};
-use super::view::{MOST_SHARES, NEXT};
+use crate::board::Board;
+use crate::seat::{BoardSeat, SplitStop};
+use crate::steps::{CutShare, JoinSeats, ShareBound};
+use crate::view::{MOST_SHARES, NEXT};
 
 impl Board {
     /// Makes two seats of one: the second has this share, and the first the rest. The first keeps what the seat

@@ -3,7 +3,7 @@ ghost use Rattle.apl_board.specs.Rule.{IsLawfulBoard, first_view};
 ghost use Rattle.apl_board.specs.Steps.{TellsClaim, TellsReport, TellsLook, TellsShareBound};
 ghost use Rattle.apl_board.specs.View.{joined, spent};
 
-use super::view::{Extent, View};
+use crate::view::{Extent, View};
 use atomic_table::{Join, Play, Split, TableRule};
 
 pub(crate) struct BoardRule;

@@ -8,7 +8,7 @@ ghost use Rattle.apl_reduce.specs.Products.{outer_row, inner_row};
 ghost use Rattle.apl_eval.specs.Functions.{monadic_column, dyadic_column, result_of, result_by, default_axis, function_axis, operator_axis, monadic_plain, dyadic_plain, reversed_along, reduced_along, dyadic_along, monadic_result, dyadic_result, index_result, assign_at_result};
 ghost use Rattle.apl_eval.specs.Refusals.{Answers};
 
-use super::workspace::Workspace;
+use crate::workspace::Workspace;
 use apl_answer::OpFault;
 use apl_array::{Array, Axis};
 use apl_grammar::{

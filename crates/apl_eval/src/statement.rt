@@ -12,10 +12,10 @@ ghost use Rattle.apl_eval.specs.Evaluates.{Evaluates, IsShownAs};
 ghost use Rattle.apl_eval.specs.Refusals.{Answers};
 ghost use Rattle.apl_eval.specs.Steps.{step, stuck, onto, staged_in, HasValue, HasValueAbove, HasAxisAbove, HasSlotsAbove, IsOutcome, IsState};
 
-use super::functions::{Context, FunctionRefusal, dyadic_column, monadic_column};
-use super::names::Names;
-use super::stack::{Stack, array_of};
-use super::workspace::Workspace;
+use crate::functions::{Context, FunctionRefusal, dyadic_column, monadic_column};
+use crate::names::Names;
+use crate::stack::{Stack, array_of};
+use crate::workspace::Workspace;
 use apl_array::Array;
 use apl_grammar::{
     AxisBrackets, Brackets, Columns, DyadicForm, IndexedName, MonadicForm, Operation, Program,

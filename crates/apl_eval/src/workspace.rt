@@ -4,7 +4,7 @@ ghost use Rattle.apl_eval.specs.Workspace.{value_of, with_names, with_origin, wi
 ghost use Rattle.apl_print.specs.Width.{least_width, most_width};
 ghost use Rattle.apl_eval.specs.Names.{overlaid};
 
-use super::names::Names;
+use crate::names::Names;
 use apl_array::{Array, Origin};
 use std::alloc::{AllocError, Global};
 use std::marker::Model;

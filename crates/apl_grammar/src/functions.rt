@@ -2,7 +2,7 @@
 ghost use Rattle.std.specs.Prelude.{◌≡◌};
 ghost use Rattle.apl_grammar.specs.Functions.{dyadic_scalar, monadic_glyph, reversal_glyph, monadic_function, dyadic_function, reversal, axis_function, monadic_form, dyadic_form, dyadic_counterpart, operator_of, reduced};
 
-use super::forms::{
+use crate::forms::{
     AxisFunction, DefaultAxis, DyadicForm, DyadicFunction, DyadicScalar, MonadicForm,
     MonadicFunction, MonadicScalar, Operator,
 };

@@ -3,7 +3,7 @@ ghost use Rattle.std.specs.Prelude.{◌≡◌, ◌++◌, ◌∷◌, [], Some, No
 ghost use Rattle.apl_grammar.specs.Storage.{places_of};
 ghost use Rattle.apl_grammar.specs.Automaton.{without_empty_places};
 
-use super::program::Operation;
+use crate::program::Operation;
 use std::alloc::{AllocError, Global};
 use std::marker::Model;
 use std::mem;

@@ -1,7 +1,7 @@
 //! Operations in the order of evaluation.
 ghost use Rattle.std.specs.Prelude.{◌≡◌, IfOk};
 
-use super::forms::{DyadicForm, MonadicForm};
+use crate::forms::{DyadicForm, MonadicForm};
 use apl_tokens::{Constant, Name};
 use std::alloc::{AllocError, AllocFailed, Global};
 use std::marker::Model;

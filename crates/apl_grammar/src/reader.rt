@@ -5,11 +5,11 @@ ghost use Rattle.apl_grammar.specs.Functions.{dyadic_counterpart};
 ghost use Rattle.apl_grammar.specs.declared.program.Operation.{Operation};
 ghost use Rattle.apl_grammar.specs.declared.reader.State.TheVariants.{Expression, OperandWanted};
 
-use super::forms::{DyadicForm, DyadicFunction, DyadicScalar, MonadicForm};
-use super::functions::{dyadic_counterpart, dyadic_form, dyadic_scalar, monadic_form, reduced};
-use super::partial_program::PartialProgram;
-use super::program::{AxisBrackets, BoxedIndexedName, Brackets, Columns, IndexedName, Operation};
-use super::statement::GrammarStop;
+use crate::forms::{DyadicForm, DyadicFunction, DyadicScalar, MonadicForm};
+use crate::functions::{dyadic_counterpart, dyadic_form, dyadic_scalar, monadic_form, reduced};
+use crate::partial_program::PartialProgram;
+use crate::program::{AxisBrackets, BoxedIndexedName, Brackets, Columns, IndexedName, Operation};
+use crate::statement::GrammarStop;
 use apl_tokens::{Glyph, Name, Token, TokenKind};
 use std::alloc::{AllocError, AllocFailed, Global};
 use std::marker::Model;

@@ -5,8 +5,8 @@ ghost use Rattle.apl_grammar.specs.Tree.{Expr, IsTree, IsProgramOf, operations, 
 ghost use Rattle.apl_grammar.specs.Caret.{IsCaret, HasNoTree};
 ghost use Rattle.apl_grammar.specs.Stops.{IsStopOf};
 
-use super::program::Program;
-use super::reader::parse;
+use crate::program::Program;
+use crate::reader::parse;
 use apl_tokens::Token;
 use std::alloc::Global;
 

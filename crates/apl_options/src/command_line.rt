@@ -2,7 +2,7 @@
 ghost use Rattle.std.specs.Prelude.{◌≡◌, ◌≢◌, ◌<◌, ◌≤◌, length, IfOk};
 ghost use Rattle.clap.specs.Words.{kind_of};
 
-use super::options::{LONGEST_PIECE, Settings};
+use crate::options::{LONGEST_PIECE, Settings};
 use apl_pool::{MOST_WORKERS, Schedule};
 use clap::error::ErrorKind;
 use clap::{Arg, Command, Error, value_parser};

@@ -4,13 +4,13 @@ ghost use Rattle.apl_pool.specs.declared.kernel.TheConstants.{MOST_PLACES};
 ghost use Rattle.apl_pool.specs.Parts.{AreValuesFrom, AreValuesOfPiece, AreValuesAt, IsStopFrom};
 ghost use Rattle.apl_pool.specs.Crew.{AreMarks};
 
-use super::copies::Copies;
-use super::gate::Gate;
-use super::kernel::{Kernel, Stop};
-use super::pass::{Pass, fill_rooms};
-use super::pieces::{Piece, Pieces};
-use super::tasks::Values;
-use super::work::write_piece;
+use crate::copies::Copies;
+use crate::gate::Gate;
+use crate::kernel::{Kernel, Stop};
+use crate::pass::{Pass, fill_rooms};
+use crate::pieces::{Piece, Pieces};
+use crate::tasks::Values;
+use crate::work::write_piece;
 use std::thread::Threads;
 
 /// The values of one piece at its places in the list. If they aren't there yet, the first worker passes the gate and writes them.

@@ -5,10 +5,10 @@ ghost use Rattle.std.specs.Prelude.{◌≡◌, ℕ, ◌+◌, ◌-◌, ◌<◌, �
 ghost use Rattle.apl_board.specs.Seats.{view, IsSeatOf};
 ghost use Rattle.apl_pool.specs.Crew.{AreSeatsOf, AreRoomsFor, AreReady};
 
-use super::copies::Copies;
-use super::ends::Ends;
-use super::gate::Gate;
-use super::shares::Shares;
+use crate::copies::Copies;
+use crate::ends::Ends;
+use crate::gate::Gate;
+use crate::shares::Shares;
 use apl_board::{Board, BoardSeat};
 use apl_rooms::{Filled, RoomSeat, Rooms, Task};
 use std::thread::{Threads, join};

@@ -1,7 +1,7 @@
 //! The ends of the deques that one worker has: its own, and one of each other worker's.
 ghost use Rattle.std.specs.Prelude.{◌≡◌, ◌<◌, vec_len};
 
-use super::shares::Shares;
+use crate::shares::Shares;
 use apl_yard::{Hand, Taken, Thief, Yard};
 use std::alloc::{AllocError, Global};
 

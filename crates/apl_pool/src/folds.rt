@@ -6,16 +6,16 @@ ghost use Rattle.apl_pool.specs.declared.summary.TheConstants.{LONGEST_RUN};
 ghost use Rattle.apl_pool.specs.Folds.{items_in, IsFolded, IsFoldedPiece, IsFoldedPart, ArePartsOf};
 ghost use Rattle.apl_pool.specs.Summaries.{AreFolds};
 
-use super::copies::Copies;
-use super::cut::Cut;
-use super::gate::Gate;
-use super::kernel::{Kernel, Stop};
-use super::pass::{Pass, fill_rooms};
-use super::pieces::{Piece, Pieces};
-use super::rows::{Row, RowSummaries, Rows};
-use super::summary::{LONGEST_RUN, Summary};
-use super::tasks::Summaries;
-use super::work::{next_piece, stop_at};
+use crate::copies::Copies;
+use crate::cut::Cut;
+use crate::gate::Gate;
+use crate::kernel::{Kernel, Stop};
+use crate::pass::{Pass, fill_rooms};
+use crate::pieces::{Piece, Pieces};
+use crate::rows::{Row, RowSummaries, Rows};
+use crate::summary::{LONGEST_RUN, Summary};
+use crate::tasks::Summaries;
+use crate::work::{next_piece, stop_at};
 use std::alloc::{AllocError, Global};
 use std::thread::Threads;
 

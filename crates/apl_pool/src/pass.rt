@@ -5,12 +5,12 @@ ghost use Rattle.core.specs.Mem.Slots.{slots_items, slots_len, IsFull, Refills};
 ghost use Rattle.apl_board.specs.Seats.{view, IsSeatOf};
 ghost use Rattle.apl_pool.specs.Crew.{AreMarksOf, IsPassReady};
 
-use super::copies::Copies;
-use super::crew::{Seats, work_together};
-use super::ends::{Ends, deal};
-use super::gate::Gate;
-use super::schedule::Schedule;
-use super::shares::Shares;
+use crate::copies::Copies;
+use crate::crew::{Seats, work_together};
+use crate::ends::{Ends, deal};
+use crate::gate::Gate;
+use crate::schedule::Schedule;
+use crate::shares::Shares;
 use apl_board::{Board, BoardSeat};
 use apl_rooms::{Rooms, Task};
 use core::slots::{Slots, with_slots};

@@ -3,8 +3,8 @@ ghost use Rattle.std.specs.Prelude.{◌≡◌, ℕ, ◌+◌, ◌-◌, ◌<◌, �
 ghost use Rattle.apl_pool.specs.declared.kernel.TheConstants.{MOST_PLACES};
 ghost use Rattle.apl_pool.specs.Parts.{AreBounds};
 
-use super::cut::Cut;
-use super::kernel::MOST_PLACES;
+use crate::cut::Cut;
+use crate::kernel::MOST_PLACES;
 use std::alloc::{AllocError, Global};
 
 /// The place after the piece that begins at `start`, of `count` places.

@@ -1,7 +1,7 @@
 //! Rows of places, each of which is folded by itself.
 ghost use Rattle.std.specs.Prelude.{◌≡◌, ℕ, ◌*◌, ◌<◌, ◌≤◌, Result};
 
-use super::kernel::{Fault, Kernel, MOST_PLACES, Stop};
+use crate::kernel::{Fault, Kernel, MOST_PLACES, Stop};
 
 /// Rows with as many places each: a value or a fault at each place of a row.
 pub trait Rows {

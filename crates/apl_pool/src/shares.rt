@@ -3,10 +3,10 @@ ghost use Rattle.std.specs.Prelude.{◌≡◌, ℕ, ◌+◌, ◌-◌, ◌*◌, �
 ghost use Rattle.apl_pool.specs.declared.kernel.TheConstants.{MOST_PLACES};
 ghost use Rattle.apl_pool.specs.declared.pool.TheConstants.{MOST_WORKERS};
 
-use super::cut::Cut;
-use super::kernel::MOST_PLACES;
-use super::pieces::Pieces;
-use super::pool::MOST_WORKERS;
+use crate::cut::Cut;
+use crate::kernel::MOST_PLACES;
+use crate::pieces::Pieces;
+use crate::pool::MOST_WORKERS;
 use std::alloc::{AllocError, Global};
 
 /// The pieces of one worker: those from `from` up to before `to`.

@@ -4,7 +4,7 @@ ghost use Rattle.apl_pool.specs.declared.kernel.Fault.{Fault};
 ghost use Rattle.apl_pool.specs.declared.summary.TheConstants.{LONGEST_RUN};
 ghost use Rattle.apl_pool.specs.Summaries.{IsI64, and_then, IsSummaryFrom};
 
-use super::kernel::{Fault, Kernel, MOST_PLACES};
+use crate::kernel::{Fault, Kernel, MOST_PLACES};
 
 /// The most places of a run of items that are summarized at once.
 pub const LONGEST_RUN: usize = 1024;

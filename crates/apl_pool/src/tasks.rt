@@ -4,12 +4,12 @@ ghost use Rattle.apl_pool.specs.declared.kernel.TheConstants.{MOST_PLACES};
 ghost use Rattle.apl_pool.specs.Parts.{AreValuesOfPiece};
 ghost use Rattle.apl_pool.specs.Folds.{IsPieceOfRows};
 
-use super::folds::fold_places;
-use super::kernel::{Kernel, Stop};
-use super::pieces::Pieces;
-use super::rows::{Row, Rows};
-use super::summary::Summary;
-use super::work::write_piece;
+use crate::folds::fold_places;
+use crate::kernel::{Kernel, Stop};
+use crate::pieces::Pieces;
+use crate::rows::{Row, Rows};
+use crate::summary::Summary;
+use crate::work::write_piece;
 use apl_rooms::Task;
 
 /// The values of a kernel in pieces.

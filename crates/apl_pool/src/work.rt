@@ -3,10 +3,10 @@ ghost use Rattle.std.specs.Prelude.{◌≡◌, ℕ, ◌+◌, ◌<◌, ◌≤◌,
 ghost use Rattle.apl_pool.specs.Parts.{AreValuesFrom, IsStopFrom, IsPart};
 ghost use Rattle.apl_pool.specs.Runs.{AreWritten};
 
-use super::cut::Cut;
-use super::gate::Gate;
-use super::kernel::{Fault, Kernel, MOST_PLACES, Stop};
-use super::pieces::{Piece, piece_end};
+use crate::cut::Cut;
+use crate::gate::Gate;
+use crate::kernel::{Fault, Kernel, MOST_PLACES, Stop};
+use crate::pieces::{Piece, piece_end};
 use std::alloc::Global;
 
 /// The most places that one worker makes room for at once. As many numbers are still in a processor's cache when they are written over.

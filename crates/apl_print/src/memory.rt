@@ -3,8 +3,8 @@ ghost use Rattle.std.specs.Prelude.{◌≡◌, ℕ, ◌<◌, ◌≤◌, ◌↔�
 ghost use Rattle.apl_print.specs.Failures.{CountsFailure};
 ghost use Rattle.apl_print.specs.Countdowns.{after_call};
 
-use super::countdowns::Countdown;
-use super::sinks::{Sink, SinkFault};
+use crate::countdowns::Countdown;
+use crate::sinks::{Sink, SinkFault};
 use std::alloc::Global;
 use std::marker::Model;
 

@@ -7,9 +7,9 @@ ghost use Rattle.apl_print.specs.Replied.{reply_text};
 ghost use Rattle.apl_print.specs.declared.replies.Reply.TheVariants.{Was};
 ghost use Rattle.apl_print.specs.Text.{blanks, line_feed};
 
-use super::replies::Reply;
-use super::reports::Report;
-use super::sinks::{Sink, SinkFault, put_all};
+use crate::replies::Reply;
+use crate::reports::Report;
+use crate::sinks::{Sink, SinkFault, put_all};
 use arrayvec::{ArrayVec, CapacityError};
 use itoa::Buffer;
 

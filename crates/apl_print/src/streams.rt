@@ -1,7 +1,7 @@
 //! A writer as a sink.
 ghost use Rattle.std.specs.Prelude.{◌≡◌, ℕ};
 
-use super::sinks::{Sink, SinkFault};
+use crate::sinks::{Sink, SinkFault};
 use std::io::Write;
 use std::marker::Model;
 

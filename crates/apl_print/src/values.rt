@@ -5,7 +5,7 @@ ghost use Rattle.apl_array.specs.Array.{ArrayValue};
 ghost use Rattle.apl_array.specs.Range.{HasNumbersInRange};
 ghost use Rattle.apl_print.specs.Shown.{IsShown};
 
-use super::rows::{Layout, put_rows};
+use crate::rows::{Layout, put_rows};
 use apl_array::Array;
 use std::alloc::{AllocError, Global};
 

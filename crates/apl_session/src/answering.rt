@@ -7,9 +7,9 @@ ghost use Rattle.apl_session.specs.Step.{session_semantics};
 ghost use Rattle.apl_session.specs.Run.{Answer, IsAnswer, IsDefinedRun, IsDeterministic, IsTotal, HasDefinedRun, HasOneDefinedRun};
 ghost use Rattle.apl_session.specs.Outcome.{AnswersAll, AnswersFront, AnswersLines, BeginsUnbroken, BeginsWithUnansweredLine};
 
-use super::interpreter::{Interpreter, Next, RunFault};
-use super::runs::{BLOCK, answer_block};
-use super::sources::Source;
+use crate::interpreter::{Interpreter, Next, RunFault};
+use crate::runs::{BLOCK, answer_block};
+use crate::sources::Source;
 use apl_eval::lawful_stays;
 use apl_pool::{Cut, Gate, Pool};
 use apl_print::{Sink, shown_always, shown_once};

@@ -2,7 +2,7 @@
 ghost use Rattle.std.specs.Prelude.{◌≡◌};
 ghost use Rattle.apl_session.specs.Ending.{ending_status, ending_message};
 
-use super::interpreter::RunFault;
+use crate::interpreter::RunFault;
 
 /// The program's exit status, and its line for standard error without the LF. At the end of a run they are 0 and no text. After a fault the
 /// status is 1.

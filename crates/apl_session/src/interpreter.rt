@@ -6,7 +6,7 @@ ghost use Rattle.apl_session.specs.Lines.{IsUnbroken};
 ghost use Rattle.apl_session.specs.LineAnswer.{IsLineAnswered};
 ghost use Rattle.apl_session.specs.Step.{session_semantics};
 
-use super::sessions::Session;
+use crate::sessions::Session;
 use apl_pool::{Cut, Gate, Pool};
 use apl_print::Sink;
 use std::alloc::Global;

@@ -3,7 +3,7 @@ ghost use Rattle.std.specs.Prelude.{◌≡◌, ℕ, ◌<◌, ◌≤◌, ◌↔�
 ghost use Rattle.apl_print.specs.Failures.{CountsFailure};
 ghost use Rattle.apl_print.specs.Countdowns.{after_call};
 
-use super::sources::{Source, SourceFault};
+use crate::sources::{Source, SourceFault};
 use apl_print::Countdown;
 use std::marker::Model;
 

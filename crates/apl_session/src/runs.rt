@@ -6,8 +6,8 @@ ghost use Rattle.apl_session.specs.LineAnswer.{IsLineAnswered};
 ghost use Rattle.apl_session.specs.Step.{session_semantics};
 ghost use Rattle.apl_session.specs.Progress.{IsBlockAnswered};
 
-use super::interpreter::{Interpreter, Next, RunFault};
-use super::lines::split_line;
+use crate::interpreter::{Interpreter, Next, RunFault};
+use crate::lines::split_line;
 use apl_pool::{Cut, Gate};
 use apl_print::Sink;
 use std::thread::Threads;

@@ -11,8 +11,8 @@ ghost use Rattle.apl_session.specs.LineAnswer.{IsLineOutcome, IsLineAnswered, ne
 ghost use Rattle.apl_session.specs.Step.{session_semantics};
 ghost use Rattle.apl_session.specs.LineStep.{IsLineStep};
 
-use super::interpreter::{Next, RunFault};
-use super::lines::trim_return;
+use crate::interpreter::{Next, RunFault};
+use crate::lines::trim_return;
 use apl_array::Origin;
 use apl_eval::{EvalStop, Shown, Workspace, eval};
 use apl_grammar::Program;

@@ -3,7 +3,7 @@ ghost use Rattle.std.specs.Prelude.{◌≡◌, ℕ, ◌<◌, ◌≤◌, ◌-◌,
 ghost use Rattle.std.specs.Io.KnownBytes.{Consumes, Keeps, IsAtEnd};
 ghost use Rattle.apl_print.specs.Failures.{CountsFailure};
 
-use super::sources::{Source, SourceFault};
+use crate::sources::{Source, SourceFault};
 use std::io::Read;
 use std::marker::Model;
 

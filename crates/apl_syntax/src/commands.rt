@@ -5,7 +5,7 @@ ghost use Rattle.apl_tokens.specs.Fronts.{AllPass};
 ghost use Rattle.apl_tokens.specs.Lexis.{BeginsWithNo};
 ghost use Rattle.apl_syntax.specs.Commands.{IsCommandLine, is_no_blank, EndsWithNoBlank, HasWordAndArgument, AreDigitsOf, IsCommandOf, IsCommand};
 
-use super::lines::Command;
+use crate::lines::Command;
 use apl_array::Origin;
 use apl_tokens::{blanks_before, is_digit};
 

@@ -4,8 +4,8 @@ ghost use Rattle.apl_syntax.specs.Reading.{Reading, IsReading};
 ghost use Rattle.apl_syntax.specs.Answers.{IsLineOf, IsReadStopOf};
 ghost use Rattle.apl_syntax.specs.Parses.{IsParsedLine, IsParseStop};
 
-use super::commands::command;
-use super::lines::{Line, ReadStop};
+use crate::commands::command;
+use crate::lines::{Line, ReadStop};
 use apl_grammar::{GrammarStop, one_caret, one_tree, program_of, tree_or_caret};
 use apl_tokens::{
     FrontStop, LexicalStop, Token, front, front_is_total, front_is_unique, lexing_is_total,

@@ -1,6 +1,6 @@
 //! All short lines, against a plain recogniser of the grammar.
-use super::lines::{Answer, read_as, syntax};
-use super::recogniser::{Symbol, derives, ends_some};
+use crate::lines::{Answer, read_as, syntax};
+use crate::recogniser::{Symbol, derives, ends_some};
 use apl_syntax::Command;
 use std::alloc::{AllocError, Global};
 use std::ops::Range;

@@ -4,8 +4,8 @@ ghost use Rattle.apl_pool.specs.declared.kernel.TheConstants.{MOST_PLACES};
 ghost use Rattle.apl_pool.specs.declared.pool.TheConstants.{MOST_WORKERS};
 ghost use Rattle.tests_sessions.specs.declared.gates.TheConstants.{LONGEST};
 
-use super::pools::Numbers;
 use crate::doors::{Door, Meeting};
+use crate::pools::Numbers;
 use crate::transcripts::{Table, lines_of};
 use apl_pool::{Every, Fault, Gate, Kernel, MOST_PLACES, Pool, Schedule, Summary};
 use apl_print::MemorySink;

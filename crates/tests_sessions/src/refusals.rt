@@ -1,8 +1,8 @@
 //! Calls that take memory, each by itself. With enough of it each answers as here. `checks/faults/run` refuses each growth of memory of these
 //! tests in turn: then a call says so, and nothing else.
-use super::doors::Door;
-use super::gates::AllOnes;
-use super::pools::Numbers;
+use crate::doors::Door;
+use crate::gates::AllOnes;
+use crate::pools::Numbers;
 use apl_array::{Array, Shape};
 use apl_board::Board;
 use apl_pool::{Every, Fault, Open, Pool, Schedule, Stop, Summary};
