@@ -173,12 +173,12 @@ fn transposed_lengths(
     ensures { IfOk result (λ transposed. transposed.items ≡ transposed_shape (named_axes axes.now) axes.now lengths.now) }
 {
     (0..named_axes(axes))
-        .map(|j| least_becoming(j, axes, lengths).unwrap_or(0))
+        .map(|j| least_length_onto(j, axes, lengths).unwrap_or(0))
         .collect(alloc)
 }
 
 /// The least of the lengths of the axes that become axis `j`, where there is one.
-fn least_becoming(j: usize, axes: &[usize], lengths: &[usize]) -> Option<usize>
+fn least_length_onto(j: usize, axes: &[usize], lengths: &[usize]) -> Option<usize>
     ensures { MatchOption result (items_onto j axes.now lengths.now ≡ [])
         (λ n. (0 < length (items_onto j axes.now lengths.now)) × (least (items_onto j axes.now lengths.now) ≡ n)) }
 {
@@ -188,7 +188,7 @@ fn least_becoming(j: usize, axes: &[usize], lengths: &[usize]) -> Option<usize>
     let [axis_length, lengths @ ..] = lengths else {
         return None;
     };
-    let least = least_becoming(j, axes, lengths);
+    let least = least_length_onto(j, axes, lengths);
     if *axis != j {
         return least;
     }
