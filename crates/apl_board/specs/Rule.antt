@@ -39,9 +39,9 @@ seen_in x views = total (λ v. times x v.seen) views
 
 -- what holds of one seat, if this is the next number
 pub record IsLawfulSeat (extent : Extent) (next : ℕ) (v : View) : Type 0 where
-  -- a seat is told only when no piece is left
+  -- a seat learns of the end only when no piece is left
   pub told : v.told ≡ true → extent.pieces ≤ next
-  -- it makes no step past the end before it is told, and at most as many as its share
+  -- it makes no step past the end before it learns of it, and at most as many as its share
   pub few_past : v.past ≤ v.share
   pub none_past : v.told ≡ false → v.past ≡ 0
   -- one with no share is spent

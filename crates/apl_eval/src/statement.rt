@@ -160,7 +160,7 @@ fn apply_monadic<R: Threads + Sync, C: Cut + Sync, G: Gate + Sync>(
     )
 }
 
-/// Puts a function's result in the place of its arguments on the stack, of which the left one is on top, and the axis argument next.
+/// Puts a function's result in the place of its arguments on the stack. The left one is on top, and the axis argument is next.
 fn apply_dyadic<R: Threads + Sync, C: Cut + Sync, G: Gate + Sync>(
     context: &Context<'_, R, C, G>,
     stack: &mut Stack,

@@ -32,8 +32,8 @@ pub(crate) trait Dyadic: Copy {
     fn of_numbers(&self, x: i64, y: i64) -> Result<i64, Fault>
         ensures { result ≡ dyadic_numbers (function self.now) x y };
 
-    /// Writes what it gives of one element and each of others into the room for them, up to some other or to the first that has a fault.
-    /// It answers how many it wrote.
+    /// Writes what it gives of one element and each of others into the room for them. It ends at some other, or at the first
+    /// that has a fault, and answers how many it wrote.
     fn write_row<T: ElementType, U: ElementType>(
         &self,
         x: T,

@@ -12,8 +12,8 @@ use crate::runs::write_results;
 use apl_answer::ElementType;
 use std::marker::PhantomData;
 
-/// Writes what the function that the type `F` names gives of `x` and each of others into the room for them, up to some other or to the first
-/// that has a fault. It answers how many it wrote, and takes no memory.
+/// Writes what the function of type `F` gives of `x` and each of others into the room for them. It ends at some other, or
+/// at the first that has a fault. It answers how many it wrote, and takes no memory.
 #[inline(always)]
 pub fn write_pairs<F: Function + Copy, T: ElementType, U: ElementType>(
     x: T,

@@ -72,8 +72,8 @@ fn write_before_fault<P: Results>(results: P, from: usize, count: usize, room: &
 }
 
 /// Writes a run of results into the room for the places from `from` up to before `to`. It answers the place at which it stopped: that of a
-/// fault, or where the run ends. If one of the run is not sure, the results up to `to` are written one by one, since the next runs tend to
-/// be like this one. So are results that have no quick runs.
+/// fault, or where the run ends. If one of the run is not sure, the results up to `to` are written one by one. The next runs tend to be
+/// like this one. Results that have no quick runs are written one by one too.
 #[inline(always)]
 pub(crate) fn write_results<P: Results>(
     results: P,

@@ -20,7 +20,7 @@ first_place elements x = position_or_len (λ y. is_same_element y x) elements
 abbrev pub member_number : List Elem → Elem → ℕ
 member_number elements x = if list_any (λ y. is_same_element y x) elements then 1 else 0
 
--- what there is at each index list where the list is searched for an array's elements
+-- the outcome at each index list where the list is searched for an array's elements
 abbrev pub found_outcome : List Elem → ArrayValue → Origin → List ℕ → Result Elem Fault
 found_outcome elements b origin index = Ok (Int (pos (origin_number origin + first_place elements (element_at b index))))
 

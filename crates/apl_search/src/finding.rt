@@ -1,4 +1,4 @@
-//! Where an element first stands in a list.
+//! Where an element first is in a list.
 ghost use Rattle.std.specs.Prelude.{◌≡◌, ◌<◌, ◌≤◌, All, length, map, IfOk};
 ghost use Rattle.apl_pool.specs.declared.kernel.TheConstants.{MOST_PLACES};
 ghost use Rattle.apl_search.specs.Finding.{first_place};

@@ -10,7 +10,7 @@ ghost use Rattle.apl_search.specs.Ordering.{upwards, downwards, IsGrade, grade_o
 use apl_answer::answer_is_within_limits;
 
 /// A list of numbers has one grade upwards and one downwards: the one list of all places, each once,
-/// in which each stands before the next by value, and where values are equal by place.
+/// in which each comes before the next by value, and where values are equal by place.
 pub fn one_grade()
     ensures up { (values : List ℤ) (grade : List ℕ) → IsGrade upwards values grade ↔ (grade ≡ grade_of upwards values) }
     ensures down { (values : List ℤ) (grade : List ℕ) → IsGrade downwards values grade ↔ (grade ≡ grade_of downwards values) }

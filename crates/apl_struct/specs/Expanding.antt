@@ -3,7 +3,7 @@ use Rattle.std.specs.Prelude.{◌≡◌, ℕ, ◌<◌, ◌≤◌, ◌==◌, ℤ,
 use Rattle.apl_array.specs.Axes.{place_number}
 use Rattle.apl_struct.specs.declared.expanding.TheConstants.{ABSENT}
 
--- at each one how many ones stand before it, and at each zero that there is no index
+-- at each one how many ones come before it, and at each zero that there is no index
 abbrev pub expanded_entry : List ℕ → ℕ → ℕ
 expanded_entry bits i = if slice_index bits i == 1 then sum (take i bits) else ABSENT
 

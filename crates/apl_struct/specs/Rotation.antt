@@ -17,7 +17,7 @@ abbrev pub rotation_of : (n : ℕ) → (z : ℤ) → ℕ
 rotation_of zero z = 0
 rotation_of (suc m) z = nat_abs (int_rem_euclid z (pos (suc m)))
 
--- the place on the line of a place that its rotation takes there, where an axis has n indexes and neighbours along it are `inner` apart
+-- the place on a place's line that its rotation takes there. An axis has n indexes, and neighbours along it are `inner` apart
 abbrev pub turned_place : (n inner : ℕ) (by : List ℕ) (place : ℕ) → ℕ
 turned_place n inner by place = line_place n inner (n * inner) place (wrapped n (line_index n inner place + slice_index by (line_number n inner place)))
 

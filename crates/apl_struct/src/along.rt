@@ -75,8 +75,8 @@ fn walk_along<'a>(
 }
 
 impl<R: Threads + Sync, C: Cut + Sync, G: Gate + Sync> Workers<'_, R, C, G> {
-    /// The array of this shape with elements, which is the argument's but for axis `k`, with the elements at the indexes of that axis that
-    /// a map takes.
+    /// The array of this shape, which has elements and is the argument's but for axis `k`. Along it are the elements at the
+    /// indexes that a map takes.
     pub(crate) fn gather_mapped(
         &self,
         shape: Shape,

@@ -1,4 +1,4 @@
-//! Indexes of an axis that stand as often as counts say.
+//! Indexes of an axis, each as often as its count says.
 ghost use Rattle.std.specs.Prelude.{◌≡◌, ◌+◌, ◌*◌, ◌<◌, ◌≤◌, ◌++◌, true, false, IfOk, MatchOption, map, min, sum, length, replicate, vec_len, vec_capacity};
 ghost use Rattle.std.specs.List.{list_all};
 ghost use Rattle.apl_array.specs.Axes.{place_number};

@@ -85,8 +85,8 @@ pub(crate) fn vector_stride(b: &Array, shape: &Shape, k: usize) -> usize
 }
 
 impl<R: Threads + Sync, C: Cut + Sync, G: Gate + Sync> Workers<'_, R, C, G> {
-    /// The array of this shape with elements, which is the argument's but for axis `k`, with the elements at the indexes of that axis
-    /// that a map takes.
+    /// The array of this shape, which has elements and is the argument's but for axis `k`. Along it are the elements at the
+    /// indexes that a map takes.
     pub(crate) fn gather_vector(
         &self,
         shape: Shape,
@@ -109,8 +109,8 @@ impl<R: Threads + Sync, C: Cut + Sync, G: Gate + Sync> Workers<'_, R, C, G> {
         self.gather_walk(shape, b, walk)
     }
 
-    /// The array of this shape, which is the argument's but for axis `k`, with the elements at the entries of a list that are below the
-    /// argument's length there, and the fill at the others.
+    /// The array of this shape, which is the argument's but for axis `k`. Along it each entry of a list takes the element at
+    /// that index, or the fill if it is not below the argument's length.
     pub(crate) fn gather_listed(
         &self,
         shape: Shape,

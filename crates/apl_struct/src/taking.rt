@@ -69,8 +69,8 @@ fn taken_walk(alloc: Global, numbers: &[i64], argument: &Shape) -> Result<Walk<'
     Ok(walk)
 }
 
-/// What is left of an axis of which the first `number` elements are dropped, or the last for a
-/// negative number, as what is taken of it.
+/// How many elements are left, as the number that takes them: `number` are dropped from the front, or from the
+/// end if it is negative.
 fn left_number(number: i64, length: usize) -> i64
     requires { length ≤ MOST_PLACES }
     ensures { result ≡ left_number number length }

@@ -36,8 +36,8 @@ sums_fit least greatest right = int_le least_number (least +ℤ right) && int_le
 abbrev pub sum_outcome : (is_negated : Bool) → (total least greatest right : ℤ) → Result ℤ Fault
 sum_outcome is_negated total least greatest right = if sums_fit least greatest right then Ok (signed_total is_negated total right) else Err Limit
 
--- The total of the numbers, which the next one is added to or taken from, and the least and the greatest constant of an end of them, of
--- which one is of no number. Those with minus are mirrored
+-- The total of the numbers, which the next one is added to or taken from. Beside it are the least and the greatest constant of an end of
+-- them; one end is of no number. Those with minus are mirrored
 pub record IsRunningSum (is_plus is_negated : Bool) (total least greatest : ℤ) (numbers : List ℤ) : Type 0 where
   pub only_plus : is_plus ≡ true → is_negated ≡ false
   pub not_above : least ≤ℤ pos 0

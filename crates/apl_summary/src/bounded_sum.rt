@@ -10,7 +10,7 @@ use crate::range::{greater_of, lesser_of};
 use crate::running::{PrefixState, append_scan_after, scan_run_after};
 use crate::running_sum::{RunningSum, is_minus};
 
-/// The fold of numbers by `+` if `MINUS` is 0, else by `-`, and how far that of every end of them stays within the range.
+/// The fold of numbers by `+` if `MINUS` is 0, else by `-`. Beside it is how far the fold of every end stays within the range.
 #[derive(Clone, Copy)]
 pub struct BoundedSum<const MINUS: u8> {
     total: i64,

@@ -59,7 +59,7 @@ impl Window {
     }
 }
 
-/// An axis and the next one as one axis, where a step along it is one past the end of the other.
+/// Two neighbouring axes as one axis, where a step along the first is one past the end of the second.
 fn joined<'a>(outer: &Map<'a>, inner: &Map<'a>) -> Option<Map<'a>>
     requires { map_extent outer.now * map_extent inner.now ≤ MOST_PLACES }
     ensures extent { IfSome result (λ m. map_extent m ≡ map_extent outer.now * map_extent inner.now) }

@@ -44,7 +44,7 @@ pub trait Lined {
         requires index { index < extent self.now }
         ensures { result ≡ value self.now line index };
 
-    /// Writes what there is at `count` indexes from `from` on to the front of a room.
+    /// Writes the values at `count` indexes from `from` on to the front of a room.
     fn write(&self, line: usize, from: usize, count: usize, room: &mut [Self::Out])
         requires line { line ≤ MOST_PLACES }
         requires within { from + count ≤ extent self.now }
@@ -82,7 +82,7 @@ impl<L: Lined> ByLines<L> {
         }
     }
 
-    /// Writes what there is at some places line by line.
+    /// Writes the values at some places line by line.
     #[inline(always)]
     fn write_lines(&self, from: usize, to: usize, room: &mut [L::Out])
         requires order { from ≤ to }
@@ -105,7 +105,7 @@ impl<L: Lined> ByLines<L> {
         }
     }
 
-    /// Writes what there is at `count` indexes from `from` on of the lines of a room.
+    /// Writes the values at `count` indexes from `from` on of the lines of a room.
     fn write_tile(&self, line: usize, lines: usize, from: usize, count: usize, room: &mut [L::Out])
         requires lines { line + lines ≤ MOST_PLACES }
         requires within { from + count ≤ L.extent self.now.lines }
@@ -138,7 +138,7 @@ impl<L: Lined> ByLines<L> {
         }
     }
 
-    /// Writes what there is at some places, of whole lines tile by tile.
+    /// Writes the values at some places, those of whole lines tile by tile.
     fn write_by_tiles(&self, from: usize, to: usize, room: &mut [L::Out])
         requires line { from + L.extent self.now.lines ≤ to }
         requires most { to ≤ MOST_PLACES }

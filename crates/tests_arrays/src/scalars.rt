@@ -161,7 +161,7 @@ const RUNS_OF_TWO: &str = "\
     (1024: 1023⍴6, ¯9223372036854775808) ÷ (1024: 1023⍴3, ¯1) → LIMIT ERROR
     ";
 
-/// The results are written by runs of at most 1024 places. Here are arrays of so many, of one more, of one less and of one.
+/// The results are written by runs of at most 1024 places. Here are arrays of 1024, 1025, 1023 and 1 places.
 #[test]
 fn runs(rt: HostRuntime) -> Result<(), Fail> {
     for (workers, piece) in [(1u8, usize::MAX), (2, 1024), (3, 700)] {

@@ -185,7 +185,7 @@ fn gate_two(rt: HostRuntime) -> Result<(), Fail> {
 }
 
 /// Worker w of m begins with the pieces from w × p / m on, rounded down. So the first and the last of four pieces are those of two
-/// workers, and of more workers than pieces it is known which have one.
+/// workers. Where there are more workers than pieces, it is known which have one.
 #[test]
 fn gate_deal(rt: HostRuntime) -> Result<(), Fail> {
     for (workers, pieces, pair, known) in [
