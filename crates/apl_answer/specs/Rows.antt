@@ -2,10 +2,11 @@
 use Rattle.std.specs.Prelude.{◌≡◌, ℕ, List, [], ◌∷◌, Bool, true, Result, Ok, Err, if◌then◌else◌}
 use Rattle.apl_array.specs.declared.array.Elem.{Elem}
 use Rattle.apl_array.specs.declared.array.Kind.{Kind}
+use Rattle.apl_array.specs.Shape.{IsShape}
 use Rattle.apl_array.specs.Array.{ArrayValue}
 use Rattle.apl_pool.specs.declared.kernel.Fault.{Fault}
 use Rattle.apl_answer.specs.declared.fault.OpFault.{OpFault}
-use Rattle.apl_answer.specs.Pointwise.{answer_of, IsAnswerOf}
+use Rattle.apl_answer.specs.Pointwise.{answer_of, IsAnswerOf, HaveElementsInRange}
 
 -- a test, and the refusal if it fails
 abbrev pub Check : Type 0
@@ -35,6 +36,14 @@ first_failure_or (check ∷ checks) answer = if check.0 then first_failure_or ch
 -- the first check that fails, or else the answer of the row's outcomes
 abbrev pub result_of : Row → Result ArrayValue OpFault
 result_of row = first_failure_or row.checks (answer_of row.shape row.outcome row.kind)
+
+-- the row has a lawful shape if its checks have passed
+abbrev pub HasShape : Row → Type 0
+HasShape row = HavePassed row.checks → IsShape row.shape
+
+-- its elements are in the range if its checks have passed
+abbrev pub HasElementsInRange : Row → Type 0
+HasElementsInRange row = HavePassed row.checks → HaveElementsInRange row.shape row.outcome
 
 -- the row's result, or `Memory` in its place
 abbrev pub Answers : Row → Result ArrayValue OpFault → Type 0

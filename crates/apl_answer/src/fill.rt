@@ -1,11 +1,8 @@
 //! The array that a pool fills.
-ghost use Rattle.std.specs.Prelude.{◌≡◌, ℕ, List, Result, IfOk, IfErr, vec_len};
-ghost use Rattle.apl_array.specs.declared.array.Elem.{Elem};
+ghost use Rattle.std.specs.Prelude.{◌≡◌, IfOk, vec_len};
 ghost use Rattle.apl_array.specs.Shape.{count_of};
-ghost use Rattle.apl_pool.specs.declared.kernel.Fault.{Fault};
-ghost use Rattle.apl_pool.specs.Pool.{AreValues, IsStopOf};
-ghost use Rattle.apl_answer.specs.Elements.{HaveOutcomes};
-ghost use Rattle.apl_answer.specs.Pointwise.{answer_of, IsAnswerOf};
+ghost use Rattle.apl_answer.specs.Elements.{HaveOutcomes, IsAnswerOfPool};
+ghost use Rattle.apl_answer.specs.Pointwise.{Outcomes, answer_of, IsAnswerOf};
 
 use crate::element::ElementType;
 use crate::fault::OpFault;
@@ -26,7 +23,7 @@ pub fn fill_array<K: Kernel + Sync, R: Threads + Sync, C: Cut + Sync, G: Gate + 
 where
     K::Out: ElementType + Send,
     requires { K.place_count kernel.now ≡ count_of shape }
-    ensures { (outcome : List ℕ → Result Elem Fault) → HaveOutcomes K.Out.elem_of (K.outcome kernel.now) shape outcome
+    ensures { (outcome : Outcomes) → HaveOutcomes K.Out.elem_of (K.outcome kernel.now) shape outcome
         → IsAnswerOf (answer_of shape outcome K.Out.kind) result }
 {
     array_from_fill(shape, pool.fill(rt, alloc, kernel))
@@ -39,9 +36,7 @@ pub fn array_from_fill<T: ElementType>(
     filled: Result<Vec<T>, Stop>,
 ) -> Result<Array, OpFault>
     requires { IfOk filled (λ values. vec_len values ≡ count_of shape) }
-    ensures { (at_place : ℕ → Result T Fault) (outcome : List ℕ → Result Elem Fault) → HaveOutcomes T.elem_of at_place shape outcome
-        → IfOk filled (λ v. AreValues at_place (count_of shape) v.items) → IfErr filled (IsStopOf at_place (count_of shape))
-        → IsAnswerOf (answer_of shape outcome T.kind) result }
+    ensures { IsAnswerOfPool T.elem_of shape T.kind filled result }
 {
     match filled {
         Ok(values) => Ok(T::array(shape, values)),

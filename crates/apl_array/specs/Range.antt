@@ -1,5 +1,5 @@
 -- The range of the numbers.
-use Rattle.std.specs.Prelude.{◌-◌, ◌^◌, Bool, ◌&&◌, ℤ, pos, neg_ℤ, ◌≤ℤ◌, int_le, All}
+use Rattle.std.specs.Prelude.{◌-◌, ◌^◌, Bool, ◌&&◌, ℤ, pos, neg_ℤ, ◌≤ℤ◌, int_le, List, All}
 use Rattle.apl_array.specs.declared.array.Elem.{Elem}
 use Rattle.apl_array.specs.declared.array.Elem.TheVariants.{Int, Chr}
 use Rattle.apl_array.specs.Array.{ArrayValue}
@@ -20,6 +20,10 @@ pub record IsInRange (z : ℤ) : Type 0 where
 -- the test of it
 abbrev pub in_range : ℤ → Bool
 in_range z = int_le least_number z && int_le z greatest_number
+
+-- each of the numbers is in the range
+abbrev pub AreInRange : List ℤ → Type 0
+AreInRange numbers = All IsInRange numbers
 
 -- a number in the range, or a character
 abbrev pub IsElementInRange : Elem → Type 0

@@ -1,5 +1,5 @@
 -- Transposition: `axes` says which axis of the result each axis of a source becomes. Source axes that become one axis make a diagonal.
-use Rattle.std.specs.Prelude.{◌≡◌, ℕ, ◌+◌, ◌*◌, ◌<◌, ◌≤◌, ◌==◌, if◌then◌else◌, min, List, [], ◌∷◌, length, map, sum, slice_index}
+use Rattle.std.specs.Prelude.{◌≡◌, ℕ, ◌+◌, ◌*◌, ◌<◌, ◌≤◌, ◌==◌, if◌then◌else◌, min, List, [], ◌∷◌, length, map, sum, slice_index, All, Contains}
 use Rattle.std.specs.List.{range_with_len}
 use Rattle.apl_array.specs.Shape.{count_of}
 
@@ -37,6 +37,14 @@ transposed_shape rank axes source = map (λ axis. least (items_onto axis axes so
 -- how far a step along each axis of the result moves the place in the source: as a step along each axis that becomes it
 abbrev pub source_strides : ℕ → List ℕ → List ℕ → List ℕ
 source_strides rank axes source = map (λ axis. sum (items_onto axis axes (strides source))) (range_with_len 0 rank)
+
+-- each of the axes is below the rank
+abbrev pub AreAxesBelow : ℕ → List ℕ → Type 0
+AreAxesBelow rank axes = All (λ axis. axis < rank) axes
+
+-- each axis below the rank is among the axes
+abbrev pub NameEachAxis : ℕ → List ℕ → Type 0
+NameEachAxis rank axes = (axis : ℕ) → axis < rank → Contains axes axis
 
 -- each axis of the source becomes an axis of the result, which is no longer
 pub record AreAxesInto (source axes result : List ℕ) : Type 0 where

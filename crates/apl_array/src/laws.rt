@@ -1,11 +1,11 @@
 //! What is true of all arrays, their places and their numbers, each law the contract of a function
 //! that does nothing.
-ghost use Rattle.std.specs.Prelude.{◌≡◌, ◌↔◌, ◌<◌, ◌+◌, ◌*◌, ◌/◌, ◌%◌, ℕ, ℤ, List, ◌++◌, true, length, reverse, take, drop, slice_index, slice_set, insert, remove, All, Contains, FitsSigned};
+ghost use Rattle.std.specs.Prelude.{◌≡◌, ◌↔◌, ◌<◌, ◌+◌, ◌*◌, ◌/◌, ◌%◌, ℕ, ℤ, List, ◌++◌, true, length, reverse, take, drop, slice_index, slice_set, insert, remove, FitsSigned};
 ghost use Rattle.std.specs.List.{range_with_len};
 ghost use Rattle.std.specs.Int.{w64};
 ghost use Rattle.apl_array.specs.Range.{IsInRange, in_range};
-ghost use Rattle.apl_array.specs.Shape.{IsShape, is_shape, IsIndexOf, count_of, place_of, index_at};
-ghost use Rattle.apl_array.specs.Transposition.{strides, inner_product, source_index, transposed_shape, source_strides, AreAxesInto};
+ghost use Rattle.apl_array.specs.Shape.{IsShape, is_shape, IsIndexOf, count_of, place_of, index_at, place_around, line_place, replaced_place, changed_place, changed_index};
+ghost use Rattle.apl_array.specs.Transposition.{strides, inner_product, source_index, transposed_shape, source_strides, AreAxesBelow, NameEachAxis, AreAxesInto};
 ghost use Rattle.apl_array.specs.Array.{ArrayValue, IsArray, HaveSameElements};
 
 /// An array is determined by its shape, its kind and the element at each index list.
@@ -32,8 +32,7 @@ pub fn inserted_index_has_place()
     ensures without { (shape index : List ℕ) (k : ℕ) → k < length shape → IsIndexOf shape index
         → IsIndexOf (remove shape k) (remove index k) }
     ensures place { (shape : List ℕ) (k place i : ℕ) → k < length shape → place < count_of (remove shape k)
-        → place_of shape (insert (index_at (remove shape k) place) k i)
-        ≡ (place / count_of (drop (k + 1) shape) * slice_index shape k + i) * count_of (drop (k + 1) shape) + place % count_of (drop (k + 1) shape) }
+        → place_of shape (insert (index_at (remove shape k) place) k i) ≡ line_place shape k place i }
 {}
 
 /// An index takes the place of another along an axis.
@@ -42,8 +41,7 @@ pub fn replaced_index_has_place()
         → count_of shape ≡ count_of (take k shape) * slice_index shape k * count_of (drop (k + 1) shape) }
     ensures lawful { (shape index : List ℕ) (k i : ℕ) → IsIndexOf shape index → i < slice_index shape k → IsIndexOf shape (slice_set index k i) }
     ensures place { (shape : List ℕ) (k place i : ℕ) → k < length shape → place < count_of shape
-        → place_of shape (slice_set (index_at shape place) k i)
-        ≡ (place / (slice_index shape k * count_of (drop (k + 1) shape)) * slice_index shape k + i) * count_of (drop (k + 1) shape) + place % count_of (drop (k + 1) shape) }
+        → place_of shape (slice_set (index_at shape place) k i) ≡ replaced_place shape k place i }
 {}
 
 /// Index lists of two shapes that are joined to one of the joined shape, as the axes of an outer
@@ -67,8 +65,7 @@ pub fn reversed_index_is_lawful()
 /// The parts of an index list on both sides of an axis.
 pub fn split_index_has_place()
     ensures place { (shape index : List ℕ) (k : ℕ) → k < length shape → length index ≡ length shape
-        → place_of shape index ≡ (place_of (take k shape) (take k index) * slice_index shape k + slice_index index k) * count_of (drop (k + 1) shape)
-        + place_of (drop (k + 1) shape) (drop (k + 1) index) }
+        → place_of shape index ≡ place_around shape k index }
     ensures outer { (shape : List ℕ) (k place : ℕ) → k < length shape
         → take k (index_at shape place) ≡ index_at (take k shape) (place / (slice_index shape k * count_of (drop (k + 1) shape))) }
     ensures index { (shape : List ℕ) (k place : ℕ) → k < length shape
@@ -86,8 +83,7 @@ pub fn changed_axis_has_place()
     ensures lawful { (shape index : List ℕ) (k m i : ℕ) → k < length shape → IsIndexOf (slice_set shape k m) index → i < slice_index shape k
         → IsIndexOf shape (slice_set index k i) }
     ensures place { (shape : List ℕ) (k m place i : ℕ) → k < length shape → place < count_of (slice_set shape k m)
-        → place_of shape (slice_set (index_at (slice_set shape k m) place) k i)
-        ≡ (place / (m * count_of (drop (k + 1) shape)) * slice_index shape k + i) * count_of (drop (k + 1) shape) + place % count_of (drop (k + 1) shape) }
+        → place_of shape (changed_index shape k m place i) ≡ changed_place shape k m place i }
 {}
 
 /// The place of an index list, counted in strides, and that of one in reverse order.
@@ -104,12 +100,12 @@ pub fn place_is_sum_of_strides()
 pub fn transposed_index_has_place()
     ensures lawful { (source axes result index : List ℕ) → AreAxesInto source axes result → IsIndexOf result index
         → IsIndexOf source (source_index axes index) }
-    ensures place { (source axes index : List ℕ) → All (λ axis. axis < length index) axes
+    ensures place { (source axes index : List ℕ) → AreAxesBelow (length index) axes
         → place_of source (source_index axes index) ≡ inner_product index (source_strides (length index) axes source) }
-    ensures fits { (source axes : List ℕ) (rank : ℕ) → length axes ≡ length source → All (λ axis. axis < rank) axes
+    ensures fits { (source axes : List ℕ) (rank : ℕ) → length axes ≡ length source → AreAxesBelow rank axes
         → AreAxesInto source axes (transposed_shape rank axes source) }
-    ensures shape { (source axes : List ℕ) (rank : ℕ) → IsShape source → length axes ≡ length source → All (λ axis. axis < rank) axes
-        → ((axis : ℕ) → axis < rank → Contains axes axis) → IsShape (transposed_shape rank axes source) }
+    ensures shape { (source axes : List ℕ) (rank : ℕ) → IsShape source → length axes ≡ length source → AreAxesBelow rank axes
+        → NameEachAxis rank axes → IsShape (transposed_shape rank axes source) }
     ensures reversed { (index : List ℕ) → source_index (reverse (range_with_len 0 (length index))) index ≡ reverse index }
 {}
 

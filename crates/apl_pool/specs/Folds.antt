@@ -27,6 +27,11 @@ module _ {S X : Type 0} (step : X → ℤ → Result ℤ Fault) (item_count : S 
   abbrev pub IsFoldedPiece : List ℕ → ℕ → Option S → Type 0
   IsFoldedPiece starts number = IsFolded (slice_index starts number) (slice_index starts (number + 1))
 
+  -- a marked part of a row is the summary of its piece; the rows' first pieces come first
+  abbrev pub ArePartsOfRow : (rows row count : ℕ) → List ℕ → List Bool → List (Option S) → Type 0
+  ArePartsOfRow rows row count starts marks parts = (n : ℕ) → n < count → slice_index_or marks (n * rows + row) false ≡ true
+      → IsFoldedPiece starts n (slice_index_or parts (n * rows + row) None)
+
   -- what a worker answers for these places
   abbrev pub IsFoldedPart : ℕ → ℕ → Result (Option S) Stop → Type 0
   IsFoldedPart from to (Ok folded) = IsFolded from to folded
@@ -35,6 +40,12 @@ module _ {S X : Type 0} (step : X → ℤ → Result ℤ Fault) (item_count : S 
   -- the first of a list is the summary of these places
   abbrev pub IsFoldedFirst : ℕ → ℕ → List (Option S) → Type 0
   IsFoldedFirst from to values = IsFolded from to (slice_index_or values 0 None)
+
+-- where two are the summaries of neighbouring places, this is the summary of the places of both
+abbrev pub IsJoined : {S X : Type 0} → (X → ℤ → Result ℤ Fault) → (S → ℕ) → (S → ℤ → Result ℤ Fault) → (left right both : Option S) → Type 0
+IsJoined {X} step item_count does left right both = (outcome : ℕ → Result X Fault) (from mid to : ℕ)
+    → IsFolded step item_count does outcome from mid left → IsFolded step item_count does outcome mid to right
+    → IsFolded step item_count does outcome from to both
 
 -- The first of a list is the summary of piece `number` of the pieces of all rows: the rows' first pieces come first
 abbrev pub IsPieceOfRows : {S X : Type 0} → (X → ℤ → Result ℤ Fault) → (S → ℕ) → (S → ℤ → Result ℤ Fault) → (ℕ → ℕ → Result X Fault) → (rows : ℕ) → List ℕ → ℕ → List (Option S) → Type 0

@@ -1,9 +1,9 @@
 //! What several workers do at once: the first in this thread, and each other one in a thread of its own. This thread starts all
 //! of them, since a thread that has only just begun tends to share its processor with those that it starts.
 ghost use Rattle.std.specs.Thread.{IsSync};
-ghost use Rattle.std.specs.Prelude.{◌≡◌, ℕ, ◌+◌, ◌-◌, ◌<◌, ◌≤◌, ◌*◌, replicate};
+ghost use Rattle.std.specs.Prelude.{◌≡◌, ◌+◌, ◌-◌, ◌<◌, ◌≤◌, ◌*◌, replicate};
 ghost use Rattle.apl_board.specs.Seats.{view, IsSeatOf};
-ghost use Rattle.apl_pool.specs.Crew.{AreSeatsOf, AreRoomsFor, AreReady};
+ghost use Rattle.apl_pool.specs.Crew.{AreSeatsOf, AreRoomsFor, AreReady, IsCrew};
 
 use crate::copies::Copies;
 use crate::ends::Ends;
@@ -173,8 +173,8 @@ pub(crate) fn work_together<T: Send, R: Threads + Sync, F: Task<T> + Sync, G: Ga
         ensures { AreSeatsOf rooms.entry.now board.entry.now result 1 }
     { work(rooms, board, task, gate, shares, worker, own, one) };
     let before = move || -> Seats<T>
-        requires { IsSync R.row × IsSync F.row × IsSync G.row × (0 < others) × (others ≤ shares.now.tasks)
-            × AreReady T.row F.start_of F.piece_count rooms.now task.now board.now (shares.now.rows * shares.now.pieces.count) rest others }
+        requires { IsSync R.row × IsSync F.row × IsSync G.row
+            × IsCrew T.row F.start_of F.piece_count rooms.now task.now board.now (shares.now.rows * shares.now.pieces.count) rest others shares.now.tasks }
         ensures { AreSeatsOf rooms.entry.now board.entry.now result others × (result.copies.items ≡ replicate copies.count copies.number) }
     {
         work_together(

@@ -1,9 +1,8 @@
 //! What a worker does with its share of a fold: the items at its places are summarized.
-ghost use Rattle.std.specs.Prelude.{◌≡◌, ℕ, ◌+◌, ◌-◌, ◌*◌, ◌<◌, ◌≤◌, true, false, Result, None, IfOk, length, replicate, slice_index, slice_index_or, slice_set, vec_len, vec_capacity};
-ghost use Rattle.apl_pool.specs.declared.kernel.Fault.{Fault};
+ghost use Rattle.std.specs.Prelude.{◌≡◌, ℕ, ◌+◌, ◌-◌, ◌*◌, ◌<◌, ◌≤◌, true, Result, None, IfOk, length, replicate, slice_index, slice_index_or, slice_set, vec_len, vec_capacity};
 ghost use Rattle.apl_pool.specs.declared.kernel.TheConstants.{MOST_PLACES};
 ghost use Rattle.apl_pool.specs.declared.summary.TheConstants.{LONGEST_RUN};
-ghost use Rattle.apl_pool.specs.Folds.{items_in, IsFolded, IsFoldedPiece, IsFoldedPart, ArePartsOf};
+ghost use Rattle.apl_pool.specs.Folds.{items_in, IsFolded, IsFoldedPart, IsJoined, ArePartsOf, ArePartsOfRow};
 ghost use Rattle.apl_pool.specs.Summaries.{AreFolds};
 
 use crate::copies::Copies;
@@ -22,8 +21,7 @@ use std::thread::Threads;
 /// The summary of the items of both, if there are some.
 pub(crate) fn join_both<S: Summary + Drop>(left: Option<S>, right: Option<S>) -> Option<S>
     requires { items_in S.item_count left + items_in S.item_count right ≤ MOST_PLACES }
-    ensures { (outcome : ℕ → Result S.Item Fault) (from mid to : ℕ) → IsFolded S.step S.item_count S.outcome outcome from mid left
-        → IsFolded S.step S.item_count S.outcome outcome mid to right → IsFolded S.step S.item_count S.outcome outcome from to result }
+    ensures { IsJoined S.step S.item_count S.outcome left right result }
 {
     match left {
         None => right,
@@ -171,8 +169,7 @@ fn join_parts<S: Summary + Drop, K: Kernel<Out = S::Item>, G: Gate>(
     requires parts { rows * pieces.now.count ≡ length parts.old }
     requires marks { rows * pieces.now.count ≡ length marks.now }
     requires most { rows * pieces.now.count ≤ MOST_PLACES }
-    requires right { (n : ℕ) → n < pieces.now.count → slice_index_or marks.now (n * rows + row) false ≡ true
-        → IsFoldedPiece S.step S.item_count S.outcome (K.outcome kernel.now) pieces.now.starts.items n (slice_index_or parts.old (n * rows + row) None) }
+    requires right { ArePartsOfRow S.step S.item_count S.outcome (K.outcome kernel.now) rows row pieces.now.count pieces.now.starts.items marks.now parts.old }
     ensures folded { IsFoldedPart S.step S.item_count S.outcome (K.outcome kernel.now) 0 (K.place_count kernel.now) result }
     ensures len { length parts.new ≡ length parts.old }
     ensures kept { (n other : ℕ) → row < other → other < rows → slice_index_or parts.new (n * rows + other) None ≡ slice_index_or parts.old (n * rows + other) None }

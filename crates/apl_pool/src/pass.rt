@@ -1,9 +1,9 @@
 //! One pass of several workers over the rooms of all pieces.
 ghost use Rattle.std.specs.Thread.{IsSync};
-ghost use Rattle.std.specs.Prelude.{◌≡◌, ◌<◌, ◌≤◌, IfOk, IfSome, length, ◌*◌, replicate};
+ghost use Rattle.std.specs.Prelude.{◌≡◌, ◌<◌, ◌≤◌, IfOk, length, ◌*◌, replicate};
 ghost use Rattle.core.specs.Mem.Slots.{slots_items, slots_len, IsFull, Refills};
 ghost use Rattle.apl_board.specs.Seats.{view, IsSeatOf};
-ghost use Rattle.apl_pool.specs.Crew.{AreMarksOf, IsPassReady};
+ghost use Rattle.apl_pool.specs.Crew.{AreMarksOf, HasMarks, HasCopies, IsPassReady};
 
 use crate::copies::Copies;
 use crate::crew::{Seats, work_together};
@@ -52,8 +52,8 @@ fn fill_row<T: Send, R: Threads + Sync, F: Task<T> + Sync, G: Gate + Sync>(
     requires pieces { F.piece_count task.now ≡ shares.now.rows * shares.now.pieces.count }
     requires seat { IsSeatOf board.now seat × ((view seat).share ≡ shares.now.tasks) }
     ensures row { Refills row result.0 }
-    ensures marks { IfSome result.1 (λ b. AreMarksOf F.is_right F.start_of F.piece_count task.now (slots_items result.0) b.marks.items) }
-    ensures copies { IfSome result.1 (λ b. b.copies.items ≡ replicate copies.count copies.number) }
+    ensures marks { HasMarks F.is_right F.start_of F.piece_count task.now (slots_items result.0) result.1 }
+    ensures copies { HasCopies copies.count copies.number result.1 }
 {
     let workers = shares.tasks() as u8;
     match Rooms::new(alloc, row, task, workers) {
@@ -102,8 +102,8 @@ pub(crate) fn fill_rooms<T: Send, R: Threads + Sync, F: Task<T> + Sync, G: Gate 
             |row: Slots<T>, _: (), rt: &R| -> (Slots<T>, (), Option<PassOutput>)
                 requires { IsSync F.row × IsSync G.row × IsFull row
                     × IsPassReady F.start_of F.piece_count task.now (slots_len row) (shares.now.rows * shares.now.pieces.count) board seat shares.now.tasks }
-                ensures { Refills row result.0 × IfSome result.2 (λ b. AreMarksOf F.is_right F.start_of F.piece_count task.entry.now (slots_items result.0) b.marks.items)
-                    × IfSome result.2 (λ b. b.copies.items ≡ replicate copies.count copies.number) }
+                ensures { Refills row result.0 × HasMarks F.is_right F.start_of F.piece_count task.entry.now (slots_items result.0) result.2
+                    × HasCopies copies.count copies.number result.2 }
             {
                 let (row, brought) = fill_row(
                     rt, alloc, task, gate, shares, &board, seat, ends, copies, row,

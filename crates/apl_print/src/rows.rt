@@ -1,9 +1,9 @@
 //! Rows of fields, and the lines that they are on.
-ghost use Rattle.std.specs.Prelude.{◌≡◌, ℕ, ◌+◌, ◌-◌, ◌*◌, ◌<◌, ◌≤◌, ◌++◌, All, IfSome, IfOk, OnOk, length, take, map, max, replicate, slice_index, string_bytes, encode_utf8_all, None};
+ghost use Rattle.std.specs.Prelude.{◌≡◌, ℕ, ◌+◌, ◌-◌, ◌*◌, ◌<◌, ◌≤◌, ◌++◌, All, IfSome, IfOk, OnOk, length, take, map, max, replicate, slice_index, None};
 ghost use Rattle.apl_array.specs.Shape.{count_of, most_elements};
 ghost use Rattle.apl_array.specs.Array.{IsArray, element_in};
-ghost use Rattle.apl_print.specs.Shown.{field_of, gap_of, row_length, row_count, rows_of, column_width, padded, aligned, plane_starts, empty_lines};
-ghost use Rattle.apl_print.specs.Layout.{lead, column_after, rest_of_row, rest_of_rows, fields_between};
+ghost use Rattle.apl_print.specs.Shown.{field_of, gap_of, row_count, rows_of, column_width, padded, aligned, plane_starts, empty_lines};
+ghost use Rattle.apl_print.specs.Layout.{lead, column_after, rest_of_row, rest_of_rows, fields_between, aligned_rows, GrowsBy};
 
 use apl_array::{Array, Elem, Kind};
 use itoa::Buffer;
@@ -49,7 +49,7 @@ impl Layout {
         requires within { end ≤ count_of array.now.shape }
         ensures laid { OnOk result (
             let row = aligned (slice_index widths.now) 0 (fields_between array.now start end) in
-            string_bytes text.new ≡ string_bytes text.old ++ encode_utf8_all (rest_of_row self.width self.gap None row)) }
+            GrowsBy text.old text.new (rest_of_row self.width self.gap None row)) }
         ensures short { OnOk result (All (λ field. length field ≤ 21) (fields_between array.now start end)) }
     {
         let mut column = None;
@@ -72,8 +72,7 @@ impl Layout {
         requires { IfSome column (λ c. c ≤ 300) }
         ensures text { OnOk result (
             let field = padded width (field_of element) in
-            string_bytes text.new ≡ string_bytes text.old
-            ++ encode_utf8_all (lead self.width self.gap column (length field) ++ field)) }
+            GrowsBy text.old text.new (lead self.width self.gap column (length field) ++ field)) }
         ensures column { IfOk result (λ next.
             next ≡ column_after self.width self.gap column (length (padded width (field_of element)))) }
         ensures open { IfOk result (λ next. next ≤ 300) }
@@ -96,8 +95,7 @@ impl Layout {
     ) -> Result<usize, AllocError>
         requires open { IfSome column (λ c. c ≤ 300) }
         requires short { size ≤ 280 }
-        ensures text { OnOk result (string_bytes text.new ≡ string_bytes text.old
-            ++ encode_utf8_all (lead self.width self.gap column size)) }
+        ensures text { OnOk result (GrowsBy text.old text.new (lead self.width self.gap column size)) }
         ensures column { IfOk result (λ next. next ≡ column_after self.width self.gap column size) }
         ensures open { IfOk result (λ next. next ≤ 300) }
     {
@@ -129,10 +127,7 @@ pub(crate) fn put_rows(
     requires rank { 1 < length array.now.shape }
     requires some { 0 < count_of array.now.shape }
     ensures laid { OnOk result (
-        let shape = array.now.shape in
-        let rows = rows_of (row_count shape) (row_length shape) (map field_of array.now.ravel) in
-        string_bytes text.new ≡ string_bytes text.old
-        ++ encode_utf8_all (rest_of_rows layout.width layout.gap shape 0 (map (aligned (column_width rows) 0) rows))) }
+        GrowsBy text.old text.new (rest_of_rows layout.width layout.gap array.now.shape 0 (aligned_rows array.now))) }
     ensures short { OnOk result (All (λ field. length field ≤ 21) (map field_of array.now.ravel)) }
 {
     let lengths = array.shape().lengths();
@@ -251,8 +246,7 @@ fn length_of(element: Elem) -> u8
 
 /// Puts the field of an element.
 fn push_element(text: &mut String, element: Elem) -> Result<(), AllocError>
-    ensures { OnOk result (string_bytes text.new
-        ≡ string_bytes text.old ++ encode_utf8_all (field_of element)) }
+    ensures { OnOk result (GrowsBy text.old text.new (field_of element)) }
 {
     match element {
         Elem::Int(number) => {
@@ -267,8 +261,7 @@ fn push_element(text: &mut String, element: Elem) -> Result<(), AllocError>
 
 /// Puts a character `count` times.
 fn push_run(text: &mut String, character: char, count: usize) -> Result<(), AllocError>
-    ensures { OnOk result (string_bytes text.new
-        ≡ string_bytes text.old ++ encode_utf8_all (replicate count character)) }
+    ensures { OnOk result (GrowsBy text.old text.new (replicate count character)) }
 {
     'run: for _i in 0..count {
         text.push(character)?;

@@ -1,5 +1,5 @@
 -- How a row is cut into the rooms of its pieces.
-use Rattle.std.specs.Prelude.{◌≡◌, ℕ, ◌+◌, ◌*◌, ◌^◌, ◌<◌, ◌≤◌, List, length, slice_range, Option, Some}
+use Rattle.std.specs.Prelude.{◌≡◌, ℕ, ◌+◌, ◌*◌, ◌^◌, ◌<◌, ◌≤◌, List, Bool, false, true, length, slice_index_or, slice_range, Option, Some}
 use mathlib.Core.Option.{some}
 use lib.ListN.{get_elem?}
 use denote.RattleType.{RattleType}
@@ -37,3 +37,7 @@ module _ (R : RattleType) (start : ℕ → ℕ) where
 -- the values in the places of a piece
 abbrev pub piece_of : {X : Type 0} → (ℕ → ℕ) → ℕ → List X → List X
 piece_of start n items = slice_range items (start n) (start (n + 1))
+
+-- the values of each marked piece are right
+abbrev pub AreMarkedRight : {X : Type 0} → (ℕ → List X → Type 0) → (ℕ → ℕ) → (count : ℕ) → List X → List Bool → Type 0
+AreMarkedRight is_right start count items marks = (n : ℕ) → n < count → slice_index_or marks n false ≡ true → is_right n (piece_of start n items)

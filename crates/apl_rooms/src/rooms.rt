@@ -1,8 +1,8 @@
 //! The rooms of the pieces of a row, each in a slot of a table: who takes one writes it and lays it back.
-ghost use Rattle.std.specs.Prelude.{◌≡◌, ◌≢◌, ℕ, ◌+◌, ◌<◌, ◌≤◌, ◌∷◌, [], true, IfOk, IfErr, MatchOption, length};
-ghost use Rattle.std.specs.Prelude.{slice_index_or, false, vec_len, vec_capacity, None};
+ghost use Rattle.std.specs.Prelude.{◌≡◌, ◌≢◌, ◌+◌, ◌<◌, ◌≤◌, ◌∷◌, [], true, IfOk, IfErr, MatchOption, length};
+ghost use Rattle.std.specs.Prelude.{vec_len, vec_capacity, None};
 ghost use Rattle.core.specs.Mem.Slots.{slots_items, slots_ptr, slots_len, IsFull, Refills};
-ghost use Rattle.apl_rooms.specs.Layout.{AreRoomsOf, piece_of};
+ghost use Rattle.apl_rooms.specs.Layout.{AreRoomsOf, AreMarkedRight};
 ghost use Rattle.apl_rooms.specs.Rule.{IsRoomAt};
 ghost use Rattle.apl_rooms.specs.Views.{with_out, with_none};
 
@@ -177,8 +177,8 @@ impl<T, F: Task<T>> Rooms<T, F> {
         requires rooms { AreRoomsOf T.row (F.start_of (task_of self)) (row_of self) (F.piece_count (task_of self)) (laid_out self) }
         ensures row { Refills (row_of self) result.0 }
         ensures marks { vec_len result.1 ≡ F.piece_count (task_of self) }
-        ensures right { (n : ℕ) → n < F.piece_count (task_of self) → slice_index_or result.1.items n false ≡ true
-            → F.is_right (task_of self) n (piece_of (F.start_of (task_of self)) n (slots_items result.0)) }
+        ensures right { AreMarkedRight (F.is_right (task_of self)) (F.start_of (task_of self)) (F.piece_count (task_of self))
+            (slots_items result.0) result.1.items }
     {
         let Rooms {
             table,

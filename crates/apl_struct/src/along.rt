@@ -1,10 +1,10 @@
 //! Results that differ from an argument along one axis.
-ghost use Rattle.std.specs.Prelude.{◌≡◌, ℕ, ◌+◌, ◌*◌, ◌/◌, ◌<◌, ◌≤◌, IfOk, length, drop, slice_index, slice_set, remove};
+ghost use Rattle.std.specs.Prelude.{◌≡◌, ◌+◌, ◌*◌, ◌/◌, ◌<◌, ◌≤◌, IfOk, length, drop, slice_index, slice_set, remove};
 ghost use Rattle.apl_array.specs.Shape.{count_of, place_of};
 ghost use Rattle.apl_pool.specs.declared.kernel.TheConstants.{MOST_PLACES};
-ghost use Rattle.apl_struct.specs.Along.{step_between, IsArrayAlong};
+ghost use Rattle.apl_struct.specs.Along.{IsWalkAlong, IsArrayAlong};
 ghost use Rattle.apl_walk.specs.declared.map.TheConstants.{MOST_STEP};
-ghost use Rattle.apl_walk.specs.Maps.{extent_of, map_extent, map_step, walked};
+ghost use Rattle.apl_walk.specs.Maps.{extent_of, map_extent, map_step};
 ghost use Rattle.apl_walk.specs.Walks.{maps_of};
 
 use crate::workers::Workers;
@@ -66,8 +66,7 @@ fn walk_along<'a>(
     requires most { outer * (map_extent map * inner) ≤ MOST_PLACES }
     requires near { outer * block ≤ MOST_STEP }
     ensures extent { IfOk result (λ walk. extent_of (maps_of walk) ≡ outer * (map_extent map.entry * inner)) }
-    ensures place { let m = map.entry in IfOk result (λ walk. (place : ℕ) → place < outer * (map_extent m * inner)
-        → walked (maps_of walk) place ≡ step_between (map_extent m) (map_step m) inner block place) }
+    ensures place { IfOk result (λ walk. IsWalkAlong (maps_of walk) outer inner block (map_extent map.entry) (map_step map.entry)) }
 {
     let walk = Walk::new(alloc).with(Map::Window(Window::whole(inner, 1)))?;
     let walk = walk.with(map)?;
