@@ -1,12 +1,10 @@
 //! Reversal, rotation and transposition, each law the contract of a function that does nothing.
 ghost use Rattle.apl_array.specs.declared.axis.Axis.{Axis};
-ghost use Rattle.apl_array.specs.declared.axis.Axis.TheVariants.{Last};
 ghost use Rattle.apl_array.specs.declared.axis.Origin.{Origin};
 ghost use Rattle.apl_array.specs.Array.{ArrayValue, IsArray};
-ghost use Rattle.apl_struct.specs.Building.{shape_of_row, iota_row};
 ghost use Rattle.apl_struct.specs.Rearranging.{reverse_row, rotate_row, transpose_row, transpose_by_row};
 ghost use Rattle.apl_laws.specs.Giving.{Gives};
-ghost use Rattle.apl_laws.specs.Turning.{opposite};
+ghost use Rattle.apl_laws.specs.Turning.{opposite, AreReversedAxes};
 
 use apl_array::{
     places_match_index_lists, replaced_index_has_place, reversed_index_is_lawful,
@@ -40,8 +38,7 @@ pub fn transpose_undoes_itself()
 
 /// `(⌽⍳⍴⍴B)⍉B` is `⍉B`: to transpose is to name the axes in reverse order.
 pub fn transpose_names_axes_in_reverse()
-    ensures { (b s r i a c : ArrayValue) (origin : Origin) → Gives (shape_of_row b) s → Gives (shape_of_row s) r
-        → Gives (iota_row r origin) i → Gives (reverse_row i Last) a
+    ensures { (a b c : ArrayValue) (origin : Origin) → AreReversedAxes b origin a
         → Gives (transpose_row b) c → Gives (transpose_by_row a b origin) c }
 {
     places_match_index_lists();
