@@ -2,11 +2,14 @@
 use Rattle.std.specs.Prelude.{◌≡◌, ◌≢◌, ◌⊎◌, ℕ, ◌+◌, ◌<◌, ◌≤◌, ℤ, pos, ◌+ℤ◌, ◌*ℤ◌, List, map, length, take, drop, slice_index_or, unsigned_abs, false}
 use Rattle.std.specs.List.{range_with_len}
 use Rattle.std.specs.Int.{int_signum}
+use Rattle.apl_array.specs.declared.array.Elem.TheVariants.{Int}
 use Rattle.apl_array.specs.Range.{in_range}
+use Rattle.apl_pool.specs.declared.kernel.Fault.TheVariants.{Limit}
 use Rattle.apl_scalar.specs.Arithmetic.{residue}
 use Rattle.apl_summary.specs.ConsecutiveSums.{total}
-use Rattle.apl_reduce.specs.Decoding.{product}
+use Rattle.apl_reduce.specs.Decoding.{product, decoded}
 use Rattle.apl_reduce.specs.Encoding.{carry_past}
+use Rattle.apl_reduce.specs.Refusals.{IsRefusedOr}
 
 -- ---- A⊤B
 
@@ -29,12 +32,24 @@ exact_digit radices b k = residue (slice_index_or radices k (pos 0)) (carry_past
 abbrev pub exact_carry : List ℤ → ℤ → ℕ → ℤ
 exact_carry radices b k = carry_past (drop k radices) b
 
+-- the number has these digits by these radices, and this is what is carried
+abbrev pub HasDigits : ℤ → List ℤ → List ℤ → (carry : ℕ → ℤ) → Type 0
+HasDigits number radices digits carry = AreDigitsOf number radices (λ k. slice_index_or digits k (pos 0)) carry
+
 -- ---- A⊥B
 
 -- each digit times the product of the radices after its own
 abbrev pub place_values : List ℤ → List ℤ → List ℤ
 place_values radices digits = map (λ k. slice_index_or digits k (pos 0) *ℤ product (drop (k + 1) radices)) (range_with_len 0 (length digits))
 
+-- the sum of the place values
+abbrev pub place_sum : List ℤ → List ℤ → ℤ
+place_sum radices digits = total (place_values radices digits)
+
 -- the value of some first digits of n is outside the range
 abbrev pub HasFrontOutside : ℕ → List ℤ → List ℤ → Type 0
-HasFrontOutside n radices digits = (k : ℕ) × (k ≤ n) × (in_range (total (place_values (take k radices) (take k digits))) ≡ false)
+HasFrontOutside n radices digits = (k : ℕ) × (k ≤ n) × (in_range (place_sum (take k radices) (take k digits)) ≡ false)
+
+-- the value of n digits is the sum of the place values, or `Limit` exactly if that of some first digits is outside the range
+abbrev pub DecodesExactly : ℕ → List ℤ → List ℤ → Type 0
+DecodesExactly n radices digits = IsRefusedOr Limit (HasFrontOutside n radices digits) (Int (place_sum radices digits)) (decoded n radices digits)

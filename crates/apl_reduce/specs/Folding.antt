@@ -1,5 +1,5 @@
 -- The right fold of a list of items by a dyadic scalar function.
-use Rattle.std.specs.Prelude.{ℤ, List, [], ◌∷◌, Result, Ok, Err, Option, Some, None}
+use Rattle.std.specs.Prelude.{ℤ, List, [], ◌∷◌, map, Result, Ok, Err, Option, Some, None}
 use Rattle.apl_array.specs.declared.array.Elem.{Elem}
 use Rattle.apl_array.specs.declared.array.Elem.TheVariants.{Int}
 use Rattle.apl_array.specs.declared.function.ScalarFunction.{ScalarFunction}
@@ -20,6 +20,10 @@ fold_step f x (Err fault) = Err fault
 abbrev pub right_fold : ScalarFunction → Elem → List Elem → Result Elem Fault
 right_fold f x [] = Ok x
 right_fold f x (y ∷ rest) = fold_step f x (right_fold f y rest)
+
+-- the right fold of numbers
+abbrev pub number_fold : ScalarFunction → ℤ → List ℤ → Result Elem Fault
+number_fold f x rest = right_fold f (Int x) (map Int rest)
 
 -- the identity of the function, or Domain if there is none
 abbrev pub identity_or_fault : Option ℤ → Result Elem Fault

@@ -1,14 +1,10 @@
 //! What the digits of encode and the value of decode are, each law the contract of a function that does
 //! nothing.
-ghost use Rattle.std.specs.Prelude.{◌≡◌, ℕ, ◌<◌, ◌≤◌, ℤ, pos, ◌+ℤ◌, ◌*ℤ◌, List, length, slice_index_or};
-ghost use Rattle.apl_array.specs.declared.array.Elem.TheVariants.{Int};
-ghost use Rattle.apl_pool.specs.declared.kernel.Fault.TheVariants.{Limit};
+ghost use Rattle.std.specs.Prelude.{◌≡◌, ℕ, ◌<◌, ◌≤◌, ℤ, ◌+ℤ◌, ◌*ℤ◌, List, length};
 ghost use Rattle.apl_scalar.specs.Scalar.{exact, as_element};
-ghost use Rattle.apl_summary.specs.ConsecutiveSums.{total};
-ghost use Rattle.apl_reduce.specs.Decoding.{product, value_of, decoded};
+ghost use Rattle.apl_reduce.specs.Decoding.{product, value_of};
 ghost use Rattle.apl_reduce.specs.Encoding.{digit_at};
-ghost use Rattle.apl_reduce.specs.Refusals.{IsRefusedOr};
-ghost use Rattle.apl_reduce.specs.Digits.{AreDigitsOf, HasFrontOutside, exact_digit, exact_carry, place_values};
+ghost use Rattle.apl_reduce.specs.Digits.{AreDigitsOf, HasDigits, DecodesExactly, exact_digit, exact_carry, place_sum};
 
 /// The digits of a number by radices and what is carried are the only whole numbers of which this holds.
 /// The last carry is the number, and each carry is the one before it times the radix plus the digit. A
@@ -27,9 +23,9 @@ pub fn digits_are_the_only_ones()
 /// `Limit` exactly where that of some first digits is outside the range. What is carried before the first
 /// radix, times the product of all radices, plus the value is the number whose digits these are.
 pub fn value_is_sum_of_place_values()
-    ensures value { (radices digits : List ℤ) → length radices ≡ length digits → value_of radices digits ≡ total (place_values radices digits) }
+    ensures value { (radices digits : List ℤ) → length radices ≡ length digits → value_of radices digits ≡ place_sum radices digits }
     ensures limit { (n : ℕ) (radices digits : List ℤ) → length radices ≡ n → length digits ≡ n
-        → IsRefusedOr Limit (HasFrontOutside n radices digits) (Int (total (place_values radices digits))) (decoded n radices digits) }
+        → DecodesExactly n radices digits }
     ensures number { (radices digits : List ℤ) (b : ℤ) (carry : ℕ → ℤ) → length radices ≡ length digits
-        → AreDigitsOf b radices (λ k. slice_index_or digits k (pos 0)) carry → b ≡ carry 0 *ℤ product radices +ℤ total (place_values radices digits) }
+        → HasDigits b radices digits carry → b ≡ carry 0 *ℤ product radices +ℤ place_sum radices digits }
 {}

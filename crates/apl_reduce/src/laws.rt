@@ -1,13 +1,12 @@
 //! What is true of all reductions and products, each law the contract of a function that does nothing.
-ghost use Rattle.std.specs.Prelude.{◌≡◌, ℤ, List, ◌∷◌, map, Ok, Some, All};
-ghost use Rattle.apl_array.specs.declared.array.Elem.TheVariants.{Int};
+ghost use Rattle.std.specs.Prelude.{◌≡◌, ℤ, List, ◌∷◌, Ok, Some, All};
 ghost use Rattle.apl_array.specs.declared.axis.Axis.{Axis};
 ghost use Rattle.apl_array.specs.declared.function.ScalarFunction.{ScalarFunction};
 ghost use Rattle.apl_array.specs.Array.{ArrayValue};
 ghost use Rattle.apl_array.specs.Range.{IsInRange};
 ghost use Rattle.apl_array.specs.Limits.{IsWithinLimits};
 ghost use Rattle.apl_answer.specs.Rows.{result_of};
-ghost use Rattle.apl_reduce.specs.Folding.{right_fold};
+ghost use Rattle.apl_reduce.specs.Folding.{number_fold};
 ghost use Rattle.apl_reduce.specs.Partial.{exact_function, fold_by_partial_results};
 ghost use Rattle.apl_reduce.specs.Reducing.{reduce_row};
 ghost use Rattle.apl_reduce.specs.Products.{outer_row, inner_row};
@@ -22,7 +21,7 @@ use apl_scalar::answers_are_in_range;
 /// range.
 pub fn partial_results_decide()
     ensures { (f : ScalarFunction) (exact : ℤ → ℤ → ℤ) (x : ℤ) (rest : List ℤ) → exact_function f ≡ Some exact → All IsInRange (x ∷ rest)
-        → right_fold f (Int x) (map Int rest) ≡ fold_by_partial_results exact x rest }
+        → number_fold f x rest ≡ fold_by_partial_results exact x rest }
 {
     range_is_decided();
 }

@@ -1,12 +1,12 @@
 //! Outer products.
-ghost use Rattle.std.specs.Prelude.{◌≡◌, ℕ, ◌+◌, ◌<◌, ◌≤◌, ◌*◌, IfErr, IfOk, IsTrue, length, map};
+ghost use Rattle.std.specs.Prelude.{◌≡◌, ◌+◌, ◌<◌, ◌≤◌, ◌*◌, IfErr, IfOk, IsTrue, length, map};
 ghost use Rattle.apl_array.specs.declared.function.ScalarFunction.{ScalarFunction};
 ghost use Rattle.apl_array.specs.declared.array.Elem.TheVariants.{Int, Chr};
 ghost use Rattle.apl_array.specs.Valences.{has_dyadic};
 ghost use Rattle.apl_pool.specs.declared.kernel.TheConstants.{MOST_PLACES};
 ghost use Rattle.apl_pool.specs.Pool.{AreValues, IsStopOf};
 ghost use Rattle.apl_answer.specs.Rows.{Answers};
-ghost use Rattle.apl_reduce.specs.Items.{outer_number, pair_number};
+ghost use Rattle.apl_reduce.specs.Items.{outer_number, IsOuterRun};
 ghost use Rattle.apl_reduce.specs.Products.{outer_row};
 
 use crate::dyadic::{Chosen, Dyadic, Typed};
@@ -45,8 +45,8 @@ impl<T: ElementType, U: ElementType, F: Dyadic> EachPair<'_, T, U, F> {
         requires some { from < to }
         requires within { to ≤ self.now.count }
         ensures within { from + length result.1.now ≤ to }
-        ensures pairs { (f : ScalarFunction) (k : ℕ) → k < length result.1.now
-            → outer_number f (map T.elem_of self.now.left.now) (map U.elem_of self.now.right.now) (from + k) ≡ pair_number f (T.elem_of result.0) (map U.elem_of result.1.now) k }
+        ensures pairs { IsOuterRun (map T.elem_of self.now.left.now) (map U.elem_of self.now.right.now) from (length result.1.now)
+            (T.elem_of result.0) (map U.elem_of result.1.now) }
     {
         let column = self.columns.remainder(from);
         let end = self.right.len().min(column + (to - from));
