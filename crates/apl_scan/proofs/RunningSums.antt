@@ -30,7 +30,7 @@ use Rattle.apl_reduce.specs.Folding.{reduction}
 use Rattle.apl_reduce.specs.Refusals.{IsRefusedOr}
 use Rattle.apl_reduce.specs.ExactFolds.{IsExactly, exact_fold_of, HasEndOutside}
 use Rattle.apl_scan.specs.Scanning.{is_short, is_unchanged, items_up_to, scanned, scan_row}
-use Rattle.apl_scan.specs.RunningSums.{line_through, HasSumOutside, running_sums}
+use Rattle.apl_scan.specs.RunningSums.{line_through, HasSumOutsideAlong, running_sums}
 
 -- what `limits_are_answered` and `exact_folds_decide` say
 abbrev pub AnswerLaw : Type 0
@@ -162,10 +162,10 @@ module _ (decided : (z : ℤ) → (in_range z ≡ true) ↔ IsInRange z) (answer
         ))
         told
 
-    some_at : ((index : List ℕ) × IsIndexOf shape index × IsOutsideAt index) → HasSumOutside b k
+    some_at : ((index : List ℕ) × IsIndexOf shape index × IsOutsideAt index) → HasSumOutsideAlong b k
     some_at w = (w.0, w.2.0, slice_index w.0 k + 1 - w.2.0, w.1, w.2.1)
 
-    at_some : k < length shape → 0 < slice_index shape k → HasSumOutside b k → ((index : List ℕ) × IsIndexOf shape index × IsOutsideAt index)
+    at_some : k < length shape → 0 < slice_index shape k → HasSumOutsideAlong b k → ((index : List ℕ) × IsIndexOf shape index × IsOutsideAt index)
     at_some axis some w = by w.0 w.1 w.2 w.3 w.4 where
       by : (index : List ℕ) (from count : ℕ) → IsIndexOf shape index → in_range (total (take count (drop from (line index)))) ≡ false → ((index : List ℕ) × IsIndexOf shape index × IsOutsideAt index)
       by index from zero is outside = absurd (let e : true ≡ false = outside in cc)
@@ -209,7 +209,7 @@ module _ (decided : (z : ℤ) → (in_range z ≡ true) ↔ IsInRange z) (answer
       (answer_of own.shape (λ index. if same then Ok (element_at own index) else scanned Plus own.kind (items_up_to own k index)) (if same then own.kind else Number))
 
   pub sums_told : (shape : List ℕ) (numbers : List ℤ) (axis : Axis) → All IsInRange numbers → IsTrue (has_axis axis (length shape)) → 2 ≤ slice_index shape (axis_of axis (length shape))
-      → IsRefusedOr Refused (HasSumOutside (number_array shape numbers) (axis_of axis (length shape))) (running_sums (number_array shape numbers) (axis_of axis (length shape)))
+      → IsRefusedOr Refused (HasSumOutsideAlong (number_array shape numbers) (axis_of axis (length shape))) (running_sums (number_array shape numbers) (axis_of axis (length shape)))
       (result_of (scan_row Plus (number_array shape numbers) axis))
   sums_told shape numbers axis all has long =
       let own = number_array shape numbers in
@@ -221,7 +221,7 @@ module _ (decided : (z : ℤ) → (in_range z ≡ true) ↔ IsInRange z) (answer
       sym (ap (λ p. result_by own k p (is_unchanged own k)) exists ∙ ap (result_by own k true) longer) in
       let told = answers_told answers shape (λ index. reduction Plus (items_up_to own k index)) (IsOutsideAt shape numbers all k) value
       (λ index is. outcome_told shape numbers all k index (is.below k (axis_there shape numbers all k long))) in
-      subst (IsRefusedOr Refused (HasSumOutside own k) (running_sums own k)) result
+      subst (IsRefusedOr Refused (HasSumOutsideAlong own k) (running_sums own k)) result
       (⊎_elim
       (λ one. inl (some_at shape numbers all k one.0, one.1))
       (λ none. inr (λ w. none.0 (at_some shape numbers all k (axis_there shape numbers all k long) (omega (arith, long)) w), none.1))
@@ -238,7 +238,7 @@ module _ (decided : (z : ℤ) → (in_range z ≡ true) ↔ IsInRange z) (answer
   sum_in (x ∷ []) (suc from) (suc count) short within = sum_in [] from (suc count) (omega arith) (λ i d inside. absurd (omega (arith, inside)))
   sum_in (x ∷ y ∷ rest) from count short within = absurd (omega (arith, short))
 
-  short_sums : (shape : List ℕ) (numbers : List ℤ) (k : ℕ) → All IsInRange numbers → slice_index shape k ≤ 1 → HasSumOutside (number_array shape numbers) k → ⊥
+  short_sums : (shape : List ℕ) (numbers : List ℤ) (k : ℕ) → All IsInRange numbers → slice_index shape k ≤ 1 → HasSumOutsideAlong (number_array shape numbers) k → ⊥
   short_sums shape numbers k all short w =
       let n = slice_index shape k in
       let items = line_through (number_array shape numbers) k w.0 in
@@ -272,7 +272,7 @@ module _ (decided : (z : ℤ) → (in_range z ≡ true) ↔ IsInRange z) (answer
 
   -- along any axis that exists
   pub limit_told : (shape : List ℕ) (numbers : List ℤ) (axis : Axis) → All IsInRange numbers → IsTrue (has_axis axis (length shape))
-      → (result_of (scan_row Plus (number_array shape numbers) axis) ≡ Err Refused) ↔ HasSumOutside (number_array shape numbers) (axis_of axis (length shape))
+      → (result_of (scan_row Plus (number_array shape numbers) axis) ≡ Err Refused) ↔ HasSumOutsideAlong (number_array shape numbers) (axis_of axis (length shape))
   limit_told shape numbers axis all has =
       let k = axis_of axis (length shape) in
       ⊎_elim
