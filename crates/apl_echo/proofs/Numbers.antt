@@ -15,7 +15,7 @@ use Rattle.apl_tokens.specs.Symbols.{is_digit, is_blank, is_listed_ascii, is_lis
 use Rattle.apl_tokens.specs.Fronts.{AllPass}
 use Rattle.apl_tokens.specs.Lexis.{BeginsWithNo, IsNumeral, plain, negative, Numeral, HasNoNextNumeral, IsNumberConstant, constant_shape}
 use Rattle.apl_syntax.specs.Commands.{IsCommandLine}
-use Rattle.apl_echo.specs.Lines.{number_value, number_line, is_no_line_feed, IsPrintedLine, blank_for_line_feed, on_one_line, ReadsAt, ReadsAs, ReadsAsBlank}
+use Rattle.apl_echo.specs.Lines.{number_value, number_line, is_no_line_feed, IsPrintedLine, blank_for_line_feed, on_one_line, ReadsAt, ReadsAs, TextReadsAs, ReadsAsBlank}
 use Rattle.apl_echo.proofs.OneLine.{text_of_one_line, text_that_fits}
 use Rattle.apl_echo.proofs.Spaced.{is_space, BeginsWithSpace, IsSpaced, gapped, gapped_begins, gapped_spaced, all_append, text_spaced, no_field}
 use Rattle.apl_echo.proofs.Numerals.{AllInRange, all_in_range, numerals_of, fields_are_numerals, numeral_read, numeral_begins, numerals_spelled, range_of, shape_of}
@@ -157,10 +157,10 @@ spaced_on_one_line text (z ∷ zs) range spaced =
     ∙ ap (λ t. on_one_line gap ++ t) (map-append blank_for_line_feed (numeral_of z) rest ∙ ap (λ t. t ++ on_one_line rest) same) in
     (on_one_line gap, on_one_line rest, split, spaces_are_blanks gap spaced.3, still_begins rest spaced.4, spaced_on_one_line rest zs range.1 spaced.5)
 
-pub lines_read : (shape : List ℕ) (numbers : List ℤ) (width : ℕ) (text : List ℕ) → 0 < length numbers → IsWithinLimits (number_array shape numbers)
-    → IsShown (number_array shape numbers) width text → (column : ℕ) × ReadsAt column (on_one_line text) (number_value numbers)
-lines_read shape [] width text some limits shown = absurd (omega arith)
-lines_read shape (z ∷ zs) width text some limits shown =
+pub lines_read : (shape : List ℕ) (numbers : List ℤ) (width : ℕ) → 0 < length numbers → IsWithinLimits (number_array shape numbers)
+    → TextReadsAs (number_array shape numbers) width (number_value numbers)
+lines_read shape [] width some limits text shown = absurd (omega arith)
+lines_read shape (z ∷ zs) width some limits text shown =
     let range = all_in_range (z ∷ zs) limits.numbers in
     let whole : length (map field_of (map Int (z ∷ zs))) ≡ count_of shape = length-map (map Int (z ∷ zs)) field_of ∙ limits.len in
     let spaced = subst (IsSpaced is_space text) (fields_are_numerals (z ∷ zs)) (text_spaced width shape (map field_of (map Int (z ∷ zs))) text whole shown) in
