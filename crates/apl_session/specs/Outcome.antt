@@ -3,6 +3,7 @@ use Rattle.std.specs.Prelude.{◌≡◌, ℕ, ◌<◌, ◌≤◌, List, ◌++◌
 use Rattle.std.specs.Io.KnownBytes.{Appends}
 use Rattle.apl_print.specs.Put.{AppendsFront}
 use Rattle.apl_print.specs.Text.{ended}
+use Rattle.apl_session.specs.declared.runs.TheConstants.{BLOCK}
 use Rattle.apl_session.specs.Lines.{lines_of, IsUnbroken}
 use Rattle.apl_session.specs.Run.{Answer, Semantics, IsRun, text_of}
 
@@ -63,3 +64,7 @@ pub record BeginsWithUnansweredLine (most : ℕ) (known : Option (List ℕ)) (by
   pub unbroken : IsUnbroken front
   pub few : length more ≤ most
   pub is_source : IsSourceText known still
+
+-- the same, with at most one block of bytes
+abbrev pub BeginsUnanswered : Option (List ℕ) → List ℕ → Type 0
+BeginsUnanswered known bytes = BeginsWithUnansweredLine BLOCK known bytes

@@ -5,7 +5,7 @@ ghost use Rattle.apl_eval.specs.Workspace.{WorkspaceValue, opening_workspace};
 ghost use Rattle.apl_eval.specs.Lawful.{IsLawful};
 ghost use Rattle.apl_session.specs.Step.{session_semantics};
 ghost use Rattle.apl_session.specs.Run.{Answer, IsAnswer, IsDefinedRun, IsDeterministic, IsTotal, HasDefinedRun, HasOneDefinedRun};
-ghost use Rattle.apl_session.specs.Outcome.{AnswersAll, AnswersFront, AnswersLines, BeginsUnbroken, BeginsWithUnansweredLine};
+ghost use Rattle.apl_session.specs.Outcome.{AnswersAll, AnswersFront, AnswersLines, BeginsUnbroken, BeginsUnanswered};
 
 use crate::interpreter::{Interpreter, Next, RunFault};
 use crate::runs::{BLOCK, answer_block};
@@ -42,7 +42,7 @@ pub fn run<R: Threads + Sync, C: Cut + Sync, G: Gate + Sync, I: Source, S: Sink>
     // The text of the first lines is written, and nothing else. What is left begins with a byte of the next line, after which
     // at most one block was taken.
     ensures memory { result ≡ Err RunFault.Memory → AnswersLines session_semantics opening_workspace (I.coming source.old)
-        (S.taken sink.old) (S.taken sink.new) (BeginsWithUnansweredLine BLOCK (I.coming source.new)) }
+        (S.taken sink.old) (S.taken sink.new) (BeginsUnanswered (I.coming source.new)) }
 
     // A fault of a device comes only where the device's count of failures rose in the call, and then it rose by one.
     ensures source_failed { result ≡ Err RunFault.Read → I.failures source.new ≡ one_more (I.failures source.old) }
