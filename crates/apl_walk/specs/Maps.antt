@@ -1,4 +1,4 @@
--- The axes of a result. No contract of a public function cites this file.
+-- The axes of a result.
 use Rattle.std.specs.Prelude.{ℕ, ◌*◌, ◌/◌, ◌%◌, ◌-◌, ◌+◌, List, [], ◌∷◌, length, slice_index, Option, Some}
 use Rattle.apl_walk.specs.declared.window.Window.{Window as WindowMap}
 use Rattle.apl_walk.specs.declared.maps.Map.{Map}
@@ -9,6 +9,7 @@ use Rattle.apl_walk.specs.Steps.{and_step, window_step, reversed_step, rotated_s
 abbrev pub step_of : WindowMap → ℕ → Option ℕ
 step_of w i = window_step w.from w.to w.start w.stride i
 
+-- how many indexes an axis has
 abbrev pub map_extent : Map → ℕ
 map_extent (Window w) = w.extent
 map_extent (Reversed r) = r.extent
@@ -17,6 +18,7 @@ map_extent (Listed l) = length l.numbers.now
 map_extent (ListedOrNone l) = length l.entries.now
 map_extent (Repeated r) = r.axis_length * r.times
 
+-- the most that an index adds
 abbrev pub map_reach : Map → ℕ
 map_reach (Window w) = (w.to + w.start - (w.from + 1)) * w.stride
 map_reach (Reversed r) = (r.extent - 1) * r.stride
@@ -25,6 +27,7 @@ map_reach (Listed l) = (l.axis_length - 1) * l.stride
 map_reach (ListedOrNone l) = (l.axis_length - 1) * l.stride
 map_reach (Repeated r) = (r.axis_length - 1) * r.stride
 
+-- what an index adds to the place in the argument, or none, which is the fill
 abbrev pub map_step : Map → ℕ → Option ℕ
 map_step (Window w) i = window_step w.from w.to w.start w.stride i
 map_step (Reversed r) i = reversed_step r.extent r.stride i
@@ -47,9 +50,10 @@ walked (m ∷ ms) place = and_step (map_step m (place % map_extent m)) (walked m
 abbrev pub walked_with : List Map → Map → ℕ → Option ℕ
 walked_with maps m place = and_step (walked maps place) (map_step m (place / extent_of maps % map_extent m))
 
--- what the index list at a place adds along an axis and the next one, of two windows and of two maps
+-- what the index list at a place adds along two windows
 abbrev pub windows_step : (outer inner : WindowMap) → ℕ → Option ℕ
 windows_step outer inner place = and_step (step_of inner (place % inner.extent)) (step_of outer (place / inner.extent % outer.extent))
 
+-- the same of two maps
 abbrev pub maps_step : (outer inner : Map) → ℕ → Option ℕ
 maps_step outer inner place = and_step (map_step inner (place % map_extent inner)) (map_step outer (place / map_extent inner % map_extent outer))

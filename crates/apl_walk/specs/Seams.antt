@@ -1,4 +1,4 @@
--- Lines that are made of two arguments. No contract of a public function cites this file.
+-- Lines that are made of two arguments.
 use Rattle.std.specs.Prelude.{ℕ, ◌+◌, ◌-◌, ◌*◌, List, nat_lt, if◌then◌else◌, slice_index_or}
 
 -- index i of a line: each has the next `left` of some values, then the next `right` of others. Past the last ones are x and y

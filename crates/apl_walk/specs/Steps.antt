@@ -1,4 +1,4 @@
--- What the indexes of an axis of a result add to a place of the argument. No contract of a public function cites this file.
+-- What the indexes of an axis of a result add to a place of the argument.
 use Rattle.std.specs.Prelude.{◌≡◌, ℕ, ℤ, pos, ◌+◌, ◌-◌, ◌*◌, ◌/◌, ◌%◌, ◌<◌, ◌-ℤ◌, ◌&&◌, nat_le, nat_lt, List, Option, Some, None, slice_index, slice_index_or, if◌then◌else◌}
 use Rattle.apl_array.specs.Axes.{place_number}
 
