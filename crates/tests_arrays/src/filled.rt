@@ -2,11 +2,13 @@
 ghost use Rattle.std.specs.Prelude.{◌≤◌};
 ghost use Rattle.apl_pool.specs.declared.kernel.TheConstants.{MOST_PLACES};
 
-use crate::notation::wanted_of;
-use crate::tables::is_answer;
-use apl_answer::{answer_is_each_outcome, answer_is_in_range, answer_is_within_limits, fill_array};
-use apl_array::Shape;
+use crate::notation::array_of;
+use apl_answer::{
+    OpFault, answer_is_each_outcome, answer_is_in_range, answer_is_within_limits, fill_array,
+};
+use apl_array::{Array, Shape};
 use apl_pool::{Every, Fault, Kernel, MOST_PLACES, Open, Pool};
+use std::alloc::Global;
 use std::test::Fail;
 
 /// At each place below the count its number, but a fault from `limit` on.
@@ -62,21 +64,30 @@ impl Kernel for Letters {
     }
 }
 
+/// Whether an answer is what is wanted: the shape and the numbers of an array as text, or the fault.
+fn is_answer(alloc: Global, answer: Result<Array, OpFault>, wanted: Result<&str, OpFault>) -> bool {
+    match (answer, wanted) {
+        (Ok(array), Ok(text)) => array_of(alloc, text).is_some_and(|wanted| {
+            array.shape().lengths() == wanted.shape().lengths()
+                && array.numbers() == wanted.numbers()
+        }),
+        (Err(fault), Err(wanted)) => fault == wanted,
+        _ => false,
+    }
+}
+
 #[test]
 fn numbers(rt: HostRuntime) -> Result<(), Fail> {
-    let rows: [(&[usize], usize, &str); 5] = [
-        (&[2, 3], 6, "(2 3: 0 1 2 3 4 5)"),
-        (&[], 1, "(: 0)"),
-        (&[3, 0], 0, "(3 0:)"),
-        (&[2, 3], 5, "LIMIT ERROR"),
-        (&[6], 0, "LIMIT ERROR"),
+    let rows: [(&[usize], usize, Result<&str, OpFault>); 5] = [
+        (&[2, 3], 6, Ok("2 3: 0 1 2 3 4 5")),
+        (&[], 1, Ok(": 0")),
+        (&[3, 0], 0, Ok("3 0:")),
+        (&[2, 3], 5, Err(OpFault::Limit)),
+        (&[6], 0, Err(OpFault::Limit)),
     ];
     for workers in [1, 3, 64u8] {
         let pool = Pool::new(workers, Every(2), Open);
-        for (lengths, limit, text) in rows {
-            let Some(wanted) = wanted_of(rt.alloc(), text) else {
-                return Err(Fail::new(format_args!("not an answer: {text}")));
-            };
+        for (lengths, limit, wanted) in rows {
             let shape = Shape::new(rt.alloc(), lengths)?;
             let count = shape.count();
             let answer = fill_array(
@@ -86,7 +97,10 @@ fn numbers(rt: HostRuntime) -> Result<(), Fail> {
                 shape,
                 &PlaceNumbers { count, limit },
             );
-            assert!(rt; is_answer(answer, wanted), "{lengths:?} {limit}");
+            assert!(rt;
+                is_answer(rt.alloc(), answer, wanted),
+                "{lengths:?} {limit}"
+            );
         }
     }
     answer_is_each_outcome();

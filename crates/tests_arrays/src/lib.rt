@@ -1,7 +1,7 @@
-//! Tests of arrays, of the functions of arrays, of printed values, and of what workers share: boards, deques and rooms.
+//! Tests of arrays, of scalar functions of elements, of summaries, of printed values, and of what workers share: boards, deques and rooms.
 //!
 //! Below it: the crates of these, which it reaches by public items alone.
-//! Begin with `notation.rt` and `calls.rt`, which say how a row of a table is written, and then `structures.rt`.
+//! Begin with `notation.rt`, which says how a row of a table is written. The functions of arrays have their cases in `checks/sessions/`.
 #![tactic(auto)]
 
 #[cfg(test)]
@@ -9,17 +9,15 @@ mod arrays;
 #[cfg(test)]
 mod board;
 #[cfg(test)]
-mod calls;
-#[cfg(test)]
 mod deques;
 #[cfg(test)]
 mod elements;
 #[cfg(test)]
 mod filled;
 #[cfg(test)]
-mod notation;
+mod laws;
 #[cfg(test)]
-mod pieces;
+mod notation;
 #[cfg(test)]
 mod printed;
 #[cfg(test)]
@@ -27,10 +25,4 @@ mod rooms;
 #[cfg(test)]
 mod rows;
 #[cfg(test)]
-mod scalars;
-#[cfg(test)]
-mod structures;
-#[cfg(test)]
 mod summaries;
-#[cfg(test)]
-mod tables;

@@ -4,12 +4,10 @@ ghost use Rattle.apl_array.specs.Valences.{has_dyadic};
 ghost use Rattle.apl_pool.specs.declared.kernel.TheConstants.{MOST_PLACES};
 ghost use Rattle.apl_summary.specs.Functions.{has_summary};
 
-use crate::pieces::Pieces;
-use apl_array::{Array, Axis, Elem, Shape};
-use apl_pool::{Fault, MOST_PLACES, Open, Pool, Rows, Schedule, Stop, Summary};
-use apl_reduce::reduce;
+use apl_array::Elem;
+use apl_pool::{Cut, Fault, MOST_PLACES, Open, Pool, Rows, Schedule, Stop, Summary};
 use apl_scalar::function_types::{And, Less};
-use apl_scalar::{OpFault, Prim, apply2};
+use apl_scalar::{Prim, apply2};
 use apl_summary::{
     Consecutive, Extreme, FoldedRows, Scaled, SignedSum, TwoValued, fold_rows, has_summary,
 };
@@ -175,16 +173,6 @@ fn one_pass(f: Prim, items: &[i64]) -> Result<Elem, Fault>
     Ok(right)
 }
 
-/// Whether the reduction of an array is what one pass from the right answers.
-fn is_one_pass(answer: Result<Array, OpFault>, wanted: Result<Elem, Fault>) -> bool {
-    match (answer, wanted) {
-        (Ok(array), Ok(wanted)) => array.shape().rank() == 0 && array.get(0) == wanted,
-        (Err(OpFault::Domain), Err(Fault::Domain)) => true,
-        (Err(OpFault::Limit), Err(Fault::Limit)) => true,
-        _ => false,
-    }
-}
-
 /// The functions whose folds are cut.
 const FUNCTIONS: [Prim; 15] = [
     Prim::Plus,
@@ -255,10 +243,23 @@ fn is_folded(answer: Result<Vec<i64>, Stop>, wanted: Result<Elem, Fault>) -> boo
     }
 }
 
-/// Whether one worker, who joins the summaries of each cutting of the items, has what is wanted.
+/// A piece ends after each place whose bit is set.
+#[derive(Clone, Copy, Drop)]
+struct Masked(u64);
+
+impl Cut for Masked {
+    fn first(&self, start: usize, rest: usize) -> usize {
+        let passed = u32::try_from(start).unwrap_or(u64::BITS);
+        let ends = self.0.checked_shr(passed).unwrap_or(0);
+        rest.min(ends.trailing_zeros() as usize + 1)
+    }
+}
+
+/// Whether one worker, or three who share the items by a schedule, have what is wanted of each cutting of the items.
 fn every_nesting_agrees<R: Threads + Sync>(
     rt: &R,
     alloc: Global,
+    shared: Option<Schedule>,
     f: Prim,
     items: &[i64],
     wanted: Result<Elem, Fault>,
@@ -271,30 +272,14 @@ fn every_nesting_agrees<R: Threads + Sync>(
     }
     let mut agree = true;
     for mask in 0..1u64 << (items.len() - 2) {
-        let pool = Pool::new(1, Pieces::Masked(mask), Open);
+        let pool = match shared {
+            None => Pool::new(1, Masked(mask), Open),
+            Some(schedule) => Pool::with(3, schedule, Masked(mask), Open),
+        };
         agree &= is_folded(
             fold_rows(rt, alloc, &pool, f, &AllButLast { items }),
             wanted,
         );
-    }
-    agree
-}
-
-/// Whether three workers who share each cutting of at most eight items have what is wanted.
-fn every_share_agrees<R: Threads + Sync>(
-    rt: &R,
-    alloc: Global,
-    schedule: Schedule,
-    f: Prim,
-    array: &Array,
-    wanted: Result<Elem, Fault>,
-) -> bool
-    requires { IsTrue (has_dyadic f) }
-{
-    let mut agree = true;
-    for mask in 0..1u64 << (array.shape().count().clamp(2, 8) - 2) {
-        let pool = Pool::with(3, schedule, Pieces::Masked(mask), Open);
-        agree &= is_one_pass(reduce(rt, alloc, &pool, f, array, Axis::Last), wanted);
     }
     agree
 }
@@ -306,20 +291,18 @@ fn every_cutting_agrees<R: Threads + Sync>(
     f: Prim,
     items: &[i64],
     is_shared: bool,
-) -> Result<bool, Fail> {
-    let shape = Shape::new(alloc, &[items.len()])?;
-    if !f.is_dyadic() || !has_summary(f) || items.len() > 8 || items.len() != shape.count() {
-        return Ok(false);
+) -> bool {
+    if !f.is_dyadic() || !has_summary(f) || items.len() > 8 {
+        return false;
     }
     let wanted = one_pass(f, items);
-    let alone = every_nesting_agrees(rt, alloc, f, items, wanted);
+    let alone = every_nesting_agrees(rt, alloc, None, f, items, wanted);
     if !is_shared {
-        return Ok(alone);
+        return alone;
     }
-    let array = Array::ints(shape, Vec::from_slice(alloc, items)?);
-    let claimed = every_share_agrees(rt, alloc, Schedule::Claims, f, &array, wanted);
-    let taken = every_share_agrees(rt, alloc, Schedule::Deques, f, &array, wanted);
-    Ok(alone && claimed && taken)
+    let claimed = every_nesting_agrees(rt, alloc, Some(Schedule::Claims), f, items, wanted);
+    let taken = every_nesting_agrees(rt, alloc, Some(Schedule::Deques), f, items, wanted);
+    alone && claimed && taken
 }
 
 /// A thousand lists by one worker, and some by three.
@@ -330,7 +313,7 @@ fn random_folds(rt: HostRuntime) -> Result<(), Fail> {
     for round in 0..1000u32 {
         let items = random.numbers(alloc)?;
         for f in FUNCTIONS {
-            assert!(rt; every_cutting_agrees(&rt, alloc, f, items.as_slice(), round % 20 == 0)?);
+            assert!(rt; every_cutting_agrees(&rt, alloc, f, items.as_slice(), round % 20 == 0));
         }
     }
     Ok(())
