@@ -54,7 +54,7 @@ dyadic_column (two.Along column f) = column
 dyadic_column (two.Inner left_column f dot right_column g) = dot
 dyadic_column (two.Outer jot dot column f) = dot
 
--- the report of a fault; want of memory, which is the answer of no function, would be Limit
+-- the report of a fault. No function answers that memory ran out, which would be Limit
 abbrev pub error_of : OpFault → Report
 error_of fault.Rank = report.Rank
 error_of fault.Length = report.Length

@@ -314,7 +314,7 @@ fn text_of(alloc: Global, program: &Program, value: &Array, width: u8) -> Result
 /// Evaluates a statement in a workspace.
 ///
 /// An assignment shows nothing, and another statement the text of its value, printed at the workspace's width. After an error the
-/// assignments made before it are kept. After want of memory the workspace is as it was. The pool computes the elements of results,
+/// assignments made before it are kept. If memory runs out, the workspace is as it was. The pool computes the elements of results,
 /// and is not seen in the answer.
 pub fn eval<R: Threads + Sync, C: Cut + Sync, G: Gate + Sync>(
     workspace: &mut Workspace,

@@ -10,13 +10,13 @@ pub record Answer (W : Type 0) : Type 0 where
   pub after : W
   pub ends : Bool
 
--- What an interpreter means: the answers of a line without its carriage return in a state, and the lines that may be refused for want of
--- memory.
+-- What an interpreter means: the answers of a line without its carriage return in a state, and the lines that may be refused since
+-- memory ran out.
 pub record Semantics (W : Type 0) : Type 1 where
   pub IsStep : W → List ℕ → Answer W → Type 0
   pub IsRefusable : List ℕ → Type 0
 
--- the step of a line that is refused for want of memory: the report, and the state as it was
+-- the step of a line that is refused since memory ran out: the report, and the state as it was
 abbrev pub refused_step : {W : Type 0} → W → List ℕ → Answer W
 refused_step state line = record { text = report_text WsFull line None; after = state; ends = false }
 

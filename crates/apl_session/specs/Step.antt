@@ -60,7 +60,7 @@ IsAnswerTo workspace line (limit column) answer = answer ≡ report_answer repor
 abbrev pub IsStep : WorkspaceValue → List ℕ → Answer WorkspaceValue → Type 0
 IsStep workspace line answer = (reading : Reading) × IsReading line reading × IsAnswerTo workspace line reading answer
 
--- a line may be refused for want of memory if each of its symbols is listed
+-- a line may be refused since memory ran out if each of its symbols is listed
 abbrev pub IsRefusable : List ℕ → Type 0
 IsRefusable line = (characters : List ℕ) × IsListed line characters
 

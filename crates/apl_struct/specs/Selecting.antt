@@ -54,7 +54,7 @@ pub record IsSelection (a : ArrayValue) (slots : Slots) (origin : Origin) (shape
   pub arrays : AreArrays slots
   pub within : are_slots_within origin a.shape slots ≡ true
 
--- a value where each check holds, else the refusal of the first that fails, or want of memory
+-- a value where each check holds, else the refusal of the first that fails, or that memory ran out
 abbrev pub IsCheckedResult : {T : Type 0} → List Check → (T → Type 0) → Result T OpFault → Type 0
 IsCheckedResult checks P (Ok value) = P value × ((answer : Result ArrayValue OpFault) → first_failure_or checks answer ≡ answer)
 IsCheckedResult checks P (Err fault) = ((answer : Result ArrayValue OpFault) → first_failure_or checks answer ≡ Err fault) ⊎ (fault ≡ Memory)

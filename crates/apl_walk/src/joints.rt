@@ -38,7 +38,7 @@ impl Window {
         self.from == 0 && self.start == 0 && self.to == self.extent
     }
 
-    /// The window of this axis and the next one as one axis, where a step along this one is one past the end of the next.
+    /// The window of this axis and the next as one axis, where a step along this one is one past the end of the next.
     pub(crate) fn joined(&self, inner: &Window) -> Option<Window>
         requires { self.now.extent * inner.now.extent ≤ MOST_PLACES }
         ensures extent { IfSome result (λ w. w.extent ≡ self.now.extent * inner.now.extent) }
