@@ -5,9 +5,10 @@ ghost use Rattle.apl_array.specs.declared.array.Elem.TheVariants.{Int, Chr};
 ghost use Rattle.apl_array.specs.Shape.{count_of};
 ghost use Rattle.apl_pool.specs.declared.kernel.TheConstants.{MOST_PLACES};
 ghost use Rattle.apl_pool.specs.Pool.{AreValues, IsStopOf};
-ghost use Rattle.apl_reduce.specs.Folded.{fold_at, number_of_axis};
+ghost use Rattle.apl_reduce.specs.Folded.{fold_at};
 
 use crate::folded_rows::{fold_last_rows, fold_rows, from_place};
+use crate::item_rows::{ItemRows, PlacedItems};
 use crate::line_folds::{Foldable, fold_along};
 use crate::outer_products::NARROW;
 use crate::workers::shares_items;
@@ -17,10 +18,9 @@ use apl_array::{
     replaced_index_has_place,
 };
 use apl_divisor::Divisor;
-use apl_pool::{Cut, Fault, Gate, Kernel, Pool, Rows, Stop};
+use apl_pool::{Cut, Fault, Gate, Kernel, Pool, Stop};
 use apl_scalar::function_types::Function;
 use apl_scalar::with_type;
-use apl_summary::FoldedRows;
 use std::alloc::Global;
 use std::marker::PhantomData;
 use std::thread::Threads;
@@ -166,59 +166,27 @@ impl<T: Foldable, F: Function> AxisFolds<'_, T, F> {
     }
 }
 
-/// All items of each place but the last as a row, to which the last one comes in.
-#[derive(Drop)]
-struct AxisRows<'a> {
-    axis: &'a AxisItems<'a, i64>,
-    ghost all: { axis.now.count * axis.now.items ≤ MOST_PLACES },
-}
-
-impl AxisRows<'_> {
-    /// Item `k` of a place.
-    #[inline(always)]
-    fn item(&self, place: usize, k: usize) -> i64
-        requires place { place < self.now.axis.now.count }
-        requires item { k < self.now.axis.now.items }
-        ensures { result ≡ number_of_axis self.now.axis.now.elements.now self.now.axis.now.block self.now.axis.now.inner place k }
-    {
-        self.axis.elements[self.axis.first_item(place) + k * self.axis.inner.number()]
-    }
-}
-
-impl Rows for AxisRows<'_> {
-    ghost use Rattle.std.specs.Prelude.{◌-◌, Ok};
+impl PlacedItems for AxisItems<'_, i64> {
+    ghost use Rattle.std.specs.Prelude.{Ok};
     ghost use Rattle.apl_reduce.specs.Folded.{number_of_axis};
 
-    type Out = i64;
+    ghost place_count = { λ x. x.count };
 
-    ghost row_count = { λ r. r.axis.now.count };
+    ghost item_count = { λ x. x.items };
 
-    ghost place_count = { λ r. r.axis.now.items - 1 };
+    ghost outcome = { λ x place k. Ok (number_of_axis x.elements.now x.block x.inner place k) };
 
-    ghost outcome = { λ r row place. Ok (number_of_axis r.axis.now.elements.now r.axis.now.block r.axis.now.inner row place) };
-
-    fn rows(&self) -> usize {
-        self.axis.count
+    fn places(&self) -> usize {
+        self.count
     }
 
-    fn count(&self) -> usize {
-        self.axis.items - 1
+    fn items(&self) -> usize {
+        self.items
     }
 
     #[inline(always)]
-    fn at(&self, row: usize, place: usize) -> Result<i64, Fault> {
-        Ok(self.item(row, place))
-    }
-}
-
-impl FoldedRows for AxisRows<'_> {
-    ghost use Rattle.std.specs.Prelude.{◌-◌, Ok};
-    ghost use Rattle.apl_reduce.specs.Folded.{number_of_axis};
-
-    ghost incoming = { λ r row. Ok (number_of_axis r.axis.now.elements.now r.axis.now.block r.axis.now.inner row (r.axis.now.items - 1)) };
-
-    fn incoming(&self, row: usize) -> Result<i64, Fault> {
-        Ok(self.item(row, self.axis.items - 1))
+    fn item(&self, place: usize, k: usize) -> Result<i64, Fault> {
+        Ok(self.elements[self.first_item(place) + k * self.inner.number()])
     }
 }
 
@@ -251,7 +219,7 @@ pub(crate) fn fill_number_folds<R: Threads + Sync, C: Cut + Sync, G: Gate + Sync
     ensures stop { IfErr result (IsStopOf (λ place. fold_at f (map Int axis.now.elements.now) axis.now.items axis.now.block axis.now.inner place) axis.now.count) }
 {
     if shares_items(pool, f, axis.count, axis.items) {
-        return apl_summary::fold_rows(rt, alloc, pool, f, &AxisRows { axis });
+        return apl_summary::fold_rows(rt, alloc, pool, f, &ItemRows { items: axis });
     }
     with_type!(f, fill_folds::<F, i64, R, C, G>(rt, alloc, pool, axis))
 }

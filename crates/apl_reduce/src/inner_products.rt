@@ -12,10 +12,11 @@ ghost use Rattle.apl_reduce.specs.Products.{inner_row};
 
 use crate::conformability::{common_length, layout_of, left_lengths, right_lengths};
 use crate::dyadic::{Chosen, Dyadic, Typed};
-use crate::inner_folds::LineRows;
+use crate::item_rows::ItemRows;
 use crate::items::{Items, reduced};
 use crate::layouts::Layout;
 use crate::magnitudes::{is_narrow, magnitude, sums_are_small};
+use crate::product_items::ProductItems;
 use crate::shapes::{characters_of, joined_shape};
 use crate::sums::Sums;
 use crate::workers::{Workers, shares_items};
@@ -293,13 +294,14 @@ impl<R: Threads + Sync, C: Cut + Sync, G: Gate + Sync> Workers<'_, R, C, G> {
         ensures values { IfOk result (λ v. AreValues (inner_number layout.now (map T.elem_of left.now) (map U.elem_of right.now) f (P.function pairing)) layout.now.count v.items) }
         ensures stop { IfErr result (IsStopOf (inner_number layout.now (map T.elem_of left.now) (map U.elem_of right.now) f (P.function pairing)) layout.now.count) }
     {
-        let rows = LineRows {
+        let items = ProductItems {
             layout,
             columns: Divisor::new(layout.columns),
             left,
             right,
             pairing,
         };
+        let rows = ItemRows { items: &items };
         fold_rows(self.rt, self.alloc, self.pool, f, &rows)
     }
 
