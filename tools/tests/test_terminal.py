@@ -75,7 +75,8 @@ class Terminal(unittest.TestCase):
 
     def setUp(self):
         self.numbers = itertools.count()
-        folder = tempfile.TemporaryDirectory()
+        # (a session that is ended may still write its history)
+        folder = tempfile.TemporaryDirectory(ignore_cleanup_errors=True)
         self.addCleanup(folder.cleanup)
         self.folder = pathlib.Path(folder.name)
         self.home = self.folder / "home"
