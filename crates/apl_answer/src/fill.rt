@@ -7,16 +7,12 @@ ghost use Rattle.apl_answer.specs.Pointwise.{Outcomes, answer_of, IsAnswerOf};
 use crate::element::ElementType;
 use crate::fault::OpFault;
 use apl_array::{Array, Shape};
-use apl_pool::{Cut, Gate, Kernel, Pool, Stop};
-use std::alloc::Global;
-use std::thread::Threads;
+use apl_pool::{Crew, Kernel, Stop, fill};
 
 /// The array of this shape with a kernel's values in row order, or the fault at the least place that
 /// has one. `Memory` may come in place of any answer.
-pub fn fill_array<K: Kernel + Sync, R: Threads + Sync, C: Cut + Sync, G: Gate + Sync>(
-    rt: &R,
-    alloc: Global,
-    pool: &Pool<C, G>,
+pub fn fill_array<K: Kernel + Sync, W: Crew>(
+    workers: &W,
     shape: Shape,
     kernel: &K,
 ) -> Result<Array, OpFault>
@@ -26,7 +22,7 @@ where
     ensures { (outcome : Outcomes) → HaveOutcomes K.Out.elem_of (K.outcome kernel.now) shape outcome
         → IsAnswerOf (answer_of shape outcome K.Out.kind) result }
 {
-    array_from_fill(shape, pool.fill(rt, alloc, kernel))
+    array_from_fill(shape, fill(workers, kernel))
 }
 
 /// The array of this shape that a pool's values make in row order, or why there are none: the fault,

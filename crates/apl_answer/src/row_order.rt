@@ -10,9 +10,7 @@ use crate::element::ElementType;
 use crate::fault::OpFault;
 use crate::fill::fill_array;
 use apl_array::{Array, Shape};
-use apl_pool::{Cut, Fault, Gate, Kernel, Pool};
-use std::alloc::Global;
-use std::thread::Threads;
+use apl_pool::{Crew, Fault, Kernel};
 
 /// Each element at its own place, and the fill past the last.
 #[derive(Drop)]
@@ -45,10 +43,8 @@ impl<T: ElementType> Kernel for RowOrder<'_, T> {
     }
 }
 
-fn in_row_order<T: ElementType + Send + Sync, R: Threads + Sync, C: Cut + Sync, G: Gate + Sync>(
-    rt: &R,
-    alloc: Global,
-    pool: &Pool<C, G>,
+fn in_row_order<T: ElementType + Send + Sync, W: Crew>(
+    workers: &W,
     shape: Shape,
     elements: &[T],
 ) -> Result<Array, OpFault>
@@ -60,28 +56,22 @@ fn in_row_order<T: ElementType + Send + Sync, R: Threads + Sync, C: Cut + Sync, 
         fill: T::fill(),
         count: shape.count(),
     };
-    fill_array(rt, alloc, pool, shape, &kernel)
+    fill_array(workers, shape, &kernel)
 }
 
 /// The array of this shape with the elements of an array in row order. It needs no more elements than
 /// that array has.
-pub fn array_of_elements<R: Threads + Sync, C: Cut + Sync, G: Gate + Sync>(
-    rt: &R,
-    alloc: Global,
-    pool: &Pool<C, G>,
-    shape: Shape,
-    b: &Array,
-) -> Result<Array, OpFault>
+pub fn array_of_elements<W: Crew>(workers: &W, shape: Shape, b: &Array) -> Result<Array, OpFault>
     requires { count_of shape ≤ count_of b.now.shape }
     ensures { IsAnswerAt shape b.now.kind (λ place. Ok (element_in b.now place)) result }
 {
     match b.numbers() {
-        Some(numbers) => in_row_order(rt, alloc, pool, shape, numbers),
+        Some(numbers) => in_row_order(workers, shape, numbers),
         None => {
             let Some(characters) = b.characters() else {
                 unreachable!()
             };
-            in_row_order(rt, alloc, pool, shape, characters)
+            in_row_order(workers, shape, characters)
         }
     }
 }

@@ -10,9 +10,7 @@ ghost use Rattle.apl_answer.specs.Pointwise.{IsAnswerAt};
 use crate::fault::OpFault;
 use crate::fill::array_from_fill;
 use apl_array::{Array, Shape};
-use apl_pool::{Cut, Fault, Gate, Kernel, Pool, Stop};
-use std::alloc::Global;
-use std::thread::Threads;
+use apl_pool::{Crew, Fault, Kernel, Stop, fill};
 
 /// One number, or one fault, at all places.
 #[derive(Drop)]
@@ -40,10 +38,8 @@ impl Kernel for Uniform {
 }
 
 /// The number at each of `count` places, or the fault at the first of them.
-pub fn fill_uniform<R: Threads + Sync, C: Cut + Sync, G: Gate + Sync>(
-    rt: &R,
-    alloc: Global,
-    pool: &Pool<C, G>,
+pub fn fill_uniform<W: Crew>(
+    workers: &W,
     count: usize,
     outcome: Result<i64, Fault>,
 ) -> Result<Vec<i64>, Stop>
@@ -51,19 +47,17 @@ pub fn fill_uniform<R: Threads + Sync, C: Cut + Sync, G: Gate + Sync>(
     ensures values { IfOk result (λ v. AreValues (λ place. outcome) count v.items) }
     ensures stop { IfErr result (IsStopOf (λ place. outcome) count) }
 {
-    pool.fill(rt, alloc, &Uniform { count, outcome })
+    fill(workers, &Uniform { count, outcome })
 }
 
 /// The array of this shape with one number at all places, or the fault at the first of them. `Memory` may come in place of any answer.
-pub fn constant_array<R: Threads + Sync, C: Cut + Sync, G: Gate + Sync>(
-    rt: &R,
-    alloc: Global,
-    pool: &Pool<C, G>,
+pub fn constant_array<W: Crew>(
+    workers: &W,
     shape: Shape,
     outcome: Result<i64, Fault>,
 ) -> Result<Array, OpFault>
     ensures { IsAnswerAt shape Number (λ place. element_outcome Int outcome) result }
 {
-    let filled = fill_uniform(rt, alloc, pool, shape.count(), outcome);
+    let filled = fill_uniform(workers, shape.count(), outcome);
     array_from_fill(shape, filled)
 }

@@ -19,7 +19,7 @@ abbrev pub IsShownAs : Expr → ArrayValue → ℕ → Shown → Type 0
 IsShownAs tree v width Silent = is_assignment tree ≡ true
 IsShownAs tree v width (Text text) = (is_assignment tree ≡ false) × IsPrinted v width (string_bytes text)
 
--- The result of a statement between the workspace before it and the one after it: its value is shown, at the width of the
+-- The result of a statement between the workspace before it and the one after it. Its value is shown, at the width of the
 -- workspace after it, or its error is the answer. If memory runs out, the workspace is as it was.
 abbrev pub Evaluates : Expr → WorkspaceValue → WorkspaceValue → Result Shown EvalStop → Type 0
 Evaluates tree old new (Ok shown) = (v : ArrayValue) × (meaning_of tree old ≡ done v new) × IsShownAs tree v new.width shown

@@ -72,8 +72,8 @@ abbrev pub assign_at_outcome : (column : ℕ) → (text : List ℕ) → (arrow :
 assign_at_outcome column text arrow slots right w =
     assign_at_outcome_of (assign_at_result w.origin (value_of text w) slots right) column text arrow right w
 
--- Operands come before what they are operands of: the expression on the right first, then the axis, then the left operand;
--- the slots of a list from the last to the first, then the array. An error keeps the assignments made before it.
+-- Operands come before what they are operands of: the expression on the right first, then the axis, then the left operand.
+-- The slots of a list come from the last to the first, and then the array. An error keeps the assignments made before it.
 abbrev mutual
   pub meaning_of : Expr → Evaluation ArrayValue
   meaning_of (value o) = meaning_of_operand o

@@ -15,11 +15,10 @@ use apl_grammar::{
     AxisFunction, DefaultAxis, DyadicForm, DyadicFunction, DyadicScalar, MonadicForm,
     MonadicFunction, Operator,
 };
-use apl_pool::{Cut, Gate, Pool};
+use apl_pool::{Crew, Pool};
 use apl_print::Report;
 use apl_struct::axis_number;
 use std::alloc::Global;
-use std::thread::Threads;
 
 /// Why a function has no value.
 #[derive(Drop)]
@@ -108,16 +107,25 @@ fn operator_axis(operator: Operator) -> Axis
     }
 }
 
-/// What a line is evaluated with: threads, the allocator and the pool, and the workspace before it.
+/// What a line is evaluated with: who works on it, and the workspace before it.
 #[derive(Drop)]
-pub(crate) struct Context<'a, R: Threads + Sync, C: Cut + Sync, G: Gate + Sync> {
-    pub(crate) rt: &'a R,
-    pub(crate) alloc: Global,
-    pub(crate) pool: &'a Pool<C, G>,
+pub(crate) struct Context<'a, W: Crew> {
+    pub(crate) workers: &'a W,
     pub(crate) workspace: &'a Workspace,
 }
 
-impl<'a, R: Threads + Sync, C: Cut + Sync, G: Gate + Sync> Context<'a, R, C, G> {
+impl<'a, W: Crew> Context<'a, W> {
+    /// The memory.
+    pub(crate) fn alloc(&self) -> Global {
+        self.workers.alloc()
+    }
+
+    /// The threads, the memory and the pool, as functions of arrays take them.
+    fn parts(&self) -> (&W::Runtime, Global, &Pool<W::Cutting, W::Passing>) {
+        let workers = self.workers;
+        (workers.rt(), workers.alloc(), workers.pool())
+    }
+
     /// The axis of this number.
     fn axis_at(&self, number: i64) -> Axis
         ensures { result ≡ At number self.now.workspace.now.origin }
@@ -132,7 +140,7 @@ impl<'a, R: Threads + Sync, C: Cut + Sync, G: Gate + Sync> Context<'a, R, C, G> 
     fn monadic_plain(&self, function: &MonadicFunction, b: &Array) -> Result<Array, FunctionRefusal>
         ensures { Answers (monadic_plain self.now.workspace.now.origin function.now b.now) result }
     {
-        let (rt, alloc, pool) = (self.rt, self.alloc, self.pool);
+        let (rt, alloc, pool) = self.parts();
         let origin = self.workspace.origin();
         match function {
             MonadicFunction::Scalar(scalar) => {
@@ -154,7 +162,8 @@ impl<'a, R: Threads + Sync, C: Cut + Sync, G: Gate + Sync> Context<'a, R, C, G> 
     fn reversed_along(&self, axis: Axis, b: &Array) -> Result<Array, FunctionRefusal>
         ensures { Answers (reversed_along axis b.now) result }
     {
-        result_of(apl_struct::reverse(self.rt, self.alloc, self.pool, b, axis))
+        let (rt, alloc, pool) = self.parts();
+        result_of(apl_struct::reverse(rt, alloc, pool, b, axis))
     }
 
     /// The reduction or the scan of an array along an axis.
@@ -167,7 +176,7 @@ impl<'a, R: Threads + Sync, C: Cut + Sync, G: Gate + Sync> Context<'a, R, C, G> 
     ) -> Result<Array, FunctionRefusal>
         ensures { Answers (reduced_along operator function.now axis b.now) result }
     {
-        let (rt, alloc, pool) = (self.rt, self.alloc, self.pool);
+        let (rt, alloc, pool) = self.parts();
         let f = function.function();
         match operator {
             Operator::Reduction(_) => result_of(apl_reduce::reduce(rt, alloc, pool, f, b, axis)),
@@ -184,7 +193,7 @@ impl<'a, R: Threads + Sync, C: Cut + Sync, G: Gate + Sync> Context<'a, R, C, G> 
     ) -> Result<Array, FunctionRefusal>
         ensures { Answers (dyadic_plain self.now.workspace.now.origin function.now a.now b.now) result }
     {
-        let (rt, alloc, pool) = (self.rt, self.alloc, self.pool);
+        let (rt, alloc, pool) = self.parts();
         let origin = self.workspace.origin();
         match function {
             DyadicFunction::Scalar(scalar) => {
@@ -216,7 +225,7 @@ impl<'a, R: Threads + Sync, C: Cut + Sync, G: Gate + Sync> Context<'a, R, C, G> 
     ) -> Result<Array, FunctionRefusal>
         ensures { Answers (dyadic_along function axis a.now b.now) result }
     {
-        let (rt, alloc, pool) = (self.rt, self.alloc, self.pool);
+        let (rt, alloc, pool) = self.parts();
         match function {
             AxisFunction::Catenate => {
                 result_of(apl_struct::catenate(rt, alloc, pool, a, b, axis))
@@ -238,8 +247,9 @@ impl<'a, R: Threads + Sync, C: Cut + Sync, G: Gate + Sync> Context<'a, R, C, G> 
     ) -> Result<Array, FunctionRefusal>
         ensures { Answers (result_by (outer_row function.now a.now b.now)) result }
     {
+        let (rt, alloc, pool) = self.parts();
         let f = function.function();
-        result_of(apl_reduce::outer(self.rt, self.alloc, self.pool, f, a, b))
+        result_of(apl_reduce::outer(rt, alloc, pool, f, a, b))
     }
 
     /// The inner product of two arrays.
@@ -252,9 +262,10 @@ impl<'a, R: Threads + Sync, C: Cut + Sync, G: Gate + Sync> Context<'a, R, C, G> 
     ) -> Result<Array, FunctionRefusal>
         ensures { Answers (result_by (inner_row left.now right.now a.now b.now)) result }
     {
+        let (rt, alloc, pool) = self.parts();
         let f = left.function();
         let g = right.function();
-        result_of(apl_reduce::inner(self.rt, self.alloc, self.pool, f, g, a, b))
+        result_of(apl_reduce::inner(rt, alloc, pool, f, g, a, b))
     }
 
     /// The result of a function of one array, perhaps along an axis.
@@ -339,7 +350,7 @@ impl<'a, R: Threads + Sync, C: Cut + Sync, G: Gate + Sync> Context<'a, R, C, G> 
     ) -> Result<Array, FunctionRefusal>
         ensures { Answers (index_result self.now.workspace.now.origin array.now (map option_copied slots.now)) result }
     {
-        let (rt, alloc, pool) = (self.rt, self.alloc, self.pool);
+        let (rt, alloc, pool) = self.parts();
         let origin = self.workspace.origin();
         result_of(apl_struct::select(rt, alloc, pool, array, slots, origin))
     }
@@ -354,7 +365,7 @@ impl<'a, R: Threads + Sync, C: Cut + Sync, G: Gate + Sync> Context<'a, R, C, G> 
     ) -> Result<Array, FunctionRefusal>
         ensures { Answers (assign_at_result self.now.workspace.now.origin (option_copied array.entry) (map option_copied slots.now) value.now) result }
     {
-        let (rt, alloc, pool) = (self.rt, self.alloc, self.pool);
+        let (rt, alloc, pool) = self.parts();
         let origin = self.workspace.origin();
         match array {
             Some(array) => result_of(apl_struct::replace(

@@ -20,7 +20,7 @@ use apl_array::Array;
 use apl_grammar::{
     AxisBrackets, Brackets, Columns, DyadicForm, IndexedName, MonadicForm, Operation, Program,
 };
-use apl_pool::{Cut, Gate, Pool};
+use apl_pool::{Crew, Cut, Gate, Pool, Workers};
 use apl_print::{Report, print};
 use apl_tokens::Constant;
 use std::alloc::{AllocError, AllocFailed, Global};
@@ -141,8 +141,8 @@ fn put(stack: &mut Stack, value: Result<Rc<Array>, EvalStop>) -> Result<(), Eval
 }
 
 /// Puts a function's result in the place of its arguments on the stack, of which the axis argument is on top.
-fn apply_monadic<R: Threads + Sync, C: Cut + Sync, G: Gate + Sync>(
-    context: &Context<'_, R, C, G>,
+fn apply_monadic<W: Crew>(
+    context: &Context<'_, W>,
     stack: &mut Stack,
     form: &MonadicForm,
     axis: &AxisBrackets,
@@ -156,13 +156,13 @@ fn apply_monadic<R: Threads + Sync, C: Cut + Sync, G: Gate + Sync>(
     let answer = context.monadic(form, axis, &right);
     put(
         stack,
-        outcome_at(context.alloc, monadic_column(form), answer),
+        outcome_at(context.alloc(), monadic_column(form), answer),
     )
 }
 
 /// Puts a function's result in the place of its arguments on the stack. The left one is on top, and the axis argument is next.
-fn apply_dyadic<R: Threads + Sync, C: Cut + Sync, G: Gate + Sync>(
-    context: &Context<'_, R, C, G>,
+fn apply_dyadic<W: Crew>(
+    context: &Context<'_, W>,
     stack: &mut Stack,
     form: &DyadicForm,
     axis: &AxisBrackets,
@@ -177,13 +177,13 @@ fn apply_dyadic<R: Threads + Sync, C: Cut + Sync, G: Gate + Sync>(
     let answer = context.dyadic(form, axis, &left, &right);
     put(
         stack,
-        outcome_at(context.alloc, dyadic_column(form), answer),
+        outcome_at(context.alloc(), dyadic_column(form), answer),
     )
 }
 
 /// Puts the chosen elements of the array on top of the stack in the place of the array and of the slots below it.
-fn apply_index<R: Threads + Sync, C: Cut + Sync, G: Gate + Sync>(
-    context: &Context<'_, R, C, G>,
+fn apply_index<W: Crew>(
+    context: &Context<'_, W>,
     stack: &mut Stack,
     semicolons: &Columns,
     brackets: &Brackets,
@@ -192,10 +192,10 @@ fn apply_index<R: Threads + Sync, C: Cut + Sync, G: Gate + Sync>(
     ensures { (w : WorkspaceValue) → w.origin ≡ context.now.workspace.now.origin → IsState (step (op.Index semicolons.now brackets.now) stack.old w) stack.new w result }
 {
     let array = stack.pop_value();
-    let slots = stack.pop_slots(context.alloc, semicolons)?;
-    let chosen = slots.arrays(context.alloc)?;
+    let slots = stack.pop_slots(context.alloc(), semicolons)?;
+    let chosen = slots.arrays(context.alloc())?;
     let answer = context.index(&array, chosen.as_slice());
-    put(stack, outcome_at(context.alloc, brackets.left, answer))
+    put(stack, outcome_at(context.alloc(), brackets.left, answer))
 }
 
 /// The column of an indexed assignment's error.
@@ -209,8 +209,8 @@ fn assign_at_column(target: &IndexedName, report: Report) -> usize
 }
 
 /// Gives a name its array with the value on the stack in the place of the chosen elements; the value stays on the stack.
-fn apply_assign_at<R: Threads + Sync, C: Cut + Sync, G: Gate + Sync>(
-    context: &Context<'_, R, C, G>,
+fn apply_assign_at<W: Crew>(
+    context: &Context<'_, W>,
     staged: &mut Names,
     stack: &mut Stack,
     target: &IndexedName,
@@ -218,15 +218,15 @@ fn apply_assign_at<R: Threads + Sync, C: Cut + Sync, G: Gate + Sync>(
     requires { HasSlotsAbove HasValue (length target.now.semicolons + 1) stack.old }
     ensures { IsState (step (op.AssignAt target.now) stack.old (staged_in staged.old context.now.workspace.now)) stack.new (staged_in staged.new context.now.workspace.now) result }
 {
-    let slots = stack.pop_slots(context.alloc, &target.semicolons)?;
-    let chosen = slots.arrays(context.alloc)?;
+    let slots = stack.pop_slots(context.alloc(), &target.semicolons)?;
+    let chosen = slots.arrays(context.alloc())?;
     let name = target.name.as_str();
     let array = array_named(context.workspace, staged, name);
     let value = stack.top_value();
     match context.assign_at(array, chosen.as_slice(), value) {
         Ok(changed) => {
-            let changed = Rc::new(context.alloc, changed)?;
-            Ok(staged.insert(context.alloc, name, changed)?)
+            let changed = Rc::new(context.alloc(), changed)?;
+            Ok(staged.insert(context.alloc(), name, changed)?)
         }
         Err(FunctionRefusal::Error(report)) => Err(EvalStop::Error {
             report,
@@ -237,8 +237,8 @@ fn apply_assign_at<R: Threads + Sync, C: Cut + Sync, G: Gate + Sync>(
 }
 
 /// Carries out one operation. The line's assignments are staged, and read before the workspace's names.
-fn carry_out<R: Threads + Sync, C: Cut + Sync, G: Gate + Sync>(
-    context: &Context<'_, R, C, G>,
+fn carry_out<W: Crew>(
+    context: &Context<'_, W>,
     staged: &mut Names,
     stack: &mut Stack,
     operation: &Operation,
@@ -247,7 +247,7 @@ fn carry_out<R: Threads + Sync, C: Cut + Sync, G: Gate + Sync>(
     ensures { IsState (step operation.now stack.old (staged_in staged.old context.now.workspace.now)) stack.new (staged_in staged.new context.now.workspace.now) result }
 {
     match operation {
-        Operation::Constant(_, constant) => put(stack, constant_value(context.alloc, constant)),
+        Operation::Constant(_, constant) => put(stack, constant_value(context.alloc(), constant)),
         Operation::Name(column, name) => {
             let name = name.as_str();
             put(stack, name_value(context.workspace, staged, *column, name))
@@ -256,7 +256,7 @@ fn carry_out<R: Threads + Sync, C: Cut + Sync, G: Gate + Sync>(
         Operation::EmptySlot => Ok(stack.push_empty_slot()?),
         Operation::Assign(_, name, _) => {
             let value = stack.top_value().clone()?;
-            staged.insert(context.alloc, name.as_str(), value)?;
+            staged.insert(context.alloc(), name.as_str(), value)?;
             Ok(())
         }
         Operation::Dyadic(form, axis) => apply_dyadic(context, stack, form, axis),
@@ -271,15 +271,15 @@ fn carry_out<R: Threads + Sync, C: Cut + Sync, G: Gate + Sync>(
 }
 
 /// The value of a program. The line's assignments are staged.
-fn run<R: Threads + Sync, C: Cut + Sync, G: Gate + Sync>(
-    context: &Context<'_, R, C, G>,
+fn run<W: Crew>(
+    context: &Context<'_, W>,
     staged: &mut Names,
     program: &Program,
 ) -> Result<Rc<Array>, EvalStop>
     requires { staged.old ≡ empty }
     ensures { (tree : Expr) → operations tree ≡ program.now → IsOutcome (meaning_of tree context.now.workspace.now) (staged_in staged.new context.now.workspace.now) result }
 {
-    let mut stack = Stack::new(context.alloc);
+    let mut stack = Stack::new(context.alloc());
     'operations: for operation in program.operations() {
         match carry_out(context, staged, &mut stack, operation) {
             Ok(()) => {}
@@ -326,10 +326,9 @@ pub fn eval<R: Threads + Sync, C: Cut + Sync, G: Gate + Sync>(
     ensures { (tree : Expr) → operations tree ≡ program.now → Evaluates tree workspace.old workspace.new result }
 {
     let mut staged = Names::new(alloc);
+    let workers = Workers { rt, alloc, pool };
     let context = Context {
-        rt,
-        alloc,
-        pool,
+        workers: &workers,
         workspace,
     };
     match run(&context, &mut staged, program) {

@@ -1,4 +1,7 @@
 //! The laws of APL that tie the structural functions together.
+//!
+//! Below it: `apl_struct` and `apl_search`, with `apl_answer`, `apl_pool` and `apl_array`, for their definitions.
+//! Begin with `parts.rt`. Each law is the contract of a function that does nothing.
 #![tactic(auto)]
 
 mod choosing;

@@ -25,6 +25,7 @@ mod shares;
 mod summary;
 mod tasks;
 mod work;
+mod workers;
 
 pub use cut::{Cut, Every};
 pub use gate::{Gate, Open};
@@ -33,3 +34,4 @@ pub use pool::{MOST_WORKERS, Pool};
 pub use rows::{RowSummaries, Rows};
 pub use schedule::Schedule;
 pub use summary::{LONGEST_RUN, Summary};
+pub use workers::{Crew, Workers, fill};

@@ -11,19 +11,17 @@ use crate::folded_rows::{fold_last_rows, fold_rows, from_place};
 use crate::item_rows::{ItemRows, PlacedItems};
 use crate::line_folds::{Foldable, fold_along};
 use crate::outer_products::NARROW;
-use crate::workers::shares_items;
+use crate::sharing::shares_items;
 use apl_answer::ElementType;
 use apl_array::{
     Array, ScalarFunction, Shape, inserted_index_has_place, places_match_index_lists,
     replaced_index_has_place,
 };
 use apl_divisor::Divisor;
-use apl_pool::{Cut, Fault, Gate, Kernel, Pool, Stop};
+use apl_pool::{Crew, Fault, Kernel, Stop, fill};
 use apl_scalar::function_types::Function;
 use apl_scalar::with_type;
-use std::alloc::Global;
 use std::marker::PhantomData;
-use std::thread::Threads;
 
 /// The items along an axis of an array, two and more at each place of a result with elements.
 #[derive(Drop)]
@@ -190,13 +188,10 @@ impl PlacedItems for AxisItems<'_, i64> {
     }
 }
 
-fn fill_folds<
-    F: Function + Sync,
-    T: Foldable + Sync,
-    R: Threads + Sync,
-    C: Cut + Sync,
-    G: Gate + Sync,
->(rt: &R, alloc: Global, pool: &Pool<C, G>, axis: &AxisItems<T>) -> Result<Vec<i64>, Stop>
+fn fill_folds<F: Function + Sync, T: Foldable + Sync, W: Crew>(
+    workers: &W,
+    axis: &AxisItems<T>,
+) -> Result<Vec<i64>, Stop>
     ensures values { IfOk result (λ v. AreValues (λ place. fold_at F.FUNCTION (map T.elem_of axis.now.elements.now) axis.now.items axis.now.block axis.now.inner place) axis.now.count v.items) }
     ensures stop { IfErr result (IsStopOf (λ place. fold_at F.FUNCTION (map T.elem_of axis.now.elements.now) axis.now.items axis.now.block axis.now.inner place) axis.now.count) }
 {
@@ -204,36 +199,32 @@ fn fill_folds<
         axis,
         function: PhantomData,
     };
-    pool.fill(rt, alloc, &kernel)
+    fill(workers, &kernel)
 }
 
 /// The folds of numbers at each place. The workers share the items of each place, or the places.
-pub(crate) fn fill_number_folds<R: Threads + Sync, C: Cut + Sync, G: Gate + Sync>(
-    rt: &R,
-    alloc: Global,
-    pool: &Pool<C, G>,
+pub(crate) fn fill_number_folds<W: Crew>(
+    workers: &W,
     f: ScalarFunction,
     axis: &AxisItems<i64>,
 ) -> Result<Vec<i64>, Stop>
     ensures values { IfOk result (λ v. AreValues (λ place. fold_at f (map Int axis.now.elements.now) axis.now.items axis.now.block axis.now.inner place) axis.now.count v.items) }
     ensures stop { IfErr result (IsStopOf (λ place. fold_at f (map Int axis.now.elements.now) axis.now.items axis.now.block axis.now.inner place) axis.now.count) }
 {
-    if shares_items(pool, f, axis.count, axis.items) {
-        return apl_summary::fold_rows(rt, alloc, pool, f, &ItemRows { items: axis });
+    if shares_items(workers, f, axis.count, axis.items) {
+        return apl_summary::fold_rows(workers, f, &ItemRows { items: axis });
     }
-    with_type!(f, fill_folds::<F, i64, R, C, G>(rt, alloc, pool, axis))
+    with_type!(f, fill_folds::<F, i64, W>(workers, axis))
 }
 
 /// The folds of characters at each place.
-pub(crate) fn fill_character_folds<R: Threads + Sync, C: Cut + Sync, G: Gate + Sync>(
-    rt: &R,
-    alloc: Global,
-    pool: &Pool<C, G>,
+pub(crate) fn fill_character_folds<W: Crew>(
+    workers: &W,
     f: ScalarFunction,
     axis: &AxisItems<char>,
 ) -> Result<Vec<i64>, Stop>
     ensures values { IfOk result (λ v. AreValues (λ place. fold_at f (map Chr axis.now.elements.now) axis.now.items axis.now.block axis.now.inner place) axis.now.count v.items) }
     ensures stop { IfErr result (IsStopOf (λ place. fold_at f (map Chr axis.now.elements.now) axis.now.items axis.now.block axis.now.inner place) axis.now.count) }
 {
-    with_type!(f, fill_folds::<F, char, R, C, G>(rt, alloc, pool, axis))
+    with_type!(f, fill_folds::<F, char, W>(workers, axis))
 }

@@ -5,10 +5,8 @@ ghost use Rattle.apl_pool.specs.declared.kernel.TheConstants.{MOST_PLACES};
 ghost use Rattle.apl_reduce.specs.Layouts.{RepaysAnOrder, HasColumns, IsByColumns, AreByColumns};
 
 use crate::layouts::{Layout, Strides};
-use crate::workers::Workers;
-use apl_pool::{Cut, Gate, MOST_PLACES, Stop};
+use apl_pool::{Crew, MOST_PLACES, Stop, fill};
 use apl_walk::{ByLines, Gathered, Map, Window};
-use std::thread::Threads;
 
 impl Layout {
     /// Whether it pays to bring the right argument into the order of its columns, and there is room for that.
@@ -40,21 +38,23 @@ impl Layout {
     }
 }
 
-impl<R: Threads + Sync, C: Cut + Sync, G: Gate + Sync> Workers<'_, R, C, G> {
-    /// The numbers of a right argument, one column after the other.
-    pub(crate) fn fill_columns(&self, layout: &Layout, numbers: &[i64]) -> Result<Vec<i64>, Stop>
-        requires line { layout.now.right.line ≡ 1 }
-        requires item { layout.now.right.item ≡ layout.now.columns }
-        requires some { 0 < layout.now.items }
-        requires within { HasColumns layout.now (length numbers.now) }
-        requires most { layout.now.columns * layout.now.items ≤ MOST_PLACES }
-        ensures values { IfOk result (λ v. AreByColumns layout.now numbers.now v.items) }
-        ensures stop { IfErr result (λ stop. stop ≡ Memory) }
-    {
-        let strides = layout.right;
-        let columns = [Map::Window(Window::whole(layout.columns, strides.line))];
-        let items = Window::whole(layout.items, strides.item);
-        let kernel = ByLines::new(Gathered::new(numbers, &columns, layout.columns, items));
-        self.pool.fill(self.rt, self.alloc, &kernel)
-    }
+/// The numbers of a right argument, one column after the other.
+pub(crate) fn fill_columns<W: Crew>(
+    workers: &W,
+    layout: &Layout,
+    numbers: &[i64],
+) -> Result<Vec<i64>, Stop>
+    requires line { layout.now.right.line ≡ 1 }
+    requires item { layout.now.right.item ≡ layout.now.columns }
+    requires some { 0 < layout.now.items }
+    requires within { HasColumns layout.now (length numbers.now) }
+    requires most { layout.now.columns * layout.now.items ≤ MOST_PLACES }
+    ensures values { IfOk result (λ v. AreByColumns layout.now numbers.now v.items) }
+    ensures stop { IfErr result (λ stop. stop ≡ Memory) }
+{
+    let strides = layout.right;
+    let columns = [Map::Window(Window::whole(layout.columns, strides.line))];
+    let items = Window::whole(layout.items, strides.item);
+    let kernel = ByLines::new(Gathered::new(numbers, &columns, layout.columns, items));
+    fill(workers, &kernel)
 }

@@ -9,10 +9,9 @@ ghost use Rattle.apl_reduce.specs.Decoding.{have_digits_alike, decode_length, de
 ghost use Rattle.apl_reduce.specs.Fronts.{served, served_value};
 
 use crate::range::limited;
-use crate::workers::Workers;
 use apl_answer::{OpFault, fill_array};
 use apl_array::{Array, Shape};
-use apl_pool::{Cut, Fault, Gate, Kernel, Pool};
+use apl_pool::{Crew, Cut, Fault, Gate, Kernel, Pool, Workers};
 use std::alloc::Global;
 use std::thread::Threads;
 
@@ -112,22 +111,20 @@ fn digit_count(a: &Array, b: &Array) -> Option<usize>
     }
 }
 
-impl<R: Threads + Sync, C: Cut + Sync, G: Gate + Sync> Workers<'_, R, C, G> {
-    /// The scalar that a decode gives.
-    fn decoded(&self, decoding: &Decoding) -> Result<Array, OpFault>
-        ensures { let d = decoding.now in
-            IsAnswerOf (answer_of [] (λ index. served_value d.count d.radices.is_single d.radices.numbers.now d.digits.is_single d.digits.numbers.now) Number) result }
-    {
-        let Ok(shape) = Shape::new(self.alloc, &[]) else {
-            unreachable!()
-        };
-        fill_array(self.rt, self.alloc, self.pool, shape, decoding)
-    }
+/// The scalar that a decode gives.
+fn decoded<W: Crew>(workers: &W, decoding: &Decoding) -> Result<Array, OpFault>
+    ensures { let d = decoding.now in
+        IsAnswerOf (answer_of [] (λ index. served_value d.count d.radices.is_single d.radices.numbers.now d.digits.is_single d.digits.numbers.now) Number) result }
+{
+    let Ok(shape) = Shape::new(workers.alloc(), &[]) else {
+        unreachable!()
+    };
+    fill_array(workers, shape, decoding)
 }
 
 /// `A⊥B`, decode: the value that the digits `B` have in the radices `A`.
 /// Shape: a scalar number. An argument of one element serves all digits of the other.
-/// Errors in order: RANK, LENGTH, DOMAIN of the kinds if there is a digit, LIMIT if the value of some first digits is out of range.
+/// Errors in order: RANK, LENGTH, DOMAIN of the kinds if there is a digit, LIMIT if some first digits have a value out of range.
 /// Source: APL\360 User's Manual, base value; the order of errors is this calculator's own.
 pub fn decode<R: Threads + Sync, C: Cut + Sync, G: Gate + Sync>(
     rt: &R,
@@ -150,18 +147,24 @@ pub fn decode<R: Threads + Sync, C: Cut + Sync, G: Gate + Sync>(
             numbers: &[],
             is_single: false,
         };
-        return workers.decoded(&Decoding {
-            radices: none,
-            digits: none,
-            count,
-        });
+        return decoded(
+            &workers,
+            &Decoding {
+                radices: none,
+                digits: none,
+                count,
+            },
+        );
     }
     let (Some(radices), Some(digits)) = (served_by(a), served_by(b)) else {
         return Err(OpFault::Domain);
     };
-    workers.decoded(&Decoding {
-        radices,
-        digits,
-        count,
-    })
+    decoded(
+        &workers,
+        &Decoding {
+            radices,
+            digits,
+            count,
+        },
+    )
 }

@@ -13,11 +13,10 @@ ghost use Rattle.apl_reduce.specs.Carrying.{digit_in, digit_number, StandsFor};
 use crate::carry_divisor::{CarryDivisor, carry_divisors};
 use crate::carrying::digit_left;
 use crate::shapes::joined_shape;
-use crate::workers::Workers;
 use apl_answer::{OpFault, constant_array, fill_array};
 use apl_array::{Array, Shape, joined_index_has_place, places_match_index_lists};
 use apl_divisor::Divisor;
-use apl_pool::{Cut, Fault, Gate, Kernel, Pool};
+use apl_pool::{Crew, Cut, Fault, Gate, Kernel, Pool, Workers};
 use std::alloc::Global;
 use std::thread::Threads;
 
@@ -70,40 +69,38 @@ impl Kernel for Encoding<'_> {
     }
 }
 
-impl<R: Threads + Sync, C: Cut + Sync, G: Gate + Sync> Workers<'_, R, C, G> {
-    /// The array of this shape of the digit at each radix of each number.
-    fn encode_numbers(
-        &self,
-        shape: Shape,
-        radices: &[i64],
-        numbers: &[i64],
-    ) -> Result<Array, OpFault>
-        requires places { count_of shape ≡ length radices.now * length numbers.now }
-        requires most { length numbers.now ≤ MOST_PLACES }
-        ensures { IsAnswerAt shape Number (digit_in radices.now numbers.now) result }
-    {
-        let behind = carry_divisors(self.alloc, radices)?;
-        let kernel = Encoding {
-            radices,
-            behind: behind.as_slice(),
-            numbers,
-            width: Divisor::new(numbers.len().max(1)),
-            count: shape.count(),
-        };
-        fill_array(self.rt, self.alloc, self.pool, shape, &kernel)
-    }
+/// The array of this shape of the digit at each radix of each number.
+fn encode_numbers<W: Crew>(
+    workers: &W,
+    shape: Shape,
+    radices: &[i64],
+    numbers: &[i64],
+) -> Result<Array, OpFault>
+    requires places { count_of shape ≡ length radices.now * length numbers.now }
+    requires most { length numbers.now ≤ MOST_PLACES }
+    ensures { IsAnswerAt shape Number (digit_in radices.now numbers.now) result }
+{
+    let behind = carry_divisors(workers.alloc(), radices)?;
+    let kernel = Encoding {
+        radices,
+        behind: behind.as_slice(),
+        numbers,
+        width: Divisor::new(numbers.len().max(1)),
+        count: shape.count(),
+    };
+    fill_array(workers, shape, &kernel)
+}
 
-    /// `Domain`, or the array of this shape if it has no elements.
-    fn refuse(&self, shape: Shape) -> Result<Array, OpFault>
-        ensures { IsAnswerAt shape Number (λ place. Result.Err Fault.Domain) result }
-    {
-        constant_array(self.rt, self.alloc, self.pool, shape, Err(Fault::Domain))
-    }
+/// `Domain`, or the array of this shape if it has no elements.
+fn refuse<W: Crew>(workers: &W, shape: Shape) -> Result<Array, OpFault>
+    ensures { IsAnswerAt shape Number (λ place. Result.Err Fault.Domain) result }
+{
+    constant_array(workers, shape, Err(Fault::Domain))
 }
 
 /// `A⊤B`, encode: the digits of each element of `B` in the radices `A`.
 /// Shape: that of `A`, then that of `B`; of numbers. A scalar `A` is the only radix.
-/// Errors in order: RANK of `A`, LIMIT of the shape, DOMAIN of the kinds if there is an element, LIMIT if a digit is out of range.
+/// Errors in order: RANK of `A`, LIMIT of the shape, DOMAIN of the kinds if there is an element, LIMIT of a digit.
 /// Source: APL\360 User's Manual, representation; radices of 0 and below, and the order of errors, are this calculator's own.
 pub fn encode<R: Threads + Sync, C: Cut + Sync, G: Gate + Sync>(
     rt: &R,
@@ -122,10 +119,10 @@ pub fn encode<R: Threads + Sync, C: Cut + Sync, G: Gate + Sync>(
     joined_index_has_place();
     let shape = joined_shape(alloc, a.shape().lengths(), b.shape().lengths())?;
     let Some(radices) = a.numbers() else {
-        return workers.refuse(shape);
+        return refuse(&workers, shape);
     };
     let Some(numbers) = b.numbers() else {
-        return workers.refuse(shape);
+        return refuse(&workers, shape);
     };
-    workers.encode_numbers(shape, radices, numbers)
+    encode_numbers(&workers, shape, radices, numbers)
 }

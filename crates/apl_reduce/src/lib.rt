@@ -34,8 +34,8 @@ mod range;
 mod reducing;
 mod run_folds;
 mod shapes;
+mod sharing;
 mod sums;
-mod workers;
 mod wrapped;
 
 pub use decoding::decode;

@@ -11,11 +11,10 @@ ghost use Rattle.apl_reduce.specs.Products.{outer_row};
 
 use crate::dyadic::{Chosen, Dyadic, Typed};
 use crate::shapes::{characters_of, joined_shape};
-use crate::workers::Workers;
 use apl_answer::{ElementType, OpFault, array_from_fill};
 use apl_array::{Array, ScalarFunction, joined_index_has_place, places_match_index_lists};
 use apl_divisor::Divisor;
-use apl_pool::{Cut, Fault, Gate, Kernel, Pool, Stop};
+use apl_pool::{Crew, Cut, Fault, Gate, Kernel, Pool, Stop, Workers, fill};
 use apl_scalar::function_types::{Equal, Function, NotEqual};
 use apl_scalar::with_type;
 use std::alloc::Global;
@@ -87,58 +86,57 @@ impl<T: ElementType, U: ElementType, F: Dyadic> Kernel for EachPair<'_, T, U, F>
     }
 }
 
-impl<R: Threads + Sync, C: Cut + Sync, G: Gate + Sync> Workers<'_, R, C, G> {
-    /// A function of each element of one list and each element of another.
-    fn fill_outer<T: ElementType + Sync, U: ElementType + Sync, F: Dyadic + Sync>(
-        &self,
-        left: &[T],
-        right: &[U],
-        function: F,
-    ) -> Result<Vec<i64>, Stop>
-        requires { length left.now * length right.now ≤ MOST_PLACES }
-        ensures values { IfOk result (λ v. AreValues (λ place. outer_number (F.function function) (map T.elem_of left.now) (map U.elem_of right.now) place) (length left.now * length right.now) v.items) }
-        ensures stop { IfErr result (IsStopOf (λ place. outer_number (F.function function) (map T.elem_of left.now) (map U.elem_of right.now) place) (length left.now * length right.now)) }
-    {
-        let count = left.len() * right.len();
-        if count == 0 {
-            return Ok(Vec::new(self.alloc));
-        }
-        let kernel = EachPair {
+/// A function of each element of one list and each element of another.
+fn fill_outer<T: ElementType + Sync, U: ElementType + Sync, F: Dyadic + Sync, W: Crew>(
+    workers: &W,
+    left: &[T],
+    right: &[U],
+    function: F,
+) -> Result<Vec<i64>, Stop>
+    requires { length left.now * length right.now ≤ MOST_PLACES }
+    ensures values { IfOk result (λ v. AreValues (λ place. outer_number (F.function function) (map T.elem_of left.now) (map U.elem_of right.now) place) (length left.now * length right.now) v.items) }
+    ensures stop { IfErr result (IsStopOf (λ place. outer_number (F.function function) (map T.elem_of left.now) (map U.elem_of right.now) place) (length left.now * length right.now)) }
+{
+    let count = left.len() * right.len();
+    if count == 0 {
+        return Ok(Vec::new(workers.alloc()));
+    }
+    let kernel = EachPair {
+        left,
+        right,
+        columns: Divisor::new(right.len()),
+        count,
+        function,
+    };
+    fill(workers, &kernel)
+}
+
+/// As for numbers, but of characters, of which only `=` and `≠` give something.
+fn fill_outer_characters<W: Crew>(
+    workers: &W,
+    f: ScalarFunction,
+    left: &[char],
+    right: &[char],
+) -> Result<Vec<i64>, Stop>
+    requires { length left.now * length right.now ≤ MOST_PLACES }
+    ensures values { IfOk result (λ v. AreValues (λ place. outer_number f (map Chr left.now) (map Chr right.now) place) (length left.now * length right.now) v.items) }
+    ensures stop { IfErr result (IsStopOf (λ place. outer_number f (map Chr left.now) (map Chr right.now) place) (length left.now * length right.now)) }
+{
+    match f {
+        ScalarFunction::Equal => fill_outer(workers, left, right, Typed::<Equal>(PhantomData)),
+        ScalarFunction::NotEqual => fill_outer(
+            workers,
             left,
             right,
-            columns: Divisor::new(right.len()),
-            count,
-            function,
-        };
-        self.pool.fill(self.rt, self.alloc, &kernel)
-    }
-
-    /// As for numbers, but of characters, of which only `=` and `≠` give something.
-    fn fill_outer_characters(
-        &self,
-        f: ScalarFunction,
-        left: &[char],
-        right: &[char],
-    ) -> Result<Vec<i64>, Stop>
-        requires { length left.now * length right.now ≤ MOST_PLACES }
-        ensures values { IfOk result (λ v. AreValues (λ place. outer_number f (map Chr left.now) (map Chr right.now) place) (length left.now * length right.now) v.items) }
-        ensures stop { IfErr result (IsStopOf (λ place. outer_number f (map Chr left.now) (map Chr right.now) place) (length left.now * length right.now)) }
-    {
-        match f {
-            ScalarFunction::Equal => self.fill_outer(left, right, Typed::<Equal>(PhantomData)),
-            ScalarFunction::NotEqual => self.fill_outer(
-                left,
-                right,
-                Typed::<NotEqual>(PhantomData),
-            ),
-            _ => self.fill_outer(left, right, Chosen(f)),
-        }
+            Typed::<NotEqual>(PhantomData),
+        ),
+        _ => fill_outer(workers, left, right, Chosen(f)),
     }
 }
 
 /// A function of each number of one list and each number of another, compiled for that function.
-fn fill_outer_typed<F: Function + Copy + Sync, R: Threads + Sync, C: Cut + Sync, G: Gate + Sync>(
-    workers: &Workers<R, C, G>,
+fn fill_outer_typed<F: Function + Copy + Sync, W: Crew>(
+    workers: &W,
     left: &[i64],
     right: &[i64],
 ) -> Result<Vec<i64>, Stop>
@@ -146,12 +144,12 @@ fn fill_outer_typed<F: Function + Copy + Sync, R: Threads + Sync, C: Cut + Sync,
     ensures values { IfOk result (λ v. AreValues (λ place. outer_number F.FUNCTION (map Int left.now) (map Int right.now) place) (length left.now * length right.now) v.items) }
     ensures stop { IfErr result (IsStopOf (λ place. outer_number F.FUNCTION (map Int left.now) (map Int right.now) place) (length left.now * length right.now)) }
 {
-    workers.fill_outer(left, right, Typed::<F>(PhantomData))
+    fill_outer(workers, left, right, Typed::<F>(PhantomData))
 }
 
 /// A function of each number of one list and each number of another.
-fn fill_outer_numbers<R: Threads + Sync, C: Cut + Sync, G: Gate + Sync>(
-    workers: &Workers<R, C, G>,
+fn fill_outer_numbers<W: Crew>(
+    workers: &W,
     f: ScalarFunction,
     left: &[i64],
     right: &[i64],
@@ -160,12 +158,12 @@ fn fill_outer_numbers<R: Threads + Sync, C: Cut + Sync, G: Gate + Sync>(
     ensures values { IfOk result (λ v. AreValues (λ place. outer_number f (map Int left.now) (map Int right.now) place) (length left.now * length right.now) v.items) }
     ensures stop { IfErr result (IsStopOf (λ place. outer_number f (map Int left.now) (map Int right.now) place) (length left.now * length right.now)) }
 {
-    with_type!(f, fill_outer_typed::<F, R, C, G>(workers, left, right))
+    with_type!(f, fill_outer_typed::<F, W>(workers, left, right))
 }
 
 /// A function of each element of `a` and each element of `b`.
-fn fill_outer_elements<R: Threads + Sync, C: Cut + Sync, G: Gate + Sync>(
-    workers: &Workers<R, C, G>,
+fn fill_outer_elements<W: Crew>(
+    workers: &W,
     f: ScalarFunction,
     a: &Array,
     b: &Array,
@@ -176,9 +174,9 @@ fn fill_outer_elements<R: Threads + Sync, C: Cut + Sync, G: Gate + Sync>(
 {
     match (a.numbers(), b.numbers()) {
         (Some(left), Some(right)) => fill_outer_numbers(workers, f, left, right),
-        (Some(left), None) => workers.fill_outer(left, characters_of(b), Chosen(f)),
-        (None, Some(right)) => workers.fill_outer(characters_of(a), right, Chosen(f)),
-        (None, None) => workers.fill_outer_characters(f, characters_of(a), characters_of(b)),
+        (Some(left), None) => fill_outer(workers, left, characters_of(b), Chosen(f)),
+        (None, Some(right)) => fill_outer(workers, characters_of(a), right, Chosen(f)),
+        (None, None) => fill_outer_characters(workers, f, characters_of(a), characters_of(b)),
     }
 }
 

@@ -11,13 +11,12 @@ ghost use Rattle.apl_reduce.specs.Folding.{identity_or_fault, reduction};
 ghost use Rattle.apl_reduce.specs.Reducing.{items_along, reduce_row};
 
 use crate::axis_items::{AxisItems, fill_character_folds, fill_number_folds};
-use crate::workers::Workers;
 use apl_answer::{OpFault, array_from_fill, array_of_elements, constant_array};
 use apl_array::{
     Array, Axis, ScalarFunction, Shape, inserted_index_has_place, places_match_index_lists,
     replaced_index_has_place,
 };
-use apl_pool::{Cut, Fault, Gate, Pool};
+use apl_pool::{Crew, Cut, Fault, Gate, Pool, Workers};
 use apl_scalar::identity;
 use std::alloc::Global;
 use std::thread::Threads;
@@ -32,34 +31,38 @@ fn identity_or_fault(f: ScalarFunction) -> Result<i64, Fault>
     }
 }
 
-impl<R: Threads + Sync, C: Cut + Sync, G: Gate + Sync> Workers<'_, R, C, G> {
-    /// The array of this shape with the folds along axis `k`, of two and more items each.
-    fn fold(&self, shape: Shape, f: ScalarFunction, b: &Array, k: usize) -> Result<Array, OpFault>
-        requires axis { k < length b.now.shape }
-        requires two { 2 ≤ slice_index b.now.shape k }
-        requires shape { shape ≡ remove b.now.shape k }
-        ensures { IsAnswerOf (answer_of shape (λ index. reduction f (items_along b.now k index)) Number) result }
-    {
-        inserted_index_has_place();
-        places_match_index_lists();
-        if shape.count() == 0 {
-            return constant_array(self.rt, self.alloc, self.pool, shape, Ok(0));
-        }
-        let filled = match b.numbers() {
-            Some(numbers) => {
-                let axis = AxisItems::new(b, numbers, k, &shape);
-                fill_number_folds(self.rt, self.alloc, self.pool, f, &axis)
-            }
-            None => {
-                let Some(characters) = b.characters() else {
-                    unreachable!()
-                };
-                let axis = AxisItems::new(b, characters, k, &shape);
-                fill_character_folds(self.rt, self.alloc, self.pool, f, &axis)
-            }
-        };
-        array_from_fill(shape, filled)
+/// The array of this shape with the folds along axis `k`, of two and more items each.
+fn fold<W: Crew>(
+    workers: &W,
+    shape: Shape,
+    f: ScalarFunction,
+    b: &Array,
+    k: usize,
+) -> Result<Array, OpFault>
+    requires axis { k < length b.now.shape }
+    requires two { 2 ≤ slice_index b.now.shape k }
+    requires shape { shape ≡ remove b.now.shape k }
+    ensures { IsAnswerOf (answer_of shape (λ index. reduction f (items_along b.now k index)) Number) result }
+{
+    inserted_index_has_place();
+    places_match_index_lists();
+    if shape.count() == 0 {
+        return constant_array(workers, shape, Ok(0));
     }
+    let filled = match b.numbers() {
+        Some(numbers) => {
+            let axis = AxisItems::new(b, numbers, k, &shape);
+            fill_number_folds(workers, f, &axis)
+        }
+        None => {
+            let Some(characters) = b.characters() else {
+                unreachable!()
+            };
+            let axis = AxisItems::new(b, characters, k, &shape);
+            fill_character_folds(workers, f, &axis)
+        }
+    };
+    array_from_fill(shape, filled)
 }
 
 /// `f/B` and `f⌿B`, reduction: the right fold by `f` of the items along an axis. A single item is answered as it is.
@@ -82,7 +85,7 @@ pub fn reduce<R: Threads + Sync, C: Cut + Sync, G: Gate + Sync>(
         return Err(OpFault::Index);
     };
     if b.shape().rank() == 0 {
-        return array_of_elements(rt, alloc, pool, b.shape().copy(alloc)?, b);
+        return array_of_elements(&workers, b.shape().copy(alloc)?, b);
     }
     let mut lengths = b.shape().lengths().to_vec(alloc)?;
     lengths.remove(k);
@@ -90,8 +93,8 @@ pub fn reduce<R: Threads + Sync, C: Cut + Sync, G: Gate + Sync>(
     inserted_index_has_place();
     replaced_index_has_place();
     match b.shape().axis(k) {
-        0 => constant_array(rt, alloc, pool, shape, identity_or_fault(f)),
-        1 => array_of_elements(rt, alloc, pool, shape, b),
-        _ => workers.fold(shape, f, b, k),
+        0 => constant_array(&workers, shape, identity_or_fault(f)),
+        1 => array_of_elements(&workers, shape, b),
+        _ => fold(&workers, shape, f, b, k),
     }
 }

@@ -5,7 +5,7 @@ ghost use Rattle.apl_scalar.specs.Scalar.{dyadic_numbers};
 use apl_array::{ScalarFunction, range_is_decided};
 use apl_scalar::function_types::Function;
 
-/// The sum, wrapped, and a number of which the highest bit is set if it leaves the range: if its sign is that of neither number.
+/// The sum, wrapped, and a number of which the highest bit is set if it leaves the range. Then its sign is that of neither number.
 #[inline(always)]
 fn wrapped_sum(x: i64, y: i64) -> (i64, u64)
     ensures { result.1 < 2 ^ 63 → result.0 ≡ x +ℤ y }
@@ -15,7 +15,7 @@ fn wrapped_sum(x: i64, y: i64) -> (i64, u64)
     (sum.cast_signed(), (left ^ sum) & (right ^ sum))
 }
 
-/// The difference, wrapped, and a number of which the highest bit is set if it leaves the range: if the signs of both numbers differ, and
+/// The difference, wrapped, and a number of which the highest bit is set if it leaves the range. Then the signs of both numbers differ, and
 /// its sign is not that of the left one.
 #[inline(always)]
 fn wrapped_difference(x: i64, y: i64) -> (i64, u64)

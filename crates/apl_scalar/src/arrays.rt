@@ -14,7 +14,7 @@ use crate::operands::Pairs;
 use crate::passes::{fill_character_pairs, fill_number_pairs, fill_numbers};
 use apl_answer::{OpFault, array_from_fill, fill_uniform};
 use apl_array::{Array, ScalarFunction, Shape, places_match_index_lists};
-use apl_pool::{Cut, Fault, Gate, Pool, Stop};
+use apl_pool::{Crew, Cut, Fault, Gate, Pool, Stop, Workers};
 use std::alloc::Global;
 use std::thread::Threads;
 
@@ -32,25 +32,20 @@ pub fn monadic<R: Threads + Sync, C: Cut + Sync, G: Gate + Sync>(
     requires { IsTrue (has_monadic f) }
     ensures { IsAnswerOf (monadic_answer f right.now) result }
 {
+    let workers = Workers { rt, alloc, pool };
     let shape = right.shape().copy(alloc)?;
-    array_from_fill(shape, fill_monadic(rt, alloc, pool, f, right))
+    array_from_fill(shape, fill_monadic(&workers, f, right))
 }
 
-fn fill_monadic<R: Threads + Sync, C: Cut + Sync, G: Gate + Sync>(
-    rt: &R,
-    alloc: Global,
-    pool: &Pool<C, G>,
-    f: ScalarFunction,
-    right: &Array,
-) -> Result<Vec<i64>, Stop>
+fn fill_monadic<W: Crew>(workers: &W, f: ScalarFunction, right: &Array) -> Result<Vec<i64>, Stop>
     requires { IsTrue (has_monadic f) }
     ensures values { IfOk result (λ v. AreValues (λ place. monadic_element f right.now (index_at right.now.shape place)) (count_of right.now.shape) v.items) }
     ensures stop { IfErr result (IsStopOf (λ place. monadic_element f right.now (index_at right.now.shape place)) (count_of right.now.shape)) }
 {
     places_match_index_lists();
     match right.numbers() {
-        Some(numbers) => fill_numbers(rt, alloc, pool, f, numbers),
-        None => fill_uniform(rt, alloc, pool, right.shape().count(), Err(Fault::Domain)),
+        Some(numbers) => fill_numbers(workers, f, numbers),
+        None => fill_uniform(workers, right.shape().count(), Err(Fault::Domain)),
     }
 }
 
@@ -71,15 +66,14 @@ pub fn dyadic<R: Threads + Sync, C: Cut + Sync, G: Gate + Sync>(
     requires { IsTrue (has_dyadic f) }
     ensures { IsAnswerOf (dyadic_answer f left.now right.now) result }
 {
+    let workers = Workers { rt, alloc, pool };
     let shape = extended(left.shape(), right.shape())?.copy(alloc)?;
-    let filled = fill_dyadic(rt, alloc, pool, f, left, right, &shape);
+    let filled = fill_dyadic(&workers, f, left, right, &shape);
     array_from_fill(shape, filled)
 }
 
-fn fill_dyadic<R: Threads + Sync, C: Cut + Sync, G: Gate + Sync>(
-    rt: &R,
-    alloc: Global,
-    pool: &Pool<C, G>,
+fn fill_dyadic<W: Crew>(
+    workers: &W,
     f: ScalarFunction,
     left: &Array,
     right: &Array,
@@ -94,15 +88,15 @@ fn fill_dyadic<R: Threads + Sync, C: Cut + Sync, G: Gate + Sync>(
     match (left.numbers(), right.numbers()) {
         (Some(xs), Some(ys)) => {
             let pairs = Pairs::new(left, xs, right, ys, shape);
-            fill_number_pairs(rt, alloc, pool, f, &pairs)
+            fill_number_pairs(workers, f, &pairs)
         }
         (None, None) => {
             let (Some(xs), Some(ys)) = (left.characters(), right.characters()) else {
                 unreachable!()
             };
             let pairs = Pairs::new(left, xs, right, ys, shape);
-            fill_character_pairs(rt, alloc, pool, f, &pairs)
+            fill_character_pairs(workers, f, &pairs)
         }
-        _ => fill_uniform(rt, alloc, pool, shape.count(), compare(f, false)),
+        _ => fill_uniform(workers, shape.count(), compare(f, false)),
     }
 }

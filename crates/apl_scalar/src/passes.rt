@@ -12,15 +12,11 @@ use crate::operands::{Operand, Pairs, Value, Whole};
 use crate::with_type;
 use apl_answer::{ElementType, fill_uniform};
 use apl_array::ScalarFunction;
-use apl_pool::{Cut, Fault, Gate, Pool, Stop};
-use std::alloc::Global;
+use apl_pool::{Crew, Fault, Stop, fill};
 use std::marker::PhantomData;
-use std::thread::Threads;
 
-fn fill_each<F: Function + Copy + Sync, R: Threads + Sync, C: Cut + Sync, G: Gate + Sync>(
-    rt: &R,
-    alloc: Global,
-    pool: &Pool<C, G>,
+fn fill_each<F: Function + Copy + Sync, W: Crew>(
+    workers: &W,
     numbers: &[i64],
 ) -> Result<Vec<i64>, Stop>
     requires { length numbers.now ≤ MOST_PLACES }
@@ -35,20 +31,11 @@ fn fill_each<F: Function + Copy + Sync, R: Threads + Sync, C: Cut + Sync, G: Gat
         results,
         count: numbers.len(),
     };
-    pool.fill(rt, alloc, &kernel)
+    fill(workers, &kernel)
 }
 
-fn fill_operands<
-    F: Function + Copy + Sync,
-    A: Operand + Sync,
-    B: Operand + Sync,
-    R: Threads + Sync,
-    C: Cut + Sync,
-    G: Gate + Sync,
->(
-    rt: &R,
-    alloc: Global,
-    pool: &Pool<C, G>,
+fn fill_operands<F: Function + Copy + Sync, A: Operand + Sync, B: Operand + Sync, W: Crew>(
+    workers: &W,
     left: A,
     right: B,
     count: usize,
@@ -65,37 +52,32 @@ fn fill_operands<
         function: PhantomData,
     };
     let kernel = ResultsKernel { results, count };
-    pool.fill(rt, alloc, &kernel)
+    fill(workers, &kernel)
 }
 
 /// A pass is compiled for each way in which the arguments may be extended.
-fn fill_pairs<
-    F: Function + Copy + Sync,
-    T: ElementType + Sync,
-    R: Threads + Sync,
-    C: Cut + Sync,
-    G: Gate + Sync,
->(rt: &R, alloc: Global, pool: &Pool<C, G>, pairs: &Pairs<T>) -> Result<Vec<i64>, Stop>
+fn fill_pairs<F: Function + Copy + Sync, T: ElementType + Sync, W: Crew>(
+    workers: &W,
+    pairs: &Pairs<T>,
+) -> Result<Vec<i64>, Stop>
     ensures values { IfOk result (λ v. AreValues (pair_in F.FUNCTION T.elem_of pairs.now) pairs.now.count v.items) }
     ensures stop { IfErr result (IsStopOf (pair_in F.FUNCTION T.elem_of pairs.now) pairs.now.count) }
 {
     let (left, right) = (Whole(pairs.left), Whole(pairs.right));
     if pairs.left_is_whole && pairs.right_is_whole {
-        fill_operands::<F, Whole<T>, Whole<T>, R, C, G>(rt, alloc, pool, left, right, pairs.count)
+        fill_operands::<F, Whole<T>, Whole<T>, W>(workers, left, right, pairs.count)
     } else if pairs.left_is_whole {
         let right = Value(pairs.right[0]);
-        fill_operands::<F, Whole<T>, Value<T>, R, C, G>(rt, alloc, pool, left, right, pairs.count)
+        fill_operands::<F, Whole<T>, Value<T>, W>(workers, left, right, pairs.count)
     } else {
         let left = Value(pairs.left[0]);
-        fill_operands::<F, Value<T>, Whole<T>, R, C, G>(rt, alloc, pool, left, right, pairs.count)
+        fill_operands::<F, Value<T>, Whole<T>, W>(workers, left, right, pairs.count)
     }
 }
 
 /// A monadic function of each number.
-pub(crate) fn fill_numbers<R: Threads + Sync, C: Cut + Sync, G: Gate + Sync>(
-    rt: &R,
-    alloc: Global,
-    pool: &Pool<C, G>,
+pub(crate) fn fill_numbers<W: Crew>(
+    workers: &W,
     f: ScalarFunction,
     numbers: &[i64],
 ) -> Result<Vec<i64>, Stop>
@@ -103,28 +85,24 @@ pub(crate) fn fill_numbers<R: Threads + Sync, C: Cut + Sync, G: Gate + Sync>(
     ensures values { IfOk result (λ v. AreValues (λ place. monadic_number f (slice_index_or numbers.now place (pos 0))) (length numbers.now) v.items) }
     ensures stop { IfErr result (IsStopOf (λ place. monadic_number f (slice_index_or numbers.now place (pos 0))) (length numbers.now)) }
 {
-    with_type!(f, fill_each::<F, R, C, G>(rt, alloc, pool, numbers))
+    with_type!(f, fill_each::<F, W>(workers, numbers))
 }
 
 /// A dyadic function of each pair of numbers.
-pub(crate) fn fill_number_pairs<R: Threads + Sync, C: Cut + Sync, G: Gate + Sync>(
-    rt: &R,
-    alloc: Global,
-    pool: &Pool<C, G>,
+pub(crate) fn fill_number_pairs<W: Crew>(
+    workers: &W,
     f: ScalarFunction,
     pairs: &Pairs<i64>,
 ) -> Result<Vec<i64>, Stop>
     ensures values { IfOk result (λ v. AreValues (pair_in f Int pairs.now) pairs.now.count v.items) }
     ensures stop { IfErr result (IsStopOf (pair_in f Int pairs.now) pairs.now.count) }
 {
-    with_type!(f, fill_pairs::<F, i64, R, C, G>(rt, alloc, pool, pairs))
+    with_type!(f, fill_pairs::<F, i64, W>(workers, pairs))
 }
 
 /// A dyadic function of each pair of characters.
-pub(crate) fn fill_character_pairs<R: Threads + Sync, C: Cut + Sync, G: Gate + Sync>(
-    rt: &R,
-    alloc: Global,
-    pool: &Pool<C, G>,
+pub(crate) fn fill_character_pairs<W: Crew>(
+    workers: &W,
     f: ScalarFunction,
     pairs: &Pairs<char>,
 ) -> Result<Vec<i64>, Stop>
@@ -132,8 +110,8 @@ pub(crate) fn fill_character_pairs<R: Threads + Sync, C: Cut + Sync, G: Gate + S
     ensures stop { IfErr result (IsStopOf (pair_in f Chr pairs.now) pairs.now.count) }
 {
     match f {
-        ScalarFunction::Equal => fill_pairs::<Equal, char, R, C, G>(rt, alloc, pool, pairs),
-        ScalarFunction::NotEqual => fill_pairs::<NotEqual, char, R, C, G>(rt, alloc, pool, pairs),
-        _ => fill_uniform(rt, alloc, pool, pairs.count, Err(Fault::Domain)),
+        ScalarFunction::Equal => fill_pairs::<Equal, char, W>(workers, pairs),
+        ScalarFunction::NotEqual => fill_pairs::<NotEqual, char, W>(workers, pairs),
+        _ => fill_uniform(workers, pairs.count, Err(Fault::Domain)),
     }
 }

@@ -6,9 +6,7 @@ ghost use Rattle.apl_scan.specs.Running.{chunk_start, AreOfChunks, AreUpToChunks
 
 use crate::bounded_summary::BoundedSummary;
 use apl_divisor::Divisor;
-use apl_pool::{Cut, Fault, Gate, Pool, RowSummaries, Rows, Stop, Summary};
-use std::alloc::Global;
-use std::thread::Threads;
+use apl_pool::{Crew, Fault, RowSummaries, Rows, Stop, Summary};
 
 /// How many numbers of a line are summarized together.
 pub(crate) const CHUNK: usize = 1024;
@@ -76,15 +74,8 @@ fn carry_on<S: Summary<Item = i64> + Copy + Drop>(
 
 /// For each chunk the summary of its line up to the end of the chunk. If several workers made these, there are also copies of a number, one
 /// for each number.
-pub(crate) fn summarize<
-    S: Summary<Item = i64> + Copy + Drop + Send,
-    R: Threads + Sync,
-    C: Cut + Sync,
-    G: Gate + Sync,
->(
-    rt: &R,
-    alloc: Global,
-    pool: &Pool<C, G>,
+pub(crate) fn summarize<S: Summary<Item = i64> + Copy + Drop + Send, W: Crew>(
+    workers: &W,
     chunks: &Chunks,
 ) -> Result<RowSummaries<BoundedSummary<S>>, Stop>
     ensures rows { IfOk result (λ f. vec_len f.summaries ≡ chunks.now.rows) }
@@ -94,9 +85,9 @@ pub(crate) fn summarize<
 {
     let count = chunks.numbers.len();
     // 1 and not 0: for a number of equal bytes the compiler calls `memset`, which takes longer than a loop.
-    let mut folds: RowSummaries<BoundedSummary<S>> = pool.fold_rows_beside(
-        rt, alloc, chunks, 1, count,
-    );
+    let mut folds: RowSummaries<BoundedSummary<S>> = workers
+        .pool()
+        .fold_rows_beside(workers.rt(), workers.alloc(), chunks, 1, count);
     folds.end?;
     carry_on(chunks, folds.summaries.as_mut_slice());
     Ok(folds)

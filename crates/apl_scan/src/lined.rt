@@ -10,17 +10,13 @@ ghost use Rattle.apl_scan.specs.Lines.{scan_at};
 
 use crate::summarized::fill_by_summary;
 use apl_array::ScalarFunction;
-use apl_pool::{Cut, Gate, Pool, Stop};
+use apl_pool::{Crew, Stop, fill};
 use apl_walk::{ByLines, Gathered, Map, Window};
-use std::alloc::Global;
-use std::thread::Threads;
 
 /// Numbers of lines that are one after the other, in the order in which neighbours in a line are `inner` apart. With `items` and `inner`
 /// exchanged it is the way back.
-fn exchange<R: Threads + Sync, C: Cut + Sync, G: Gate + Sync>(
-    rt: &R,
-    alloc: Global,
-    pool: &Pool<C, G>,
+fn exchange<W: Crew>(
+    workers: &W,
     numbers: &[i64],
     items: usize,
     inner: usize,
@@ -40,15 +36,13 @@ fn exchange<R: Threads + Sync, C: Cut + Sync, G: Gate + Sync>(
     let columns = Window::whole(inner, items);
     let walk = Gathered::new(numbers, &outer, blocks * items, columns);
     let kernel = ByLines::new(walk);
-    pool.fill(rt, alloc, &kernel)
+    fill(workers, &kernel)
 }
 
 /// The folds of numbers up to each place of their lines, by a function whose folds have summaries, in the
 /// order of the lines.
-fn fill_lined<R: Threads + Sync, C: Cut + Sync, G: Gate + Sync>(
-    rt: &R,
-    alloc: Global,
-    pool: &Pool<C, G>,
+fn fill_lined<W: Crew>(
+    workers: &W,
     f: ScalarFunction,
     numbers: &[i64],
     items: usize,
@@ -62,16 +56,14 @@ fn fill_lined<R: Threads + Sync, C: Cut + Sync, G: Gate + Sync>(
     requires whole { length numbers.now / (items * inner) * (items * inner) ≡ length numbers.now }
     ensures { IfOk result (λ v. AreValues (λ place. scan_at (dyadic_numbers f) numbers.now items inner (place_exchanged inner items place)) (length numbers.now) v.items) }
 {
-    let lined = exchange(rt, alloc, pool, numbers, inner, items)?;
-    fill_by_summary(rt, alloc, pool, f, lined.as_slice(), items)
+    let lined = exchange(workers, numbers, inner, items)?;
+    fill_by_summary(workers, f, lined.as_slice(), items)
 }
 
 /// The folds of numbers up to each place of their lines, by a function whose folds have summaries. The place
 /// of a fault is one in the order of the lines.
-pub(crate) fn fill_by_lines<R: Threads + Sync, C: Cut + Sync, G: Gate + Sync>(
-    rt: &R,
-    alloc: Global,
-    pool: &Pool<C, G>,
+pub(crate) fn fill_by_lines<W: Crew>(
+    workers: &W,
     f: ScalarFunction,
     numbers: &[i64],
     items: usize,
@@ -85,6 +77,6 @@ pub(crate) fn fill_by_lines<R: Threads + Sync, C: Cut + Sync, G: Gate + Sync>(
     requires whole { length numbers.now / (items * inner) * (items * inner) ≡ length numbers.now }
     ensures { IfOk result (λ v. AreValues (scan_at (dyadic_numbers f) numbers.now items inner) (length numbers.now) v.items) }
 {
-    let folds = fill_lined(rt, alloc, pool, f, numbers, items, inner)?;
-    exchange(rt, alloc, pool, folds.as_slice(), items, inner)
+    let folds = fill_lined(workers, f, numbers, items, inner)?;
+    exchange(workers, folds.as_slice(), items, inner)
 }

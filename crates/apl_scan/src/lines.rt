@@ -9,13 +9,11 @@ use crate::lined::fill_by_lines;
 use crate::summarized::fill_by_summary;
 use apl_array::ScalarFunction;
 use apl_divisor::Divisor;
-use apl_pool::{Cut, Fault, Gate, Kernel, Pool, Stop};
+use apl_pool::{Crew, Fault, Kernel, Stop, fill};
 use apl_scalar::function_types::Function;
 use apl_scalar::with_type;
 use apl_summary::has_summary;
-use std::alloc::Global;
 use std::marker::PhantomData;
-use std::thread::Threads;
 
 /// The least count of numbers in a line for which it pays to bring lines in order.
 const LONG_LINE: usize = 32;
@@ -112,12 +110,7 @@ impl<F: Function> Kernel for PrefixFolds<'_, F> {
     }
 }
 
-fn fill_folds<F: Function + Sync, R: Threads + Sync, C: Cut + Sync, G: Gate + Sync>(
-    rt: &R,
-    alloc: Global,
-    pool: &Pool<C, G>,
-    lines: &AxisLines,
-) -> Result<Vec<i64>, Stop>
+fn fill_folds<F: Function + Sync, W: Crew>(workers: &W, lines: &AxisLines) -> Result<Vec<i64>, Stop>
     ensures values { IfOk result (λ v. AreValues (scan_at (dyadic_numbers F.FUNCTION) lines.now.numbers.now lines.now.items lines.now.inner) (length lines.now.numbers.now) v.items) }
     ensures stop { IfErr result (IsStopOf (scan_at (dyadic_numbers F.FUNCTION) lines.now.numbers.now lines.now.items lines.now.inner) (length lines.now.numbers.now)) }
 {
@@ -125,14 +118,12 @@ fn fill_folds<F: Function + Sync, R: Threads + Sync, C: Cut + Sync, G: Gate + Sy
         lines,
         function: PhantomData,
     };
-    pool.fill(rt, alloc, &kernel)
+    fill(workers, &kernel)
 }
 
 /// The folds of numbers along their lines up to each place.
-pub(crate) fn fill_scans<R: Threads + Sync, C: Cut + Sync, G: Gate + Sync>(
-    rt: &R,
-    alloc: Global,
-    pool: &Pool<C, G>,
+pub(crate) fn fill_scans<W: Crew>(
+    workers: &W,
     f: ScalarFunction,
     lines: &AxisLines,
 ) -> Result<Vec<i64>, Stop>
@@ -142,15 +133,15 @@ pub(crate) fn fill_scans<R: Threads + Sync, C: Cut + Sync, G: Gate + Sync>(
     let items = lines.items.number();
     let inner = lines.inner.number();
     if inner == 1 && has_summary(f) {
-        return fill_by_summary(rt, alloc, pool, f, lines.numbers, items);
+        return fill_by_summary(workers, f, lines.numbers, items);
     }
     if items >= LONG_LINE && has_summary(f) {
-        match fill_by_lines(rt, alloc, pool, f, lines.numbers, items, inner) {
+        match fill_by_lines(workers, f, lines.numbers, items, inner) {
             Ok(values) => return Ok(values),
             Err(Stop::Memory) => return Err(Stop::Memory),
             // Which of the faults is at the least place is found below.
             Err(Stop::Fault { .. }) => {}
         }
     }
-    with_type!(f, fill_folds::<F, R, C, G>(rt, alloc, pool, lines))
+    with_type!(f, fill_folds::<F, W>(workers, lines))
 }

@@ -15,15 +15,13 @@ use apl_array::{
     Array, Axis, ScalarFunction, Shape, places_match_index_lists, replaced_index_has_place,
     split_index_has_place,
 };
-use apl_pool::{Cut, Fault, Gate, Pool};
+use apl_pool::{Crew, Cut, Fault, Gate, Pool, Workers};
 use std::alloc::Global;
 use std::thread::Threads;
 
 /// The scan of numbers along axis `k`, of two and more items.
-fn scan_numbers<R: Threads + Sync, C: Cut + Sync, G: Gate + Sync>(
-    rt: &R,
-    alloc: Global,
-    pool: &Pool<C, G>,
+fn scan_numbers<W: Crew>(
+    workers: &W,
     f: ScalarFunction,
     b: &Array,
     numbers: &[i64],
@@ -37,16 +35,14 @@ fn scan_numbers<R: Threads + Sync, C: Cut + Sync, G: Gate + Sync>(
     places_match_index_lists();
     replaced_index_has_place();
     split_index_has_place();
-    let shape = b.shape().copy(alloc)?;
+    let shape = b.shape().copy(workers.alloc())?;
     let lines = AxisLines::new(numbers, b.shape().axis(k), b.shape().inner(k));
-    array_from_fill(shape, fill_scans(rt, alloc, pool, f, &lines))
+    array_from_fill(shape, fill_scans(workers, f, &lines))
 }
 
 /// The scan along axis `k`, of two and more items.
-fn scan_items<R: Threads + Sync, C: Cut + Sync, G: Gate + Sync>(
-    rt: &R,
-    alloc: Global,
-    pool: &Pool<C, G>,
+fn scan_items<W: Crew>(
+    workers: &W,
     f: ScalarFunction,
     b: &Array,
     k: usize,
@@ -55,11 +51,15 @@ fn scan_items<R: Threads + Sync, C: Cut + Sync, G: Gate + Sync>(
     ensures { IsAnswerOf (answer_of b.now.shape (λ index. scanned f b.now.kind (items_up_to b.now k index)) Number) result }
 {
     if b.shape().count() == 0 {
-        return constant_array(rt, alloc, pool, b.shape().copy(alloc)?, Ok(0));
+        return constant_array(workers, b.shape().copy(workers.alloc())?, Ok(0));
     }
     match b.numbers() {
-        Some(numbers) => scan_numbers(rt, alloc, pool, f, b, numbers, k),
-        None => constant_array(rt, alloc, pool, b.shape().copy(alloc)?, Err(Fault::Domain)),
+        Some(numbers) => scan_numbers(workers, f, b, numbers, k),
+        None => constant_array(
+            workers,
+            b.shape().copy(workers.alloc())?,
+            Err(Fault::Domain),
+        ),
     }
 }
 
@@ -78,13 +78,14 @@ pub fn scan<R: Threads + Sync, C: Cut + Sync, G: Gate + Sync>(
     requires { IsTrue (has_dyadic f) }
     ensures { Answers (scan_row f b.now axis) result }
 {
+    let workers = Workers { rt, alloc, pool };
     let rank = b.shape().rank();
     let Some(k) = axis.resolve(rank) else {
         return Err(OpFault::Index);
     };
     if rank == 0 || b.shape().axis(k) < 2 {
         places_match_index_lists();
-        return array_of_elements(rt, alloc, pool, b.shape().copy(alloc)?, b);
+        return array_of_elements(&workers, b.shape().copy(alloc)?, b);
     }
-    scan_items(rt, alloc, pool, f, b, k)
+    scan_items(&workers, f, b, k)
 }

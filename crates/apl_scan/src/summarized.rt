@@ -15,10 +15,9 @@ use crate::chunks::{CHUNK, Chunks, summarize};
 use crate::running::{fold_behind, with_next};
 use apl_array::ScalarFunction;
 use apl_divisor::Divisor;
-use apl_pool::{Cut, Fault, Gate, Kernel, Pool, RowSummaries, Stop, Summary};
+use apl_pool::{Crew, Fault, Kernel, RowSummaries, Stop, Summary, fill};
 use apl_summary::{Running, with_summary};
 use std::alloc::{AllocError, Global};
-use std::thread::Threads;
 
 /// Numbers in lines of neighbours, and the summaries of the beginnings of each line.
 #[derive(Drop)]
@@ -164,15 +163,8 @@ impl<S: Running + Copy + Drop> Kernel for Scans<'_, S> {
 
 /// The summaries of the beginnings of all lines, as many of each. If several workers made these, there are also copies of a number, one for
 /// each number.
-fn summarize_lines<
-    S: Summary<Item = i64> + Copy + Drop + Send,
-    R: Threads + Sync,
-    C: Cut + Sync,
-    G: Gate + Sync,
->(
-    rt: &R,
-    alloc: Global,
-    pool: &Pool<C, G>,
+fn summarize_lines<S: Summary<Item = i64> + Copy + Drop + Send, W: Crew>(
+    workers: &W,
     numbers: &[i64],
     items: usize,
     per_line: usize,
@@ -186,9 +178,9 @@ fn summarize_lines<
 {
     if per_line == 0 {
         return Ok(RowSummaries {
-            summaries: Vec::new(alloc),
+            summaries: Vec::new(workers.alloc()),
             end: Ok(()),
-            copies: Vec::new(alloc),
+            copies: Vec::new(workers.alloc()),
         });
     }
     let rows = numbers.len() / items * per_line;
@@ -198,7 +190,7 @@ fn summarize_lines<
         per_line: Divisor::new(per_line),
         rows,
     };
-    summarize(rt, alloc, pool, &chunks)
+    summarize(workers, &chunks)
 }
 
 /// The folds of numbers up to each, in one pass from the left, if the summaries put all of them.
@@ -215,15 +207,8 @@ fn put_line<S: Running>(alloc: Global, numbers: &[i64]) -> Result<Option<Vec<i64
 }
 
 /// The folds at all places, written into the room if it has as many.
-fn fill_scans<
-    S: Running + Copy + Drop + Send + Sync,
-    R: Threads + Sync,
-    C: Cut + Sync,
-    G: Gate + Sync,
->(
-    rt: &R,
-    alloc: Global,
-    pool: &Pool<C, G>,
+fn fill_scans<S: Running + Copy + Drop + Send + Sync, W: Crew>(
+    workers: &W,
     scans: &Scans<S>,
     room: Vec<i64>,
 ) -> Result<Vec<i64>, Stop>
@@ -231,33 +216,34 @@ fn fill_scans<
     ensures stop { IfErr result (IsStopOf (scan_at S.step scans.now.numbers.now scans.now.items 1) (length scans.now.numbers.now)) }
 {
     if room.len() == scans.numbers.len() {
-        pool.fill_into(rt, alloc, scans, room)
+        workers
+            .pool()
+            .fill_into(workers.rt(), workers.alloc(), scans, room)
     } else {
-        pool.fill(rt, alloc, scans)
+        fill(workers, scans)
     }
 }
 
 /// The folds of numbers up to each place of lines of neighbours, by one type of summaries.
-fn fill_summarized<
-    S: Running + Copy + Drop + Send + Sync,
-    R: Threads + Sync,
-    C: Cut + Sync,
-    G: Gate + Sync,
->(rt: &R, alloc: Global, pool: &Pool<C, G>, numbers: &[i64], items: usize) -> Result<Vec<i64>, Stop>
+fn fill_summarized<S: Running + Copy + Drop + Send + Sync, W: Crew>(
+    workers: &W,
+    numbers: &[i64],
+    items: usize,
+) -> Result<Vec<i64>, Stop>
     requires most { length numbers.now ≤ MOST_PLACES }
     requires items { (0 < items) × (items ≤ MOST_PLACES) }
     requires lines { length numbers.now / items * items ≡ length numbers.now }
     ensures values { IfOk result (λ v. AreValues (scan_at S.step numbers.now items 1) (length numbers.now) v.items) }
     ensures stop { IfErr result (IsStopOf (scan_at S.step numbers.now items 1) (length numbers.now)) }
 {
-    if items == numbers.len() && !pool.is_shared(items) {
-        if let Some(values) = put_line::<S>(alloc, numbers)? {
+    if items == numbers.len() && !workers.pool().is_shared(items) {
+        if let Some(values) = put_line::<S>(workers.alloc(), numbers)? {
             return Ok(values);
         }
     }
     let per_line = (items - 1) / CHUNK;
     let before: RowSummaries<BoundedSummary<S>> = summarize_lines(
-        rt, alloc, pool, numbers, items, per_line,
+        workers, numbers, items, per_line,
     )?;
     let beginnings = before.summaries;
     let room = before.copies;
@@ -267,14 +253,12 @@ fn fill_summarized<
         per_line,
         beginnings: beginnings.as_slice(),
     };
-    fill_scans(rt, alloc, pool, &scans, room)
+    fill_scans(workers, &scans, room)
 }
 
 /// The folds of numbers up to each place of lines of neighbours, by a function whose folds have summaries.
-pub(crate) fn fill_by_summary<R: Threads + Sync, C: Cut + Sync, G: Gate + Sync>(
-    rt: &R,
-    alloc: Global,
-    pool: &Pool<C, G>,
+pub(crate) fn fill_by_summary<W: Crew>(
+    workers: &W,
     f: ScalarFunction,
     numbers: &[i64],
     items: usize,
@@ -288,7 +272,7 @@ pub(crate) fn fill_by_summary<R: Threads + Sync, C: Cut + Sync, G: Gate + Sync>(
 {
     with_summary!(
         f,
-        fill_summarized::<S, R, C, G>(rt, alloc, pool, numbers, items),
+        fill_summarized::<S, W>(workers, numbers, items),
         unreachable!()
     )
 }

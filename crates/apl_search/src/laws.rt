@@ -9,8 +9,8 @@ ghost use Rattle.apl_search.specs.Ordering.{upwards, downwards, IsGrade, grade_o
 
 use apl_answer::answer_is_within_limits;
 
-/// A list of numbers has one grade upwards and one downwards: the one list of all places, each once,
-/// in which each comes before the next by value, and where values are equal by place.
+/// A list of numbers has one grade upwards and one downwards. It is the one list of all places, each once,
+/// in which each comes before the next by value, and equal ones by place.
 pub fn one_grade()
     ensures up { (values : List ℤ) (grade : List ℕ) → IsGrade upwards values grade ↔ (grade ≡ grade_of upwards values) }
     ensures down { (values : List ℤ) (grade : List ℕ) → IsGrade downwards values grade ↔ (grade ≡ grade_of downwards values) }

@@ -10,10 +10,9 @@ ghost use Rattle.apl_search.specs.Finding.{found_outcome, member_outcome};
 ghost use Rattle.apl_search.specs.Searching.{index_of_row, member_row};
 
 use crate::finding::{Searchable, Sorted};
-use crate::workers::Workers;
 use apl_answer::{OpFault, constant_array, fill_array};
 use apl_array::{Array, Origin, places_match_index_lists};
-use apl_pool::{Cut, Fault, Gate, Kernel, Pool};
+use apl_pool::{Crew, Cut, Fault, Gate, Kernel, Pool, Workers};
 use std::alloc::Global;
 use std::thread::Threads;
 
@@ -77,57 +76,55 @@ impl<T: Searchable> Kernel for Members<'_, T> {
     }
 }
 
-impl<R: Threads + Sync, C: Cut + Sync, G: Gate + Sync> Workers<'_, R, C, G> {
-    /// The first place in a list of each of an array's elements, counted from the origin.
-    fn first_places<T: Searchable + Sync>(
-        &self,
-        list: &[T],
-        b: &Array,
-        elements: &[T],
-        origin: Origin,
-    ) -> Result<Array, OpFault>
-        requires most { length list.now ≤ MOST_PLACES }
-        requires ravel { b.now.ravel ≡ map T.elem_of elements.now }
-        ensures { IsAnswerOf (answer_of b.now.shape (found_outcome (map T.elem_of list.now) b.now origin) Number) result }
-    {
-        places_match_index_lists();
-        let list = Sorted::new(self.alloc, list)?;
-        let first = origin.number() as usize;
-        let shape = b.shape().copy(self.alloc)?;
-        let kernel = FirstPlaces {
-            elements,
-            list,
-            first,
-        };
-        fill_array(self.rt, self.alloc, self.pool, shape, &kernel)
-    }
+/// The first place in a list of each of an array's elements, counted from the origin.
+fn first_places<T: Searchable + Sync, W: Crew>(
+    workers: &W,
+    list: &[T],
+    b: &Array,
+    elements: &[T],
+    origin: Origin,
+) -> Result<Array, OpFault>
+    requires most { length list.now ≤ MOST_PLACES }
+    requires ravel { b.now.ravel ≡ map T.elem_of elements.now }
+    ensures { IsAnswerOf (answer_of b.now.shape (found_outcome (map T.elem_of list.now) b.now origin) Number) result }
+{
+    places_match_index_lists();
+    let list = Sorted::new(workers.alloc(), list)?;
+    let first = origin.number() as usize;
+    let shape = b.shape().copy(workers.alloc())?;
+    let kernel = FirstPlaces {
+        elements,
+        list,
+        first,
+    };
+    fill_array(workers, shape, &kernel)
+}
 
-    /// 1 for each of an array's elements that is in a list, else 0.
-    fn members<T: Searchable + Sync>(
-        &self,
-        a: &Array,
-        elements: &[T],
-        list: &[T],
-    ) -> Result<Array, OpFault>
-        requires most { length list.now ≤ MOST_PLACES }
-        requires ravel { a.now.ravel ≡ map T.elem_of elements.now }
-        ensures { IsAnswerOf (answer_of a.now.shape (member_outcome a.now (map T.elem_of list.now)) Number) result }
-    {
-        places_match_index_lists();
-        let list = Sorted::new(self.alloc, list)?;
-        let shape = a.shape().copy(self.alloc)?;
-        let kernel = Members { elements, list };
-        fill_array(self.rt, self.alloc, self.pool, shape, &kernel)
-    }
+/// 1 for each of an array's elements that is in a list, else 0.
+fn membership<T: Searchable + Sync, W: Crew>(
+    workers: &W,
+    a: &Array,
+    elements: &[T],
+    list: &[T],
+) -> Result<Array, OpFault>
+    requires most { length list.now ≤ MOST_PLACES }
+    requires ravel { a.now.ravel ≡ map T.elem_of elements.now }
+    ensures { IsAnswerOf (answer_of a.now.shape (member_outcome a.now (map T.elem_of list.now)) Number) result }
+{
+    places_match_index_lists();
+    let list = Sorted::new(workers.alloc(), list)?;
+    let shape = a.shape().copy(workers.alloc())?;
+    let kernel = Members { elements, list };
+    fill_array(workers, shape, &kernel)
+}
 
-    /// One number at all places of an array's shape.
-    fn same_everywhere(&self, b: &Array, number: usize) -> Result<Array, OpFault>
-        requires fits { number ≤ MOST_PLACES + 1 }
-        ensures { IsAnswerAt b.now.shape Number (λ place. Ok (Int (pos number))) result }
-    {
-        let shape = b.shape().copy(self.alloc)?;
-        constant_array(self.rt, self.alloc, self.pool, shape, Ok(number as i64))
-    }
+/// One number at all places of an array's shape.
+fn same_everywhere<W: Crew>(workers: &W, b: &Array, number: usize) -> Result<Array, OpFault>
+    requires fits { number ≤ MOST_PLACES + 1 }
+    ensures { IsAnswerAt b.now.shape Number (λ place. Ok (Int (pos number))) result }
+{
+    let shape = b.shape().copy(workers.alloc())?;
+    constant_array(workers, shape, Ok(number as i64))
 }
 
 /// `A⍳B`, index of: for each element of `B` the index of the first one in `A` that is equal, or one past the last index.
@@ -151,17 +148,17 @@ pub fn index_of<R: Threads + Sync, C: Cut + Sync, G: Gate + Sync>(
     let past = origin.number() as usize + a.shape().count();
     if let Some(list) = a.numbers() {
         let Some(elements) = b.numbers() else {
-            return workers.same_everywhere(b, past);
+            return same_everywhere(&workers, b, past);
         };
-        return workers.first_places(list, b, elements, origin);
+        return first_places(&workers, list, b, elements, origin);
     }
     let Some(list) = a.characters() else {
         unreachable!()
     };
     let Some(elements) = b.characters() else {
-        return workers.same_everywhere(b, past);
+        return same_everywhere(&workers, b, past);
     };
-    workers.first_places(list, b, elements, origin)
+    first_places(&workers, list, b, elements, origin)
 }
 
 /// `A∊B`, membership: 1 for each element of `A` that is in `B`, else 0.
@@ -180,15 +177,15 @@ pub fn member<R: Threads + Sync, C: Cut + Sync, G: Gate + Sync>(
     places_match_index_lists();
     if let Some(list) = b.numbers() {
         let Some(elements) = a.numbers() else {
-            return workers.same_everywhere(a, 0);
+            return same_everywhere(&workers, a, 0);
         };
-        return workers.members(a, elements, list);
+        return membership(&workers, a, elements, list);
     }
     let Some(list) = b.characters() else {
         unreachable!()
     };
     let Some(elements) = a.characters() else {
-        return workers.same_everywhere(a, 0);
+        return same_everywhere(&workers, a, 0);
     };
-    workers.members(a, elements, list)
+    membership(&workers, a, elements, list)
 }

@@ -10,8 +10,7 @@ pub record Answer (W : Type 0) : Type 0 where
   pub after : W
   pub ends : Bool
 
--- What an interpreter means: the answers of a line without its carriage return in a state, and the lines that may be refused since
--- memory ran out.
+-- What an interpreter means: the answers of a line without its carriage return in a state, and the lines that may lack memory.
 pub record Semantics (W : Type 0) : Type 1 where
   pub IsStep : W → List ℕ → Answer W → Type 0
   pub IsRefusable : List ℕ → Type 0

@@ -34,7 +34,7 @@ IsPrintedAnswer value workspace answer =
 abbrev pub reply_answer : Reply → WorkspaceValue → Answer WorkspaceValue
 reply_answer reply workspace = text_answer (reply_text reply) workspace
 
--- A command's answer. A setting is changed, and the reply has it as it was; or the workspace is made as it was at first; or the run ends.
+-- A command's answer. A setting is changed, and the reply has it as it was. Or the workspace is made as it was at first, or the run ends.
 abbrev pub command_answer : Command → WorkspaceValue → Answer WorkspaceValue
 command_answer (Origin origin) workspace = reply_answer (reply.Was (origin_number workspace.origin)) (with_origin origin workspace)
 command_answer (Width width) workspace = reply_answer (reply.Was workspace.width) (with_width width workspace)

@@ -11,7 +11,7 @@ use crate::interpreter::{Interpreter, Next, RunFault};
 use crate::runs::{BLOCK, answer_block};
 use crate::sources::Source;
 use apl_eval::lawful_stays;
-use apl_pool::{Cut, Gate, Pool};
+use apl_pool::{Cut, Gate, Pool, Workers};
 use apl_print::{Sink, shown_always, shown_once};
 use apl_syntax::{one_reading, some_reading};
 use apl_tokens::constants_are_within_limits;
@@ -50,7 +50,8 @@ pub fn run<R: Threads + Sync, C: Cut + Sync, G: Gate + Sync, I: Source, S: Sink>
     ensures sink_failed { result ≡ Err RunFault.Write → S.failures sink.new ≡ one_more (S.failures sink.old) }
     ensures sink_sound { result ≢ Err RunFault.Write → S.failures sink.new ≡ S.failures sink.old }
 {
-    let mut interpreter = Interpreter::new(rt, alloc, pool);
+    let workers = Workers { rt, alloc, pool };
+    let mut interpreter = Interpreter::new(&workers);
     let mut room = [0; BLOCK];
     let mut held = Vec::new(alloc);
     'takes: loop {

@@ -7,11 +7,9 @@ ghost use Rattle.apl_session.specs.LineAnswer.{IsLineAnswered};
 ghost use Rattle.apl_session.specs.Step.{session_semantics};
 
 use crate::sessions::Session;
-use apl_pool::{Cut, Gate, Pool};
+use apl_pool::Crew;
 use apl_print::Sink;
-use std::alloc::Global;
 use std::marker::Model;
-use std::thread::Threads;
 use thiserror::Error;
 
 /// Whether a run goes on after a line.
@@ -32,16 +30,14 @@ pub enum RunFault {
     Memory,
 }
 
-/// A session, with the threads, the allocator and the pool that its lines are answered with.
+/// A session, and who works on its lines.
 #[derive(Drop)]
-pub(crate) struct Interpreter<'a, R: Threads + Sync, C: Cut + Sync, G: Gate + Sync> {
-    rt: &'a R,
-    alloc: Global,
-    pool: &'a Pool<C, G>,
+pub(crate) struct Interpreter<'a, W: Crew> {
+    workers: &'a W,
     session: Session,
 }
 
-impl<'a, R: Threads + Sync, C: Cut + Sync, G: Gate + Sync> Model for Interpreter<'a, R, C, G> {
+impl<'a, W: Crew> Model for Interpreter<'a, W> {
     ghost use Rattle.apl_eval.specs.contracts.workspace.Workspace as stored;
     ghost use Rattle.apl_eval.specs.Workspace.{WorkspaceValue};
 
@@ -52,26 +48,25 @@ impl<'a, R: Threads + Sync, C: Cut + Sync, G: Gate + Sync> Model for Interpreter
     ghost view = { λ i. i.session };
 }
 
-impl<'a, R: Threads + Sync, C: Cut + Sync, G: Gate + Sync> Interpreter<'a, R, C, G> {
+impl<'a, W: Crew> Interpreter<'a, W> {
     /// A new session.
-    pub(crate) fn new(rt: &'a R, alloc: Global, pool: &'a Pool<C, G>) -> Interpreter<'a, R, C, G>
+    pub(crate) fn new(workers: &'a W) -> Interpreter<'a, W>
         ensures { result ≡ opening_workspace }
     {
         Interpreter {
-            rt,
-            alloc,
-            pool,
-            session: Session::new(alloc),
+            workers,
+            session: Session::new(workers.alloc()),
         }
     }
 
     /// Answers a line. If the write fails, the session is as after the line, and a beginning of the answer's text was written.
     pub(crate) fn answer<S: Sink>(&mut self, line: &[u8], sink: &mut S) -> Result<Next, RunFault>
-        requires { IsUnbroken line.now }
+        requires unbroken { IsUnbroken line.now }
         ensures answered { IsLineAnswered session_semantics self.old self.new line.now (S.taken sink.old) (S.taken sink.new) result }
         ensures failures { CountsFailure (S.failures sink.old) (S.failures sink.new) result }
     {
+        let workers = self.workers;
         self.session
-            .line(self.rt, self.alloc, self.pool, line, sink)
+            .line(workers.rt(), workers.alloc(), workers.pool(), line, sink)
     }
 }

@@ -8,16 +8,15 @@ ghost use Rattle.apl_session.specs.Progress.{IsBlockAnswered};
 
 use crate::interpreter::{Interpreter, Next, RunFault};
 use crate::lines::split_line;
-use apl_pool::{Cut, Gate};
+use apl_pool::Crew;
 use apl_print::Sink;
-use std::thread::Threads;
 
 /// The most bytes that one take of the source gives.
 pub const BLOCK: usize = 65536;
 
 /// Answers the line that begins with what is held, and then holds nothing.
-fn answer_line<R: Threads + Sync, C: Cut + Sync, G: Gate + Sync, S: Sink>(
-    interpreter: &mut Interpreter<'_, R, C, G>,
+fn answer_line<W: Crew, S: Sink>(
+    interpreter: &mut Interpreter<'_, W>,
     held: &mut Vec<u8>,
     end: &[u8],
     sink: &mut S,
@@ -41,8 +40,8 @@ fn answer_line<R: Threads + Sync, C: Cut + Sync, G: Gate + Sync, S: Sink>(
 }
 
 /// Answers the lines that a block of the text completes, and holds what is left of it.
-pub(crate) fn answer_block<R: Threads + Sync, C: Cut + Sync, G: Gate + Sync, S: Sink>(
-    interpreter: &mut Interpreter<'_, R, C, G>,
+pub(crate) fn answer_block<W: Crew, S: Sink>(
+    interpreter: &mut Interpreter<'_, W>,
     held: &mut Vec<u8>,
     block: &[u8],
     sink: &mut S,

@@ -16,7 +16,7 @@ use crate::lines::trim_return;
 use apl_array::Origin;
 use apl_eval::{EvalStop, Shown, Workspace, eval};
 use apl_grammar::Program;
-use apl_pool::{Cut, Gate, Pool};
+use apl_pool::{Crew, Cut, Gate, Pool, Workers};
 use apl_print::{
     Reply, Report, Sink, SinkFault, put_all, reply as put_reply, report as put_report,
 };
@@ -66,35 +66,25 @@ impl Session {
         ensures answered { IsLineAnswered session_semantics self.old self.new line.now (S.taken sink.old) (S.taken sink.new) result }
         ensures failures { CountsFailure (S.failures sink.old) (S.failures sink.new) result }
     {
-        answer(
-            &mut self.workspace,
-            rt,
-            alloc,
-            pool,
-            trim_return(line),
-            sink,
-        )
+        let workers = Workers { rt, alloc, pool };
+        answer(&mut self.workspace, &workers, trim_return(line), sink)
     }
 }
 
 /// Answers a line without its carriage return.
-fn answer<R: Threads + Sync, C: Cut + Sync, G: Gate + Sync, S: Sink>(
+fn answer<W: Crew, S: Sink>(
     workspace: &mut Workspace,
-    rt: &R,
-    alloc: Global,
-    pool: &Pool<C, G>,
+    workers: &W,
     line: &[u8],
     sink: &mut S,
 ) -> Result<Next, RunFault>
     ensures answered { IsLineOutcome IsLineStep workspace.old workspace.new line.now (S.taken sink.old) (S.taken sink.new) result }
     ensures failures { CountsFailure (S.failures sink.old) (S.failures sink.new) result }
 {
-    match read(alloc, line) {
+    match read(workers.alloc(), line) {
         Ok(Line::Blank) => Ok(Next::Go),
         Ok(Line::Command(command)) => answer_command(workspace, command, line, sink),
-        Ok(Line::Statement(program)) => answer_statement(
-            workspace, rt, alloc, pool, &program, line, sink,
-        ),
+        Ok(Line::Statement(program)) => answer_statement(workspace, workers, &program, line, sink),
         Err(ReadStop::Character { bytes, column }) => {
             go_on(put_report(sink, Report::Character, &line[..bytes], Some(column)))
         }
@@ -156,11 +146,9 @@ fn origin_reply(origin: Origin) -> Reply
 }
 
 /// Answers a line that is this statement.
-fn answer_statement<R: Threads + Sync, C: Cut + Sync, G: Gate + Sync, S: Sink>(
+fn answer_statement<W: Crew, S: Sink>(
     workspace: &mut Workspace,
-    rt: &R,
-    alloc: Global,
-    pool: &Pool<C, G>,
+    workers: &W,
     program: &Program,
     line: &[u8],
     sink: &mut S,
@@ -169,6 +157,7 @@ fn answer_statement<R: Threads + Sync, C: Cut + Sync, G: Gate + Sync, S: Sink>(
     ensures answered { IsLineOutcome IsLineStep workspace.old workspace.new line.now (S.taken sink.old) (S.taken sink.new) result }
     ensures failures { CountsFailure (S.failures sink.old) (S.failures sink.new) result }
 {
+    let (rt, alloc, pool) = (workers.rt(), workers.alloc(), workers.pool());
     match eval(workspace, rt, alloc, pool, program) {
         Ok(Shown::Silent) => Ok(Next::Go),
         Ok(Shown::Text(text)) => go_on(put_all(sink, text.as_bytes())),

@@ -9,7 +9,7 @@ use Rattle.apl_walk.specs.Seams.{joined_value}
 use Rattle.apl_struct.specs.declared.slices.Joint.{Joint}
 use Rattle.apl_struct.specs.Joining.{joined_kind}
 
--- the element at a place where each line has the next `left` of A and then the next `right` of B; past its last one an argument has its first
+-- The element at a place where each line has the next `left` of A and then the next `right` of B. Past its last one an argument has its first.
 abbrev pub joined_at : (a b : ArrayValue) (left right place : ℕ) → Elem
 joined_at a b left right place =
     let fill = fill_of (joined_kind a b) in

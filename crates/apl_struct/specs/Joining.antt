@@ -18,8 +18,8 @@ joined_rank a b = max 1 (max (rank_of a) (rank_of b))
 abbrev pub can_join : ArrayValue → ArrayValue → Bool
 can_join a b = is_scalar a || (is_scalar b || (nat_le (rank_of a) (rank_of b + 1) && nat_le (rank_of b) (rank_of a + 1)))
 
--- what an argument is taken for along axis k of this many axes: itself; one slice, where its rank is lower by one; and where it is a scalar
--- one slice of the other's lengths
+-- What an argument is taken for along axis k of this many axes: itself, or one slice if its rank is lower by one. A scalar is taken for
+-- one slice of the other's lengths.
 abbrev pub slices_shape : (rank k : ℕ) (own other : ArrayValue) → List ℕ
 slices_shape rank k own other =
     if rank_of own == rank then own.shape

@@ -13,7 +13,7 @@ use Rattle.apl_answer.specs.Rows.{Check, first_failure_or}
 abbrev pub with_shape : List ℕ → ArrayValue → ArrayValue
 with_shape shape a = record { shape = shape; kind = a.kind; ravel = a.ravel }
 
--- how many elements are left of an axis of n without m, as what is taken of it: a drop of first ones leaves last ones
+-- How many elements are left of an axis of n without m, as what is taken of it. A drop of first ones leaves last ones.
 abbrev pub left_number : ℤ → ℕ → ℤ
 left_number (pos m) n = neg_ℤ (pos (n - m))
 left_number (negsuc m) n = pos (n - suc m)

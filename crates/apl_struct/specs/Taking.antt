@@ -17,7 +17,7 @@ abbrev pub taking_checks : ArrayValue → ArrayValue → List ℕ → List Check
 taking_checks a b shape =
     (is_list a, Rank) ∷ (size_of a == rank_of b, Length) ∷ (nat_le (rank_of b) most_axes, Limit) ∷ (is_numbers a, Domain) ∷ (is_shape shape, Limit) ∷ []
 
--- the index on an axis of length n for index i of the result: that of the first elements, or of the last for a negative number
+-- The index on an axis of length n for index i of the result. It is that of the first elements, or of the last for a negative number.
 abbrev pub taken_index : (number : ℤ) (n i : ℕ) → Option ℕ
 taken_index (pos m) n i = if nat_lt i n then Some i else None
 taken_index (negsuc m) n i = if nat_le (suc m) (i + n) then Some (i + n - suc m) else None

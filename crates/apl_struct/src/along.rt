@@ -7,15 +7,13 @@ ghost use Rattle.apl_walk.specs.declared.map.TheConstants.{MOST_STEP};
 ghost use Rattle.apl_walk.specs.Maps.{extent_of, map_extent, map_step};
 ghost use Rattle.apl_walk.specs.Walks.{maps_of};
 
-use crate::workers::Workers;
 use apl_answer::OpFault;
 use apl_array::{
     Array, Shape, changed_axis_has_place, places_match_index_lists, replaced_index_has_place,
 };
-use apl_pool::{Cut, Gate};
-use apl_walk::{AxisMap, MOST_STEP, Map, Walk, Window};
+use apl_pool::Crew;
+use apl_walk::{AxisMap, MOST_STEP, Map, Walk, Window, gather};
 use std::alloc::{AllocError, Global};
-use std::thread::Threads;
 
 /// By what places along an axis are taken apart.
 #[derive(Clone, Copy)]
@@ -51,8 +49,8 @@ pub(crate) fn steps_along(argument: &Shape, shape: &Shape, k: usize) -> Steps
     }
 }
 
-/// The walk along an axis whose neighbours are `inner` apart: there the argument has `block` places for each of `outer` index lists of
-/// the axes to the left.
+/// The walk along an axis whose neighbours are `inner` apart. The argument has `block` places for each of `outer` index lists of the
+/// axes to the left.
 fn walk_along<'a>(
     alloc: Global,
     outer: usize,
@@ -73,33 +71,31 @@ fn walk_along<'a>(
     walk.with(Map::Window(Window::whole(outer, block)))
 }
 
-impl<R: Threads + Sync, C: Cut + Sync, G: Gate + Sync> Workers<'_, R, C, G> {
-    /// The array of this shape, which has elements and is the argument's but for axis `k`. Along it are the elements at the
-    /// indexes that a map takes.
-    pub(crate) fn gather_mapped(
-        &self,
-        shape: Shape,
-        b: &Array,
-        k: usize,
-        map: Map,
-    ) -> Result<Array, OpFault>
-        requires axis { k < length b.now.shape }
-        requires shape { shape ≡ slice_set b.now.shape k (map_extent map) }
-        requires some { 0 < count_of shape }
-        ensures { IsArrayAlong shape b.now.kind b.now k (count_of (drop (k + 1) b.now.shape)) (map_extent map.entry) (map_step map.entry) result }
-    {
-        places_match_index_lists();
-        changed_axis_has_place();
-        replaced_index_has_place();
-        // An array that was asked something is known to be lawful.
-        let _kind = b.kind();
-        let Steps {
-            length,
-            inner,
-            block,
-        } = steps_along(b.shape(), &shape, k);
-        let outer = shape.count() / (length * inner);
-        let walk = walk_along(self.alloc, outer, block, map, inner)?;
-        self.gather_walk(shape, b, walk)
-    }
+/// The array of this shape, which has elements and is the argument's but for axis `k`. Along it are the elements at the
+/// indexes that a map takes.
+pub(crate) fn gather_mapped<W: Crew>(
+    workers: &W,
+    shape: Shape,
+    b: &Array,
+    k: usize,
+    map: Map,
+) -> Result<Array, OpFault>
+    requires axis { k < length b.now.shape }
+    requires shape { shape ≡ slice_set b.now.shape k (map_extent map) }
+    requires some { 0 < count_of shape }
+    ensures { IsArrayAlong shape b.now.kind b.now k (count_of (drop (k + 1) b.now.shape)) (map_extent map.entry) (map_step map.entry) result }
+{
+    places_match_index_lists();
+    changed_axis_has_place();
+    replaced_index_has_place();
+    // An array that was asked something is known to be lawful.
+    let _kind = b.kind();
+    let Steps {
+        length,
+        inner,
+        block,
+    } = steps_along(b.shape(), &shape, k);
+    let outer = shape.count() / (length * inner);
+    let walk = walk_along(workers.alloc(), outer, block, map, inner)?;
+    gather(workers, shape, b, walk)
 }

@@ -12,10 +12,9 @@ ghost use Rattle.apl_walk.specs.Gathered.{filled_at};
 ghost use Rattle.apl_struct.specs.Building.{shape_of_row, ravel_row, reshape_source, reshape_row, iota_row};
 
 use crate::arguments::numbers_among;
-use crate::workers::Workers;
 use apl_answer::{ElementType, OpFault, fill_array};
 use apl_array::{Array, MOST_AXES, MOST_ELEMENTS, Origin, Shape, places_match_index_lists};
-use apl_pool::{Cut, Fault, Gate, Kernel, Pool};
+use apl_pool::{Crew, Cut, Fault, Gate, Kernel, Pool, Workers};
 use apl_walk::{ByLines, Cyclic};
 use smallvec::SmallVec;
 use std::alloc::Global;
@@ -68,8 +67,9 @@ pub fn shape_of<R: Threads + Sync, C: Cut + Sync, G: Gate + Sync>(
 ) -> Result<Array, OpFault>
     ensures { Answers (shape_of_row b.now) result }
 {
+    let workers = Workers { rt, alloc, pool };
     let shape = vector_shape(alloc, b.shape().rank());
-    fill_array(rt, alloc, pool, shape, &Lengths { shape: b.shape() })
+    fill_array(&workers, shape, &Lengths { shape: b.shape() })
 }
 
 /// `,B`, ravel: the elements of `B` in row order.
@@ -85,38 +85,36 @@ pub fn ravel<R: Threads + Sync, C: Cut + Sync, G: Gate + Sync>(
 {
     let workers = Workers { rt, alloc, pool };
     let count = b.shape().count();
-    workers.repeat(vector_shape(alloc, count), b)
+    repeat(&workers, vector_shape(alloc, count), b)
 }
 
-impl<R: Threads + Sync, C: Cut + Sync, G: Gate + Sync> Workers<'_, R, C, G> {
-    fn repeat_elements<T: ElementType + Send + Sync>(
-        &self,
-        shape: Shape,
-        b: &Array,
-        elements: &[T],
-    ) -> Result<Array, OpFault>
-        requires kind { b.now.kind ≡ T.kind }
-        requires ravel { b.now.ravel ≡ map T.elem_of elements.now }
-        ensures { IsArrayAt shape b.now.kind (λ place. filled_at b.now (Some (reshape_source (size_of b.now) place))) result }
-    {
-        // An array that was asked something is known to be lawful.
-        let _size = b.shape().count();
-        let kernel = ByLines::new(Cyclic::new(elements, T::fill(), shape.count()));
-        fill_array(self.rt, self.alloc, self.pool, shape, &kernel)
-    }
+fn repeat_elements<T: ElementType + Send + Sync, W: Crew>(
+    workers: &W,
+    shape: Shape,
+    b: &Array,
+    elements: &[T],
+) -> Result<Array, OpFault>
+    requires kind { b.now.kind ≡ T.kind }
+    requires ravel { b.now.ravel ≡ map T.elem_of elements.now }
+    ensures { IsArrayAt shape b.now.kind (λ place. filled_at b.now (Some (reshape_source (size_of b.now) place))) result }
+{
+    // An array that was asked something is known to be lawful.
+    let _size = b.shape().count();
+    let kernel = ByLines::new(Cyclic::new(elements, T::fill(), shape.count()));
+    fill_array(workers, shape, &kernel)
+}
 
-    /// The array of this shape with the elements of an argument in row order, again and again, and fills where it has none.
-    pub(crate) fn repeat(&self, shape: Shape, b: &Array) -> Result<Array, OpFault>
-        ensures { IsArrayAt shape b.now.kind (λ place. filled_at b.now (Some (reshape_source (size_of b.now) place))) result }
-    {
-        match b.numbers() {
-            Some(numbers) => self.repeat_elements(shape, b, numbers),
-            None => {
-                let Some(characters) = b.characters() else {
-                    unreachable!()
-                };
-                self.repeat_elements(shape, b, characters)
-            }
+/// The array of this shape with the elements of an argument in row order, again and again, and fills where it has none.
+pub(crate) fn repeat<W: Crew>(workers: &W, shape: Shape, b: &Array) -> Result<Array, OpFault>
+    ensures { IsArrayAt shape b.now.kind (λ place. filled_at b.now (Some (reshape_source (size_of b.now) place))) result }
+{
+    match b.numbers() {
+        Some(numbers) => repeat_elements(workers, shape, b, numbers),
+        None => {
+            let Some(characters) = b.characters() else {
+                unreachable!()
+            };
+            repeat_elements(workers, shape, b, characters)
         }
     }
 }
@@ -182,7 +180,7 @@ pub fn reshape<R: Threads + Sync, C: Cut + Sync, G: Gate + Sync>(
         return Err(OpFault::Length);
     }
     places_match_index_lists();
-    workers.repeat(shape, b)
+    repeat(&workers, shape, b)
 }
 
 /// Numbers one after the other.
@@ -225,6 +223,7 @@ pub fn iota<R: Threads + Sync, C: Cut + Sync, G: Gate + Sync>(
 ) -> Result<Array, OpFault>
     ensures { Answers (iota_row n.now origin) result }
 {
+    let workers = Workers { rt, alloc, pool };
     if n.shape().rank() > 1 {
         return Err(OpFault::Rank);
     }
@@ -238,5 +237,5 @@ pub fn iota<R: Threads + Sync, C: Cut + Sync, G: Gate + Sync>(
     let shape = shape_with(alloc, numbers)?;
     let count = shape.count();
     let first = origin.number() as usize;
-    fill_array(rt, alloc, pool, shape, &Consecutive { count, first })
+    fill_array(&workers, shape, &Consecutive { count, first })
 }

@@ -11,12 +11,14 @@ ghost use Rattle.apl_struct.specs.Compressing.{as_vector, repeated_indexes, repl
 ghost use Rattle.apl_struct.specs.Replicating.{replicated};
 
 use crate::arguments::numbers_among;
+use crate::plain::empty;
 use crate::repeating::{capped_product, capped_sum, kept_indexes, listed_indexes};
-use crate::scalars::{shape_with_axis, vector_length, vector_rank, vector_stride};
-use crate::workers::Workers;
+use crate::scalars::{
+    gather_listed, gather_vector, shape_with_axis, vector_length, vector_rank, vector_stride,
+};
 use apl_answer::OpFault;
 use apl_array::{Array, Axis, Shape};
-use apl_pool::{Cut, Gate, Pool};
+use apl_pool::{Crew, Cut, Gate, Pool, Workers};
 use apl_walk::{Map, Repeated};
 use std::alloc::Global;
 use std::thread::Threads;
@@ -28,91 +30,94 @@ fn serves(count: usize, length: usize) -> bool
     count == 1 || count == length
 }
 
-impl<R: Threads + Sync, C: Cut + Sync, G: Gate + Sync> Workers<'_, R, C, G> {
-    /// The repeated indexes of axis `k`, which are listed.
-    fn gather_repeated(
-        &self,
-        shape: Shape,
-        b: &Array,
-        k: usize,
-        counts: &[i64],
-        indexes: &[u32],
-    ) -> Result<Array, OpFault>
-        requires axis { k < max 1 (rank_of b.now) }
-        requires length { length counts.now ≡ slice_index (as_vector (length counts.now) b.now).shape k }
-        requires indexes { indexes.now ≡ repeated_indexes (map place_number counts.now) }
-        requires shape { (n : ℕ) → shape ≡ slice_set (as_vector n b.now).shape k (length indexes.now) }
-        requires lawful { is_shape shape ≡ true }
-        ensures { IsAnswerOf (replicated (as_vector (length counts.now) b.now) k (map place_number counts.now)) result }
-    {
-        self.gather_listed(shape, b, k, indexes, counts.len())
-    }
+/// The repeated indexes of axis `k`, which are listed.
+fn gather_repeated<W: Crew>(
+    workers: &W,
+    shape: Shape,
+    b: &Array,
+    k: usize,
+    counts: &[i64],
+    indexes: &[u32],
+) -> Result<Array, OpFault>
+    requires axis { k < max 1 (rank_of b.now) }
+    requires length { length counts.now ≡ slice_index (as_vector (length counts.now) b.now).shape k }
+    requires indexes { indexes.now ≡ repeated_indexes (map place_number counts.now) }
+    requires shape { (n : ℕ) → shape ≡ slice_set (as_vector n b.now).shape k (length indexes.now) }
+    requires lawful { is_shape shape ≡ true }
+    ensures { IsAnswerOf (replicated (as_vector (length counts.now) b.now) k (map place_number counts.now)) result }
+{
+    gather_listed(workers, shape, b, k, indexes, counts.len())
+}
 
-    /// The kept indexes of axis `k`, which are listed.
-    fn compress_each(
-        &self,
-        b: &Array,
-        k: usize,
-        bits: &[i64],
-        indexes: &[u32],
-    ) -> Result<Array, OpFault>
-        requires axis { k < max 1 (rank_of b.now) }
-        requires length { length bits.now ≡ slice_index (as_vector (length bits.now) b.now).shape k }
-        requires indexes { indexes.now ≡ repeated_indexes (map place_number bits.now) }
-        ensures { IsAnswerOf (replicated (as_vector (length bits.now) b.now) k (map place_number bits.now)) result }
-    {
-        let shape = shape_with_axis(self.alloc, b, k, indexes.len())?;
-        self.gather_repeated(shape, b, k, bits, indexes)
-    }
+/// The kept indexes of axis `k`, which are listed.
+fn compress_each<W: Crew>(
+    workers: &W,
+    b: &Array,
+    k: usize,
+    bits: &[i64],
+    indexes: &[u32],
+) -> Result<Array, OpFault>
+    requires axis { k < max 1 (rank_of b.now) }
+    requires length { length bits.now ≡ slice_index (as_vector (length bits.now) b.now).shape k }
+    requires indexes { indexes.now ≡ repeated_indexes (map place_number bits.now) }
+    ensures { IsAnswerOf (replicated (as_vector (length bits.now) b.now) k (map place_number bits.now)) result }
+{
+    let shape = shape_with_axis(workers.alloc(), b, k, indexes.len())?;
+    gather_repeated(workers, shape, b, k, bits, indexes)
+}
 
-    /// Each index of axis `k` as often as its count says.
-    fn replicate_each(&self, b: &Array, k: usize, counts: &[i64]) -> Result<Array, OpFault>
-        requires axis { k < max 1 (rank_of b.now) }
-        requires length { length counts.now ≡ slice_index (as_vector (length counts.now) b.now).shape k }
-        requires most { length counts.now ≤ MOST_PLACES }
-        ensures { IsAnswerOf (if list_all is_natural counts.now then replicated (as_vector (length counts.now) b.now) k (map place_number counts.now) else Err OpFault.Domain) result }
-    {
-        let Some(extent) = capped_sum(counts) else {
-            return Err(OpFault::Domain);
-        };
-        let shape = shape_with_axis(self.alloc, b, k, extent)?;
-        if shape.count() == 0 {
-            return self.empty(shape, b);
-        }
-        let indexes = listed_indexes(self.alloc, counts, extent)?;
-        self.gather_repeated(shape, b, k, counts, indexes.as_slice())
+/// Each index of axis `k` as often as its count says.
+fn replicate_each<W: Crew>(
+    workers: &W,
+    b: &Array,
+    k: usize,
+    counts: &[i64],
+) -> Result<Array, OpFault>
+    requires axis { k < max 1 (rank_of b.now) }
+    requires length { length counts.now ≡ slice_index (as_vector (length counts.now) b.now).shape k }
+    requires most { length counts.now ≤ MOST_PLACES }
+    ensures { IsAnswerOf (if list_all is_natural counts.now then replicated (as_vector (length counts.now) b.now) k (map place_number counts.now) else Err OpFault.Domain) result }
+{
+    let Some(extent) = capped_sum(counts) else {
+        return Err(OpFault::Domain);
+    };
+    let shape = shape_with_axis(workers.alloc(), b, k, extent)?;
+    if shape.count() == 0 {
+        return empty(workers, shape, b);
     }
+    let indexes = listed_indexes(workers.alloc(), counts, extent)?;
+    gather_repeated(workers, shape, b, k, counts, indexes.as_slice())
+}
 
-    /// Each index of axis `k`, which has this length, several times.
-    fn replicate_all(
-        &self,
-        b: &Array,
-        k: usize,
-        length: usize,
-        count: i64,
-    ) -> Result<Array, OpFault>
-        requires axis { k < max 1 (rank_of b.now) }
-        requires length { length ≡ slice_index (as_vector 1 b.now).shape k }
-        requires most { length ≤ MOST_PLACES }
-        ensures { IsAnswerOf (if is_natural count then replicated (as_vector 1 b.now) k (replicate length (place_number count)) else Err OpFault.Domain) result }
-    {
-        if count < 0 {
-            return Err(OpFault::Domain);
-        }
-        let times = count as usize;
-        let extent = capped_product(length, times);
-        let shape = shape_with_axis(self.alloc, b, k, extent)?;
-        if shape.count() == 0 {
-            return self.empty(shape, b);
-        }
-        let stride = vector_stride(b, &shape, k);
-        let map = Repeated {
-            axis_length: length,
-            times,
-            stride,
-        };
-        self.gather_vector(shape, b, k, Map::Repeated(map))
+/// Each index of axis `k`, which has this length, several times.
+fn replicate_all<W: Crew>(
+    workers: &W,
+    b: &Array,
+    k: usize,
+    length: usize,
+    count: i64,
+) -> Result<Array, OpFault>
+    requires axis { k < max 1 (rank_of b.now) }
+    requires length { length ≡ slice_index (as_vector 1 b.now).shape k }
+    requires most { length ≤ MOST_PLACES }
+    ensures { IsAnswerOf (if is_natural count then replicated (as_vector 1 b.now) k (replicate length (place_number count)) else Err OpFault.Domain) result }
+{
+    if count < 0 {
+        return Err(OpFault::Domain);
     }
+    let times = count as usize;
+    let extent = capped_product(length, times);
+    let shape = shape_with_axis(workers.alloc(), b, k, extent)?;
+    if shape.count() == 0 {
+        return empty(workers, shape, b);
+    }
+    let stride = vector_stride(b, &shape, k);
+    let map = Repeated {
+        axis_length: length,
+        times,
+        stride,
+    };
+    gather_vector(workers, shape, b, k, Map::Repeated(map))
 }
 
 /// `A/B`, compress and replicate: each index of an axis as often as its number in `A` says, in order.
@@ -143,10 +148,10 @@ pub fn compress<R: Threads + Sync, C: Cut + Sync, G: Gate + Sync>(
     }
     let counts = numbers_among(a)?;
     if count == 1 {
-        return workers.replicate_all(b, k, length, counts[0]);
+        return replicate_all(&workers, b, k, length, counts[0]);
     }
     match kept_indexes(alloc, counts)? {
-        Some(indexes) => workers.compress_each(b, k, counts, indexes.as_slice()),
-        None => workers.replicate_each(b, k, counts),
+        Some(indexes) => compress_each(&workers, b, k, counts, indexes.as_slice()),
+        None => replicate_each(&workers, b, k, counts),
     }
 }

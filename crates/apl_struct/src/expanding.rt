@@ -11,11 +11,10 @@ ghost use Rattle.apl_struct.specs.declared.expanding.TheConstants.{ABSENT};
 
 use crate::arguments::numbers_among;
 use crate::repeating::is_bit;
-use crate::scalars::{shape_with_axis, vector_length, vector_rank};
-use crate::workers::Workers;
+use crate::scalars::{gather_listed, shape_with_axis, vector_length, vector_rank};
 use apl_answer::OpFault;
 use apl_array::{Array, Axis};
-use apl_pool::{Cut, Gate, Pool};
+use apl_pool::{Cut, Gate, Pool, Workers};
 use std::alloc::{AllocError, Global};
 use std::thread::Threads;
 
@@ -78,5 +77,5 @@ pub fn expand<R: Threads + Sync, C: Cut + Sync, G: Gate + Sync>(
         return Err(OpFault::Length);
     }
     let shape = shape_with_axis(alloc, b, k, bits.len())?;
-    workers.gather_listed(shape, b, k, entries.as_slice(), ones)
+    gather_listed(&workers, shape, b, k, entries.as_slice(), ones)
 }

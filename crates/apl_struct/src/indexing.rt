@@ -8,12 +8,13 @@ ghost use Rattle.apl_answer.specs.Rows.{Answers};
 ghost use Rattle.apl_struct.specs.Indexing.{are_slots_within, selected_shape, selection_checks, select_source, select_row};
 ghost use Rattle.apl_struct.specs.Selecting.{IsCheckedResult, IsSelection};
 
+use crate::plain::empty;
 use crate::selecting::selected_walk;
 use crate::slots::{NumberArray, push_slots};
-use crate::workers::Workers;
 use apl_answer::OpFault;
 use apl_array::{Array, Origin, Shape, places_match_index_lists};
-use apl_pool::{Cut, Gate, Pool};
+use apl_pool::{Crew, Cut, Gate, Pool, Workers};
+use apl_walk::gather;
 use std::alloc::{AllocError, Global};
 use std::thread::Threads;
 
@@ -99,28 +100,26 @@ pub(crate) fn selection<'a>(
     Ok((judged, shape))
 }
 
-impl<R: Threads + Sync, C: Cut + Sync, G: Gate + Sync> Workers<'_, R, C, G> {
-    /// The array of the shape that slots choose, with an argument's elements at the index lists that
-    /// they choose.
-    fn gather_selected(
-        &self,
-        shape: Shape,
-        a: &Array,
-        slots: &[Option<NumberArray>],
-        origin: Origin,
-    ) -> Result<Array, OpFault>
-        requires { IsSelection a.now slots.now origin shape }
-        ensures { IsAnswerOf (answer_of shape (λ index. Ok (element_at a.now (select_source origin slots.now index))) a.now.kind) result }
-    {
-        if shape.count() == 0 {
-            return self.empty(shape, a);
-        }
-        places_match_index_lists();
-        // An array that was asked something is known to be lawful.
-        let _kind = a.kind();
-        let walk = selected_walk(self.alloc, a, slots, origin)?;
-        self.gather_walk(shape, a, walk)
+/// The array of the shape that slots choose, with an argument's elements at the index lists that
+/// they choose.
+fn gather_selected<W: Crew>(
+    workers: &W,
+    shape: Shape,
+    a: &Array,
+    slots: &[Option<NumberArray>],
+    origin: Origin,
+) -> Result<Array, OpFault>
+    requires { IsSelection a.now slots.now origin shape }
+    ensures { IsAnswerOf (answer_of shape (λ index. Ok (element_at a.now (select_source origin slots.now index))) a.now.kind) result }
+{
+    if shape.count() == 0 {
+        return empty(workers, shape, a);
     }
+    places_match_index_lists();
+    // An array that was asked something is known to be lawful.
+    let _kind = a.kind();
+    let walk = selected_walk(workers.alloc(), a, slots, origin)?;
+    gather(workers, shape, a, walk)
 }
 
 /// `A[I;J]`, indexing: the elements that the slots choose; an empty slot chooses the whole axis.
@@ -139,5 +138,5 @@ pub fn select<R: Threads + Sync, C: Cut + Sync, G: Gate + Sync>(
 {
     let workers = Workers { rt, alloc, pool };
     let (slots, shape) = selection(alloc, a, slots, origin)?;
-    workers.gather_selected(shape, a, slots.as_slice(), origin)
+    gather_selected(&workers, shape, a, slots.as_slice(), origin)
 }

@@ -10,13 +10,12 @@ ghost use Rattle.apl_struct.specs.Joined.{joined_at};
 ghost use Rattle.apl_struct.specs.Joining.{joined_rank, can_join, slices_shape, joined_kind, catenated_element, catenate_row};
 
 use crate::slices::{Joint, joint_of};
-use crate::workers::Workers;
 use apl_answer::{ElementType, OpFault, fill_array};
 use apl_array::{
     Array, Axis, Kind, MOST_AXES, Shape, changed_axis_has_place, places_match_index_lists,
     replaced_index_has_place,
 };
-use apl_pool::{Cut, Gate, Pool};
+use apl_pool::{Crew, Cut, Gate, Pool, Workers};
 use apl_walk::{ByLines, Joined, Part};
 use std::alloc::Global;
 use std::thread::Threads;
@@ -106,61 +105,67 @@ fn seam_along(shape: &Shape, k: usize, left: usize, right: usize) -> Seam
     }
 }
 
-impl<R: Threads + Sync, C: Cut + Sync, G: Gate + Sync> Workers<'_, R, C, G> {
-    /// The array of this shape whose lines have the elements of two arguments by turns.
-    fn join_elements<T: ElementType + Send + Sync>(
-        &self,
-        shape: Shape,
-        a: &Array,
-        b: &Array,
-        left: &[T],
-        right: &[T],
-        seam: Seam,
-    ) -> Result<Array, OpFault>
-        requires kind { joined_kind a.now b.now ≡ T.kind }
-        requires left { a.now.ravel ≡ map T.elem_of left.now }
-        requires right { b.now.ravel ≡ map T.elem_of right.now }
-        ensures { IsArrayAt shape (joined_kind a.now b.now) (joined_at a.now b.now seam.left seam.right) result }
-    {
-        let fill = T::fill();
-        let kernel = ByLines::new(Joined {
-            left: Part::new(left, fill, seam.left),
-            right: Part::new(right, fill, seam.right),
-            count: shape.count(),
-        });
-        fill_array(self.rt, self.alloc, self.pool, shape, &kernel)
-    }
+/// The array of this shape whose lines have the elements of two arguments by turns.
+fn join_elements<T: ElementType + Send + Sync, W: Crew>(
+    workers: &W,
+    shape: Shape,
+    a: &Array,
+    b: &Array,
+    left: &[T],
+    right: &[T],
+    seam: Seam,
+) -> Result<Array, OpFault>
+    requires kind { joined_kind a.now b.now ≡ T.kind }
+    requires left { a.now.ravel ≡ map T.elem_of left.now }
+    requires right { b.now.ravel ≡ map T.elem_of right.now }
+    ensures { IsArrayAt shape (joined_kind a.now b.now) (joined_at a.now b.now seam.left seam.right) result }
+{
+    let fill = T::fill();
+    let kernel = ByLines::new(Joined {
+        left: Part::new(left, fill, seam.left),
+        right: Part::new(right, fill, seam.right),
+        count: shape.count(),
+    });
+    fill_array(workers, shape, &kernel)
+}
 
-    /// The two arguments joined along axis `k`, of whose indexes `left` and `right` are theirs.
-    fn join_along(
-        &self,
-        shape: Shape,
-        a: &Array,
-        b: &Array,
-        k: usize,
-        left: usize,
-        right: usize,
-    ) -> Result<Array, OpFault>
-        requires axis { k < joined_rank a.now b.now }
-        requires ranks { can_join a.now b.now ≡ true }
-        requires others { let rank = joined_rank a.now b.now in
-            is_same_shape (remove (slices_shape rank k a.now b.now) k) (remove (slices_shape rank k b.now a.now) k) ≡ true }
-        requires kinds { (not (has_elements a.now && has_elements b.now) || is_same_kind a.now.kind b.now.kind) ≡ true }
-        requires left { left ≡ slice_index (slices_shape (joined_rank a.now b.now) k a.now b.now) k }
-        requires right { right ≡ slice_index (slices_shape (joined_rank a.now b.now) k b.now a.now) k }
-        requires shape { shape ≡ slice_set (slices_shape (joined_rank a.now b.now) k a.now b.now) k (left + right) }
-        ensures { IsAnswerOf (answer_of shape (λ index. Ok (catenated_element (joined_rank a.now b.now) k left a.now b.now index)) (joined_kind a.now b.now)) result }
-    {
-        places_match_index_lists();
-        changed_axis_has_place();
-        // An array that was asked something is known to be lawful.
-        let _kinds = (a.kind(), b.kind());
-        let seam = seam_along(&shape, k, left, right);
-        match joined_kind(a, b) {
-            Kind::Number => self.join_elements(shape, a, b, numbers_in(a), numbers_in(b), seam),
-            Kind::Character => {
-                self.join_elements(shape, a, b, characters_in(a), characters_in(b), seam)
-            }
+/// The two arguments joined along axis `k`, of whose indexes `left` and `right` are theirs.
+fn join_along<W: Crew>(
+    workers: &W,
+    shape: Shape,
+    a: &Array,
+    b: &Array,
+    k: usize,
+    left: usize,
+    right: usize,
+) -> Result<Array, OpFault>
+    requires axis { k < joined_rank a.now b.now }
+    requires ranks { can_join a.now b.now ≡ true }
+    requires others { let rank = joined_rank a.now b.now in
+        is_same_shape (remove (slices_shape rank k a.now b.now) k) (remove (slices_shape rank k b.now a.now) k) ≡ true }
+    requires kinds { (not (has_elements a.now && has_elements b.now) || is_same_kind a.now.kind b.now.kind) ≡ true }
+    requires left { left ≡ slice_index (slices_shape (joined_rank a.now b.now) k a.now b.now) k }
+    requires right { right ≡ slice_index (slices_shape (joined_rank a.now b.now) k b.now a.now) k }
+    requires shape { shape ≡ slice_set (slices_shape (joined_rank a.now b.now) k a.now b.now) k (left + right) }
+    ensures { IsAnswerOf (answer_of shape (λ index. Ok (catenated_element (joined_rank a.now b.now) k left a.now b.now index)) (joined_kind a.now b.now)) result }
+{
+    places_match_index_lists();
+    changed_axis_has_place();
+    // An array that was asked something is known to be lawful.
+    let _kinds = (a.kind(), b.kind());
+    let seam = seam_along(&shape, k, left, right);
+    match joined_kind(a, b) {
+        Kind::Number => join_elements(workers, shape, a, b, numbers_in(a), numbers_in(b), seam),
+        Kind::Character => {
+            join_elements(
+                workers,
+                shape,
+                a,
+                b,
+                characters_in(a),
+                characters_in(b),
+                seam,
+            )
         }
     }
 }
@@ -196,5 +201,5 @@ pub fn catenate<R: Threads + Sync, C: Cut + Sync, G: Gate + Sync>(
         return Err(OpFault::Domain);
     }
     let shape = Shape::new(alloc, lengths.as_slice())?;
-    workers.join_along(shape, a, b, k, left, right)
+    join_along(&workers, shape, a, b, k, left, right)
 }

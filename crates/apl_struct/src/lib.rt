@@ -1,6 +1,10 @@
 //! The structural functions: those that build, join, move, select and index arrays.
 //!
 //! They are those of the APL\360 User's Manual (1968).
+//!
+//! Below it: `apl_walk`, which makes most results, `apl_answer` for the rows and the answers, `apl_array` for arrays, and `apl_pool` for
+//! passes over them. `smallvec` has the lengths of a shape, and `apl_divisor` divides places.
+//! Begin with `specs/Rearranging.antt`, and then `reversing.rt` and `along.rt`. The other functions are made likewise.
 #![tactic(auto)]
 
 mod along;
@@ -9,12 +13,12 @@ mod axes;
 mod building;
 mod compressing;
 mod expanding;
-mod gather;
 mod indexing;
 mod joining;
 mod laws;
 mod named;
 mod permuting;
+mod plain;
 mod repeating;
 mod replacing;
 mod reversing;
@@ -25,7 +29,6 @@ mod shapes;
 mod slices;
 mod slots;
 mod taking;
-mod workers;
 
 pub use axes::axis_number;
 pub use building::{iota, ravel, reshape, shape_of};

@@ -14,19 +14,19 @@ ghost use Rattle.apl_walk.specs.Walks.{maps_of};
 
 use crate::arguments::numbers_among;
 use crate::named::{are_all_named, are_from_origin, axes_named, named_axes};
+use crate::plain::empty;
 use crate::shapes::lawful_shape;
-use crate::workers::Workers;
 use apl_answer::OpFault;
 use apl_array::{
     Array, Origin, Shape, places_match_index_lists, reversed_index_is_lawful,
     transposed_index_has_place,
 };
-use apl_pool::{Cut, Gate, Pool};
-use apl_walk::{MOST_STEP, Map, Walk, Window};
+use apl_pool::{Crew, Cut, Gate, Pool, Workers};
+use apl_walk::{MOST_STEP, Map, Walk, Window, gather};
 use std::alloc::{AllocError, Global};
 use std::thread::Threads;
 
-/// By how much a step along axis `j` of the result moves the place in the argument: by a step along
+/// By how much a step along axis `j` of the result moves the place in the argument. It is a step along
 /// each axis that becomes it.
 fn stride_along(argument: &Shape, axes: &[usize], j: usize) -> usize
     requires some { 0 < count_of argument.now }
@@ -65,22 +65,25 @@ fn transposed_walk(
     Ok(walk)
 }
 
-impl<R: Threads + Sync, C: Cut + Sync, G: Gate + Sync> Workers<'_, R, C, G> {
-    /// The array of this shape to whose axes those of an argument become.
-    fn transposed(&self, shape: Shape, b: &Array, axes: &[usize]) -> Result<Array, OpFault>
-        requires into { AreAxesInto b.now.shape axes.now shape }
-        ensures { IsArrayBy shape b.now.kind (λ index. element_at b.now (source_index axes.now index)) result }
-    {
-        places_match_index_lists();
-        transposed_index_has_place();
-        // An array that was asked something is known to be lawful.
-        let _kind = b.kind();
-        if shape.count() == 0 {
-            return self.empty(shape, b);
-        }
-        let walk = transposed_walk(self.alloc, &shape, b.shape(), axes)?;
-        self.gather_walk(shape, b, walk)
+/// The array of this shape to whose axes those of an argument become.
+fn transposed<W: Crew>(
+    workers: &W,
+    shape: Shape,
+    b: &Array,
+    axes: &[usize],
+) -> Result<Array, OpFault>
+    requires into { AreAxesInto b.now.shape axes.now shape }
+    ensures { IsArrayBy shape b.now.kind (λ index. element_at b.now (source_index axes.now index)) result }
+{
+    places_match_index_lists();
+    transposed_index_has_place();
+    // An array that was asked something is known to be lawful.
+    let _kind = b.kind();
+    if shape.count() == 0 {
+        return empty(workers, shape, b);
     }
+    let walk = transposed_walk(workers.alloc(), &shape, b.shape(), axes)?;
+    gather(workers, shape, b, walk)
 }
 
 /// `⍉B`, transpose: the axes in reverse order.
@@ -100,7 +103,8 @@ pub fn transpose<R: Threads + Sync, C: Cut + Sync, G: Gate + Sync>(
     let axes = reversed_axes(alloc, argument.rank())?;
     let lengths = reversed_lengths(alloc, argument.lengths())?;
     let shape = lawful_shape(alloc, lengths.as_slice())?;
-    Workers { rt, alloc, pool }.transposed(shape, b, axes.as_slice())
+    let workers = Workers { rt, alloc, pool };
+    transposed(&workers, shape, b, axes.as_slice())
 }
 
 fn reversed_lengths(alloc: Global, lengths: &[usize]) -> Result<Vec<usize>, AllocError>
@@ -148,7 +152,8 @@ pub fn transpose_by<R: Threads + Sync, C: Cut + Sync, G: Gate + Sync>(
         return Err(OpFault::Domain);
     }
     let shape = transposed_shape(alloc, axes.as_slice(), b.shape())?;
-    Workers { rt, alloc, pool }.transposed(shape, b, axes.as_slice())
+    let workers = Workers { rt, alloc, pool };
+    transposed(&workers, shape, b, axes.as_slice())
 }
 
 /// The shape of an argument whose axes become the axes that are named.

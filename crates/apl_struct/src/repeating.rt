@@ -13,8 +13,8 @@ use std::alloc::{AllocError, Global};
 /// How many times an index is put into a table at once, whatever its count is.
 const SPARE: usize = 4;
 
-/// The sum of counts, or one more than the most elements where it passes that; none where a count is
-/// below 0, also behind others whose sum is past it.
+/// The sum of counts, or one more than the most elements if it passes that. There is none if a count is
+/// below 0, also after others whose sum is past it.
 pub(crate) fn capped_sum(counts: &[i64]) -> Option<usize>
     ensures { MatchOption result (list_all is_natural counts.now ≡ false) (λ all. (list_all is_natural counts.now ≡ true) × (all ≡ min (sum (map place_number counts.now)) (MOST_ELEMENTS + 1))) }
 {
@@ -57,7 +57,7 @@ fn push_times(table: &mut Vec<u32>, index: u32, times: usize)
 }
 
 /// Puts an index as often behind others as its count says. It is put there `spare` times in any case, and what is past its count is
-/// taken away again: nothing hangs on a small count, which no processor can foresee.
+/// taken away again. So nothing hangs on a small count, which no processor can foresee.
 #[inline(always)]
 fn append_times(table: &mut Vec<u32>, index: u32, count: usize, spare: usize)
     requires { vec_len table.old + count + spare ≤ vec_capacity table.old }

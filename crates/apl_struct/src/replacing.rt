@@ -18,10 +18,9 @@ use crate::arguments::is_same_shape;
 use crate::indexing::selection;
 use crate::selecting::selected_walk;
 use crate::slots::NumberArray;
-use crate::workers::Workers;
 use apl_answer::{ElementType, OpFault, array_from_fill, array_of_elements};
 use apl_array::{Array, Origin, Shape, places_match_index_lists};
-use apl_pool::{Cut, Gate, Pool, Stop};
+use apl_pool::{Crew, Cut, Gate, Pool, Stop, Workers, fill};
 use apl_walk::{AxisMap, ByLines, Gathered, Map, Window, element_or, start_at};
 use std::alloc::Global;
 use std::thread::Threads;
@@ -78,93 +77,94 @@ fn write_lines<T: Copy>(
     }
 }
 
-impl<R: Threads + Sync, C: Cut + Sync, G: Gate + Sync> Workers<'_, R, C, G> {
-    /// The elements again.
-    fn copied<T: ElementType + Send + Sync>(&self, elements: &[T]) -> Result<Vec<T>, Stop>
-        requires some { 0 < length elements.now }
-        requires most { length elements.now ≤ MOST_PLACES }
-        ensures len { IfOk result (λ v. vec_len v ≡ length elements.now) }
-        ensures each { IfOk result (λ v. (p : ℕ) (d : T) → p < length elements.now → slice_index_or v.items p d ≡ slice_index_or elements.now p d) }
-        ensures memory { IfErr result (λ stop. stop ≡ Memory) }
-    {
-        let outer: [Map; 0] = [];
-        let all = Window::whole(elements.len(), 1);
-        let kernel = ByLines::new(Gathered::new(elements, &outer, 1, all));
-        self.pool.fill(self.rt, self.alloc, &kernel)
-    }
-
-    /// The elements, but at each place that is chosen the value of the last choice of it.
-    fn replace_elements<T: ElementType + Send + Sync>(
-        &self,
-        shape: Shape,
-        elements: &[T],
-        values: &[T],
-        last: &Map,
-        outer: &[Map],
-        count: usize,
-        step: usize,
-    ) -> Result<Array, OpFault>
-        requires all { length elements.now ≡ count_of shape }
-        requires some { 0 < count_of shape }
-        requires few { length outer.now ≤ MOST_MAPS }
-        requires count { count ≡ extent_of (last.now ∷ outer.now) }
-        requires most { count ≤ MOST_PLACES }
-        requires step { step ≤ 1 }
-        requires within { (place : ℕ) → place < count → IsReached (count_of shape) (walked (last.now ∷ outer.now) place) }
-        ensures { IsArrayAt shape T.kind (λ place. value_numbered (map T.elem_of elements.now) (map T.elem_of values.now) (fill_of T.kind) (number_at (last.now ∷ outer.now) step count place) place) result }
-    {
-        let mut all = self.copied(elements)?;
-        write_lines(
-            last,
-            outer,
-            count / last.extent(),
-            step,
-            values,
-            T::fill(),
-            all.as_mut_slice(),
-        );
-        array_from_fill(shape, Ok(all))
-    }
-
-    /// The same of arrays.
-    fn replace_walk(
-        &self,
-        shape: Shape,
-        a: &Array,
-        b: &Array,
-        last: &Map,
-        outer: &[Map],
-        count: usize,
-        step: usize,
-    ) -> Result<Array, OpFault>
-        requires all { count_of a.now.shape ≡ count_of shape }
-        requires some { 0 < count_of shape }
-        requires few { length outer.now ≤ MOST_MAPS }
-        requires count { count ≡ extent_of (last.now ∷ outer.now) }
-        requires most { count ≤ MOST_PLACES }
-        requires step { step ≤ 1 }
-        requires within { (place : ℕ) → place < count → IsReached (count_of shape) (walked (last.now ∷ outer.now) place) }
-        requires kinds { a.now.kind ≡ b.now.kind }
-        ensures { IsArrayAt shape a.now.kind (λ place. element_numbered a.now b.now (number_at (last.now ∷ outer.now) step count place) place) result }
-    {
-        // An array that was asked something is known to be lawful.
-        let _kind = a.kind();
-        if let Some(elements) = a.numbers()
-            && let Some(values) = b.numbers()
-        {
-            return self.replace_elements(shape, elements, values, last, outer, count, step);
-        }
-        if let Some(elements) = a.characters()
-            && let Some(values) = b.characters()
-        {
-            return self.replace_elements(shape, elements, values, last, outer, count, step);
-        }
-        unreachable!()
-    }
+/// The elements again.
+fn copied<T: ElementType + Send + Sync, W: Crew>(
+    workers: &W,
+    elements: &[T],
+) -> Result<Vec<T>, Stop>
+    requires some { 0 < length elements.now }
+    requires most { length elements.now ≤ MOST_PLACES }
+    ensures len { IfOk result (λ v. vec_len v ≡ length elements.now) }
+    ensures each { IfOk result (λ v. (p : ℕ) (d : T) → p < length elements.now → slice_index_or v.items p d ≡ slice_index_or elements.now p d) }
+    ensures memory { IfErr result (λ stop. stop ≡ Memory) }
+{
+    let outer: [Map; 0] = [];
+    let all = Window::whole(elements.len(), 1);
+    let kernel = ByLines::new(Gathered::new(elements, &outer, 1, all));
+    fill(workers, &kernel)
 }
 
-/// Values go in the place of the chosen elements: one for all, or an array of the selected shape, which
-/// is judged by its rank (`Rank`), then its lengths (`Length`). They are of the kind of the elements,
+/// The elements, but at each place that is chosen the value of the last choice of it.
+fn replace_elements<T: ElementType + Send + Sync, W: Crew>(
+    workers: &W,
+    shape: Shape,
+    elements: &[T],
+    values: &[T],
+    last: &Map,
+    outer: &[Map],
+    count: usize,
+    step: usize,
+) -> Result<Array, OpFault>
+    requires all { length elements.now ≡ count_of shape }
+    requires some { 0 < count_of shape }
+    requires few { length outer.now ≤ MOST_MAPS }
+    requires count { count ≡ extent_of (last.now ∷ outer.now) }
+    requires most { count ≤ MOST_PLACES }
+    requires step { step ≤ 1 }
+    requires within { (place : ℕ) → place < count → IsReached (count_of shape) (walked (last.now ∷ outer.now) place) }
+    ensures { IsArrayAt shape T.kind (λ place. value_numbered (map T.elem_of elements.now) (map T.elem_of values.now) (fill_of T.kind) (number_at (last.now ∷ outer.now) step count place) place) result }
+{
+    let mut all = copied(workers, elements)?;
+    write_lines(
+        last,
+        outer,
+        count / last.extent(),
+        step,
+        values,
+        T::fill(),
+        all.as_mut_slice(),
+    );
+    array_from_fill(shape, Ok(all))
+}
+
+/// The same of arrays.
+fn replace_walk<W: Crew>(
+    workers: &W,
+    shape: Shape,
+    a: &Array,
+    b: &Array,
+    last: &Map,
+    outer: &[Map],
+    count: usize,
+    step: usize,
+) -> Result<Array, OpFault>
+    requires all { count_of a.now.shape ≡ count_of shape }
+    requires some { 0 < count_of shape }
+    requires few { length outer.now ≤ MOST_MAPS }
+    requires count { count ≡ extent_of (last.now ∷ outer.now) }
+    requires most { count ≤ MOST_PLACES }
+    requires step { step ≤ 1 }
+    requires within { (place : ℕ) → place < count → IsReached (count_of shape) (walked (last.now ∷ outer.now) place) }
+    requires kinds { a.now.kind ≡ b.now.kind }
+    ensures { IsArrayAt shape a.now.kind (λ place. element_numbered a.now b.now (number_at (last.now ∷ outer.now) step count place) place) result }
+{
+    // An array that was asked something is known to be lawful.
+    let _kind = a.kind();
+    if let Some(elements) = a.numbers()
+        && let Some(values) = b.numbers()
+    {
+        return replace_elements(workers, shape, elements, values, last, outer, count, step);
+    }
+    if let Some(elements) = a.characters()
+        && let Some(values) = b.characters()
+    {
+        return replace_elements(workers, shape, elements, values, last, outer, count, step);
+    }
+    unreachable!()
+}
+
+/// Values go in the place of the chosen elements: one for all, or an array of the selected shape. Its rank
+/// is judged first (`Rank`), then its lengths (`Length`). They are of the kind of the elements,
 /// unless there are none (`Domain`).
 fn judge_values(a: &Array, b: &Array, selected: &Shape) -> Result<(), OpFault>
     ensures { IsCheckedResult (replacement_checks a.now b.now selected.now) (λ u. IsReplacement a.now b.now selected.now) result }
@@ -191,43 +191,41 @@ fn value_step(b: &Array) -> usize
     if b.shape().count() == 1 { 0 } else { 1 }
 }
 
-impl<R: Threads + Sync, C: Cut + Sync, G: Gate + Sync> Workers<'_, R, C, G> {
-    /// The same array again.
-    fn gather_all(&self, a: &Array) -> Result<Array, OpFault>
-        ensures { IsAnswerOf (answer_of a.now.shape (λ index. Ok (element_at a.now index)) a.now.kind) result }
-    {
-        places_match_index_lists();
-        let shape = a.shape().copy(self.alloc)?;
-        array_of_elements(self.rt, self.alloc, self.pool, shape, a)
-    }
+/// The same array again.
+fn gather_all<W: Crew>(workers: &W, a: &Array) -> Result<Array, OpFault>
+    ensures { IsAnswerOf (answer_of a.now.shape (λ index. Ok (element_at a.now index)) a.now.kind) result }
+{
+    places_match_index_lists();
+    let shape = a.shape().copy(workers.alloc())?;
+    array_of_elements(workers, shape, a)
+}
 
-    /// The array with the values in the place of the elements that the slots choose.
-    fn replace_selected(
-        &self,
-        a: &Array,
-        slots: &[Option<NumberArray>],
-        b: &Array,
-        origin: Origin,
-        selected: Shape,
-    ) -> Result<Array, OpFault>
-        requires selection { IsSelection a.now slots.now origin selected }
-        requires values { IsReplacement a.now b.now selected }
-        ensures { IsAnswerOf (answer_of a.now.shape
-            (λ index. Ok (replaced_element a.now b.now index (last_choice origin slots.now selected index (count_of selected)))) a.now.kind) result }
-    {
-        let count = selected.count();
-        if count == 0 {
-            return self.gather_all(a);
-        }
-        places_match_index_lists();
-        let shape = a.shape().copy(self.alloc)?;
-        let walk = selected_walk(self.alloc, a, slots, origin)?;
-        let maps = walk.into_maps()?;
-        let step = value_step(b);
-        match maps.as_slice() {
-            [last, outer @ ..] => self.replace_walk(shape, a, b, last, outer, count, step),
-            [] => unreachable!(),
-        }
+/// The array with the values in the place of the elements that the slots choose.
+fn replace_selected<W: Crew>(
+    workers: &W,
+    a: &Array,
+    slots: &[Option<NumberArray>],
+    b: &Array,
+    origin: Origin,
+    selected: Shape,
+) -> Result<Array, OpFault>
+    requires selection { IsSelection a.now slots.now origin selected }
+    requires values { IsReplacement a.now b.now selected }
+    ensures { IsAnswerOf (answer_of a.now.shape
+        (λ index. Ok (replaced_element a.now b.now index (last_choice origin slots.now selected index (count_of selected)))) a.now.kind) result }
+{
+    let count = selected.count();
+    if count == 0 {
+        return gather_all(workers, a);
+    }
+    places_match_index_lists();
+    let shape = a.shape().copy(workers.alloc())?;
+    let walk = selected_walk(workers.alloc(), a, slots, origin)?;
+    let maps = walk.into_maps()?;
+    let step = value_step(b);
+    match maps.as_slice() {
+        [last, outer @ ..] => replace_walk(workers, shape, a, b, last, outer, count, step),
+        [] => unreachable!(),
     }
 }
 
@@ -249,5 +247,5 @@ pub fn replace<R: Threads + Sync, C: Cut + Sync, G: Gate + Sync>(
     let workers = Workers { rt, alloc, pool };
     let (slots, selected) = selection(alloc, a, slots, origin)?;
     judge_values(a, b, &selected)?;
-    workers.replace_selected(a, slots.as_slice(), b, origin, selected)
+    replace_selected(&workers, a, slots.as_slice(), b, origin, selected)
 }

@@ -12,16 +12,16 @@ ghost use Rattle.apl_struct.specs.Rotation.{rotation_of, turned_place, rotated_s
 ghost use Rattle.apl_walk.specs.Gathered.{filled_at};
 ghost use Rattle.apl_walk.specs.Steps.{wrapped};
 
-use crate::along::{Steps, steps_along};
+use crate::along::{Steps, gather_mapped, steps_along};
 use crate::arguments::{is_without_axis, numbers_among};
-use crate::workers::Workers;
+use crate::plain::{empty, gather_scalar};
 use apl_answer::{ElementType, OpFault, fill_array};
 use apl_array::{
     Array, Axis, Shape, inserted_index_has_place, places_match_index_lists,
     replaced_index_has_place, split_index_has_place,
 };
 use apl_divisor::Divisor;
-use apl_pool::{Cut, Gate, Pool};
+use apl_pool::{Crew, Cut, Gate, Pool, Workers};
 use apl_walk::{ByLines, Map, Rotated, RotatedColumns, RotatedRows, Rotations};
 use std::alloc::{AllocError, Global};
 use std::thread::Threads;
@@ -54,104 +54,107 @@ fn rotations_within(
         .collect(alloc)
 }
 
-impl<R: Threads + Sync, C: Cut + Sync, G: Gate + Sync> Workers<'_, R, C, G> {
-    /// All lines along axis `k` rotated by one number.
-    fn rotate_all(&self, b: &Array, k: usize, rotation: i64) -> Result<Array, OpFault>
-        requires { k < length b.now.shape }
-        ensures { IsArrayEverywhere b.now.shape b.now.kind (λ index. element_at b.now (along_axis k (rotated_index rotation (slice_index b.now.shape k)) index)) result }
-    {
-        let shape = b.shape().copy(self.alloc)?;
-        if shape.count() == 0 {
-            return self.empty(shape, b);
-        }
-        let Steps { length, inner, .. } = steps_along(b.shape(), &shape, k);
-        let by = rotation_within(rotation, length);
-        let map = Map::Rotated(Rotated {
-            extent: length,
-            by,
-            stride: inner,
-        });
-        self.gather_mapped(shape, b, k, map)
+/// All lines along axis `k` rotated by one number.
+fn rotate_all<W: Crew>(workers: &W, b: &Array, k: usize, rotation: i64) -> Result<Array, OpFault>
+    requires { k < length b.now.shape }
+    ensures { IsArrayEverywhere b.now.shape b.now.kind (λ index. element_at b.now (along_axis k (rotated_index rotation (slice_index b.now.shape k)) index)) result }
+{
+    let shape = b.shape().copy(workers.alloc())?;
+    if shape.count() == 0 {
+        return empty(workers, shape, b);
     }
+    let Steps { length, inner, .. } = steps_along(b.shape(), &shape, k);
+    let by = rotation_within(rotation, length);
+    let map = Map::Rotated(Rotated {
+        extent: length,
+        by,
+        stride: inner,
+    });
+    gather_mapped(workers, shape, b, k, map)
+}
 
-    /// An argument whose lines along an axis are rotated, where neighbours along it are `inner` apart.
-    fn rotate_elements<T: ElementType + Send + Sync>(
-        &self,
-        shape: Shape,
-        b: &Array,
-        elements: &[T],
-        rotations: Rotations,
-        inner: usize,
-    ) -> Result<Array, OpFault>
-        requires some { 0 < inner }
-        requires most { inner ≤ MOST_PLACES }
-        requires kind { b.now.kind ≡ T.kind }
-        requires ravel { b.now.ravel ≡ map T.elem_of elements.now }
-        ensures { IsArrayAt shape b.now.kind (λ place. filled_at b.now (Some (turned_place rotations.entry.length inner rotations.entry.by.now place))) result }
-    {
-        let count = shape.count();
-        let past = T::fill();
-        if inner == 1 {
-            let rows = ByLines::new(RotatedRows {
-                elements,
-                past,
-                rotations,
-                count,
-            });
-            return fill_array(self.rt, self.alloc, self.pool, shape, &rows);
-        }
-        let columns = ByLines::new(RotatedColumns {
+/// An argument whose lines along an axis are rotated, where neighbours along it are `inner` apart.
+fn rotate_elements<T: ElementType + Send + Sync, W: Crew>(
+    workers: &W,
+    shape: Shape,
+    b: &Array,
+    elements: &[T],
+    rotations: Rotations,
+    inner: usize,
+) -> Result<Array, OpFault>
+    requires some { 0 < inner }
+    requires most { inner ≤ MOST_PLACES }
+    requires kind { b.now.kind ≡ T.kind }
+    requires ravel { b.now.ravel ≡ map T.elem_of elements.now }
+    ensures { IsArrayAt shape b.now.kind (λ place. filled_at b.now (Some (turned_place rotations.entry.length inner rotations.entry.by.now place))) result }
+{
+    let count = shape.count();
+    let past = T::fill();
+    if inner == 1 {
+        let rows = ByLines::new(RotatedRows {
             elements,
             past,
             rotations,
-            length: Divisor::new(rotations.length),
-            inner,
             count,
         });
-        fill_array(self.rt, self.alloc, self.pool, shape, &columns)
+        return fill_array(workers, shape, &rows);
     }
+    let columns = ByLines::new(RotatedColumns {
+        elements,
+        past,
+        rotations,
+        length: Divisor::new(rotations.length),
+        inner,
+        count,
+    });
+    fill_array(workers, shape, &columns)
+}
 
-    /// The same, of whatever kind.
-    fn rotate_lines(
-        &self,
-        shape: Shape,
-        b: &Array,
-        rotations: Rotations,
-        inner: usize,
-    ) -> Result<Array, OpFault>
-        requires some { 0 < inner }
-        requires most { inner ≤ MOST_PLACES }
-        ensures { IsArrayAt shape b.now.kind (λ place. filled_at b.now (Some (turned_place rotations.entry.length inner rotations.entry.by.now place))) result }
-    {
-        match b.numbers() {
-            Some(numbers) => self.rotate_elements(shape, b, numbers, rotations, inner),
-            None => {
-                let Some(characters) = b.characters() else {
-                    unreachable!()
-                };
-                self.rotate_elements(shape, b, characters, rotations, inner)
-            }
+/// The same, of whatever kind.
+fn rotate_lines<W: Crew>(
+    workers: &W,
+    shape: Shape,
+    b: &Array,
+    rotations: Rotations,
+    inner: usize,
+) -> Result<Array, OpFault>
+    requires some { 0 < inner }
+    requires most { inner ≤ MOST_PLACES }
+    ensures { IsArrayAt shape b.now.kind (λ place. filled_at b.now (Some (turned_place rotations.entry.length inner rotations.entry.by.now place))) result }
+{
+    match b.numbers() {
+        Some(numbers) => rotate_elements(workers, shape, b, numbers, rotations, inner),
+        None => {
+            let Some(characters) = b.characters() else {
+                unreachable!()
+            };
+            rotate_elements(workers, shape, b, characters, rotations, inner)
         }
     }
+}
 
-    /// Each line along axis `k` rotated by a number of its own.
-    fn rotate_each(&self, b: &Array, k: usize, rotations: &[i64]) -> Result<Array, OpFault>
-        requires { k < length b.now.shape }
-        ensures { IsArrayEverywhere b.now.shape b.now.kind (λ index. element_at b.now (rotated_source rotations.now b.now.shape k index)) result }
-    {
-        places_match_index_lists();
-        inserted_index_has_place();
-        replaced_index_has_place();
-        split_index_has_place();
-        let shape = b.shape().copy(self.alloc)?;
-        if shape.count() == 0 {
-            return self.empty(shape, b);
-        }
-        let Steps { length, inner, .. } = steps_along(b.shape(), &shape, k);
-        let by = rotations_within(self.alloc, rotations, length)?;
-        let by = by.as_slice();
-        self.rotate_lines(shape, b, Rotations { by, length }, inner)
+/// Each line along axis `k` rotated by a number of its own.
+fn rotate_each<W: Crew>(
+    workers: &W,
+    b: &Array,
+    k: usize,
+    rotations: &[i64],
+) -> Result<Array, OpFault>
+    requires { k < length b.now.shape }
+    ensures { IsArrayEverywhere b.now.shape b.now.kind (λ index. element_at b.now (rotated_source rotations.now b.now.shape k index)) result }
+{
+    places_match_index_lists();
+    inserted_index_has_place();
+    replaced_index_has_place();
+    split_index_has_place();
+    let shape = b.shape().copy(workers.alloc())?;
+    if shape.count() == 0 {
+        return empty(workers, shape, b);
     }
+    let Steps { length, inner, .. } = steps_along(b.shape(), &shape, k);
+    let by = rotations_within(workers.alloc(), rotations, length)?;
+    let by = by.as_slice();
+    rotate_lines(workers, shape, b, Rotations { by, length }, inner)
 }
 
 /// `A⌽B` and `A⊖B`, rotate: index `i` of an axis takes the residue of `i` plus the number of its line by the axis length.
@@ -180,11 +183,11 @@ pub fn rotate<R: Threads + Sync, C: Cut + Sync, G: Gate + Sync>(
     }
     let rotations = numbers_among(a)?;
     if b.shape().rank() == 0 {
-        workers.gather_scalar(b)
+        gather_scalar(&workers, b)
     } else if a.shape().count() == 1 {
-        workers.rotate_all(b, k, rotations[0])
+        rotate_all(&workers, b, k, rotations[0])
     } else {
-        workers.rotate_each(b, k, rotations)
+        rotate_each(&workers, b, k, rotations)
     }
 }
 

@@ -10,14 +10,13 @@ ghost use Rattle.apl_struct.specs.Gathering.{element_or_fill, along_axis_or_none
 ghost use Rattle.apl_struct.specs.Scalars.{entry_index, vector_stride};
 ghost use Rattle.apl_walk.specs.Maps.{map_extent, map_step};
 
-use crate::along::steps_along;
-use crate::workers::Workers;
+use crate::along::{gather_mapped, steps_along};
+use crate::plain::empty;
 use apl_answer::OpFault;
 use apl_array::{Array, Shape, places_match_index_lists};
-use apl_pool::{Cut, Gate};
-use apl_walk::{ListedOrNone, Map, Walk};
+use apl_pool::Crew;
+use apl_walk::{ListedOrNone, Map, Walk, gather};
 use std::alloc::{AllocError, Global};
-use std::thread::Threads;
 
 /// How many axes an array has where a scalar serves as a vector.
 pub(crate) fn vector_rank(b: &Array) -> usize
@@ -84,56 +83,54 @@ pub(crate) fn vector_stride(b: &Array, shape: &Shape, k: usize) -> usize
     steps_along(b.shape(), shape, k).inner
 }
 
-impl<R: Threads + Sync, C: Cut + Sync, G: Gate + Sync> Workers<'_, R, C, G> {
-    /// The array of this shape, which has elements and is the argument's but for axis `k`. Along it are the elements at the
-    /// indexes that a map takes.
-    pub(crate) fn gather_vector(
-        &self,
-        shape: Shape,
-        b: &Array,
-        k: usize,
-        map: Map,
-    ) -> Result<Array, OpFault>
-        requires axis { k < max 1 (rank_of b.now) }
-        requires shape { (n : ℕ) → shape ≡ slice_set (as_vector n b.now).shape k (map_extent map) }
-        requires some { 0 < count_of shape }
-        ensures { (n : ℕ) → IsArrayAlong shape b.now.kind (as_vector n b.now) k (vector_stride b.now k) (map_extent map.entry) (map_step map.entry) result }
-    {
-        if b.shape().rank() > 0 {
-            return self.gather_mapped(shape, b, k, map);
-        }
-        places_match_index_lists();
-        // An array that was asked something is known to be lawful.
-        let _kind = b.kind();
-        let walk = Walk::new(self.alloc).with(map)?;
-        self.gather_walk(shape, b, walk)
+/// The array of this shape, which has elements and is the argument's but for axis `k`. Along it are the elements at the
+/// indexes that a map takes.
+pub(crate) fn gather_vector<W: Crew>(
+    workers: &W,
+    shape: Shape,
+    b: &Array,
+    k: usize,
+    map: Map,
+) -> Result<Array, OpFault>
+    requires axis { k < max 1 (rank_of b.now) }
+    requires shape { (n : ℕ) → shape ≡ slice_set (as_vector n b.now).shape k (map_extent map) }
+    requires some { 0 < count_of shape }
+    ensures { (n : ℕ) → IsArrayAlong shape b.now.kind (as_vector n b.now) k (vector_stride b.now k) (map_extent map.entry) (map_step map.entry) result }
+{
+    if b.shape().rank() > 0 {
+        return gather_mapped(workers, shape, b, k, map);
     }
+    places_match_index_lists();
+    // An array that was asked something is known to be lawful.
+    let _kind = b.kind();
+    let walk = Walk::new(workers.alloc()).with(map)?;
+    gather(workers, shape, b, walk)
+}
 
-    /// The array of this shape, which is the argument's but for axis `k`. Along it each entry of a list takes the element at
-    /// that index, or the fill if it is not below the argument's length.
-    pub(crate) fn gather_listed(
-        &self,
-        shape: Shape,
-        b: &Array,
-        k: usize,
-        entries: &[u32],
-        axis_length: usize,
-    ) -> Result<Array, OpFault>
-        requires axis { k < max 1 (rank_of b.now) }
-        requires length { axis_length ≡ slice_index (as_vector axis_length b.now).shape k }
-        requires shape { (n : ℕ) → shape ≡ slice_set (as_vector n b.now).shape k (length entries.now) }
-        requires most { length entries.now ≤ MOST_PLACES }
-        ensures { IsArrayBy shape b.now.kind (λ index. element_or_fill (as_vector axis_length b.now) (along_axis_or_none k (λ i. entry_index axis_length (slice_index entries.now i)) index)) result }
-    {
-        if shape.count() == 0 {
-            return self.empty(shape, b);
-        }
-        let stride = vector_stride(b, &shape, k);
-        let map = ListedOrNone {
-            entries,
-            axis_length,
-            stride,
-        };
-        self.gather_vector(shape, b, k, Map::ListedOrNone(map))
+/// The array of this shape, which is the argument's but for axis `k`. Along it each entry of a list takes the element at
+/// that index, or the fill if it is not below the argument's length.
+pub(crate) fn gather_listed<W: Crew>(
+    workers: &W,
+    shape: Shape,
+    b: &Array,
+    k: usize,
+    entries: &[u32],
+    axis_length: usize,
+) -> Result<Array, OpFault>
+    requires axis { k < max 1 (rank_of b.now) }
+    requires length { axis_length ≡ slice_index (as_vector axis_length b.now).shape k }
+    requires shape { (n : ℕ) → shape ≡ slice_set (as_vector n b.now).shape k (length entries.now) }
+    requires most { length entries.now ≤ MOST_PLACES }
+    ensures { IsArrayBy shape b.now.kind (λ index. element_or_fill (as_vector axis_length b.now) (along_axis_or_none k (λ i. entry_index axis_length (slice_index entries.now i)) index)) result }
+{
+    if shape.count() == 0 {
+        return empty(workers, shape, b);
     }
+    let stride = vector_stride(b, &shape, k);
+    let map = ListedOrNone {
+        entries,
+        axis_length,
+        stride,
+    };
+    gather_vector(workers, shape, b, k, Map::ListedOrNone(map))
 }

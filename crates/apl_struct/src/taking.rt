@@ -13,12 +13,12 @@ ghost use Rattle.apl_walk.specs.Walks.{maps_of};
 ghost use Rattle.apl_struct.specs.Shaped.{with_shape, left_number, left_numbers, HavePassedButLimit, IsArrayOrLimit};
 
 use crate::arguments::numbers_among;
+use crate::building::repeat;
 use crate::shapes::lawful_shape;
-use crate::workers::Workers;
 use apl_answer::OpFault;
 use apl_array::{Array, MOST_AXES, Shape, places_match_index_lists};
-use apl_pool::{Cut, Gate, Pool};
-use apl_walk::{Map, Walk, Window};
+use apl_pool::{Crew, Cut, Gate, Pool, Workers};
+use apl_walk::{Map, Walk, Window, gather};
 use std::alloc::{AllocError, Global};
 use std::thread::Threads;
 
@@ -140,43 +140,46 @@ fn shape_with_axes(alloc: Global, b: &Array, rank: usize) -> Result<Shape, Alloc
     lawful_shape(alloc, &[1; MOST_AXES][..rank])
 }
 
-impl<R: Threads + Sync, C: Cut + Sync, G: Gate + Sync> Workers<'_, R, C, G> {
-    /// The array of this shape with the elements that are taken from an argument, which serves as
-    /// one of the shape `argument`.
-    fn take_from(
-        &self,
-        numbers: &[i64],
-        shape: Shape,
-        b: &Array,
-        argument: &Shape,
-    ) -> Result<Array, OpFault>
-        requires count { count_of argument.now ≡ count_of b.now.shape }
-        requires len { length numbers.now ≡ length argument.now }
-        requires shape { shape ≡ map nat_abs numbers.now }
-        ensures { IsArrayBy shape b.now.kind (λ index. element_or_fill (with_shape argument.now b.now) (take_source numbers.now argument.now index)) result }
-    {
-        places_match_index_lists();
-        // An array that was asked something is known to be lawful.
-        let _kind = b.kind();
-        let count = shape.count();
-        if count == 0 || argument.count() == 0 {
-            return self.repeat(shape, b);
-        }
-        let walk = taken_walk(self.alloc, numbers, argument)?;
-        self.gather_walk(shape, b, walk)
+/// The array of this shape with the elements that are taken from an argument, which serves as
+/// one of the shape `argument`.
+fn take_from<W: Crew>(
+    workers: &W,
+    numbers: &[i64],
+    shape: Shape,
+    b: &Array,
+    argument: &Shape,
+) -> Result<Array, OpFault>
+    requires count { count_of argument.now ≡ count_of b.now.shape }
+    requires len { length numbers.now ≡ length argument.now }
+    requires shape { shape ≡ map nat_abs numbers.now }
+    ensures { IsArrayBy shape b.now.kind (λ index. element_or_fill (with_shape argument.now b.now) (take_source numbers.now argument.now index)) result }
+{
+    places_match_index_lists();
+    // An array that was asked something is known to be lawful.
+    let _kind = b.kind();
+    let count = shape.count();
+    if count == 0 || argument.count() == 0 {
+        return repeat(workers, shape, b);
     }
+    let walk = taken_walk(workers.alloc(), numbers, argument)?;
+    gather(workers, shape, b, walk)
+}
 
-    /// The array with the elements that are taken from an argument, which serves as one of the shape
-    /// `argument`; `Limit` where it passes a limit.
-    fn taken(&self, numbers: &[i64], b: &Array, argument: &Shape) -> Result<Array, OpFault>
-        requires count { count_of argument.now ≡ count_of b.now.shape }
-        requires len { length numbers.now ≡ length argument.now }
-        ensures { IsArrayOrLimit (map nat_abs numbers.now) b.now.kind (λ index. element_or_fill (with_shape argument.now b.now) (take_source numbers.now argument.now index)) result }
-    {
-        let lengths = magnitudes(self.alloc, numbers)?;
-        let shape = Shape::new(self.alloc, lengths.as_slice())?;
-        self.take_from(numbers, shape, b, argument)
-    }
+/// The array with the elements that are taken from an argument, which serves as one of the shape
+/// `argument`; `Limit` where it passes a limit.
+fn taken<W: Crew>(
+    workers: &W,
+    numbers: &[i64],
+    b: &Array,
+    argument: &Shape,
+) -> Result<Array, OpFault>
+    requires count { count_of argument.now ≡ count_of b.now.shape }
+    requires len { length numbers.now ≡ length argument.now }
+    ensures { IsArrayOrLimit (map nat_abs numbers.now) b.now.kind (λ index. element_or_fill (with_shape argument.now b.now) (take_source numbers.now argument.now index)) result }
+{
+    let lengths = magnitudes(workers.alloc(), numbers)?;
+    let shape = Shape::new(workers.alloc(), lengths.as_slice())?;
+    take_from(workers, numbers, shape, b, argument)
 }
 
 /// `A↑B`, take: the first elements of each axis, or the last ones for a negative number, and fills where there are not as many.
@@ -194,7 +197,8 @@ pub fn take<R: Threads + Sync, C: Cut + Sync, G: Gate + Sync>(
 {
     let numbers = taking_numbers(a, b)?;
     let argument = shape_with_axes(alloc, b, numbers.len())?;
-    Workers { rt, alloc, pool }.taken(numbers, b, &argument)
+    let workers = Workers { rt, alloc, pool };
+    taken(&workers, numbers, b, &argument)
 }
 
 /// `A↓B`, drop: each axis without its first elements, or without the last ones for a negative number.
@@ -213,5 +217,6 @@ pub fn drop<R: Threads + Sync, C: Cut + Sync, G: Gate + Sync>(
     let numbers = taking_numbers(a, b)?;
     let argument = shape_with_axes(alloc, b, numbers.len())?;
     let left = left_numbers(alloc, numbers, argument.lengths())?;
-    Workers { rt, alloc, pool }.taken(left.as_slice(), b, &argument)
+    let workers = Workers { rt, alloc, pool };
+    taken(&workers, left.as_slice(), b, &argument)
 }

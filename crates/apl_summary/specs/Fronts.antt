@@ -60,7 +60,7 @@ AreSumsAfter is_plus is_negated total least greatest numbers count values =
 
 -- ---- products
 
--- the product of the numbers; a number after them of which the magnitude times `most` is in the range is refused by no end of them
+-- The product of the numbers. A number after them of which the magnitude times `most` is in the range is refused by no end of them.
 pub record IsBoundedProduct (total : ℤ) (most : ℕ) (numbers : List ℤ) : Type 0 where
   pub multiplies : (right : ℤ) → most * unsigned_abs right ≤ 9223372036854775807 → fold_onto (dyadic_numbers Times) numbers right ≡ Ok (total *ℤ right)
 

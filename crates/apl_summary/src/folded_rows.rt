@@ -8,9 +8,8 @@ ghost use Rattle.apl_summary.specs.RowFolds.{HasRowFolds, HasRowStop, stop_at_ro
 
 use crate::with_summary;
 use apl_array::ScalarFunction;
-use apl_pool::{Cut, Fault, Gate, Pool, RowSummaries, Rows, Stop, Summary};
+use apl_pool::{Crew, Fault, RowSummaries, Rows, Stop, Summary};
 use std::alloc::Global;
-use std::thread::Threads;
 
 /// Rows of numbers, each with the number that comes in to it from the right, or a fault in its place.
 pub trait FoldedRows: Rows<Out = i64> {
@@ -84,29 +83,26 @@ fn row_folds<S: Summary<Item = i64> + Drop, K: FoldedRows>(
 }
 
 /// The folds of all rows by one type of summaries.
-fn fold_rows_by_summary<
-    S: Summary<Item = i64> + Drop + Send,
-    R: Threads + Sync,
-    C: Cut + Sync,
-    G: Gate + Sync,
-    K: FoldedRows + Sync,
->(rt: &R, alloc: Global, pool: &Pool<C, G>, rows: &K) -> Result<Vec<i64>, Stop>
+fn fold_rows_by_summary<S: Summary<Item = i64> + Drop + Send, W: Crew, K: FoldedRows + Sync>(
+    workers: &W,
+    rows: &K,
+) -> Result<Vec<i64>, Stop>
     requires some { 0 < K.place_count rows.now }
     requires most { K.row_count rows.now ≤ MOST_PLACES }
     ensures values { HasRowFolds S.step (K.outcome rows.now) (K.row_count rows.now) (K.place_count rows.now) (K.incoming rows.now) result }
     ensures stop { HasRowStop S.step (K.outcome rows.now) (K.row_count rows.now) (K.place_count rows.now) (K.incoming rows.now) result }
 {
-    let folds: RowSummaries<S> = pool.fold_rows(rt, alloc, rows);
-    row_folds(alloc, rows, folds)
+    let folds: RowSummaries<S> = workers
+        .pool()
+        .fold_rows(workers.rt(), workers.alloc(), rows);
+    row_folds(workers.alloc(), rows, folds)
 }
 
 /// The right fold of the numbers of each row onto what comes in to it, by a function whose folds have summaries. Else the answer is the
 /// least row that has a fault, with that fault. In a row they are judged in this order: at its least faulty place, in place of what
 /// comes in, of the fold. `Memory` may come in place of any answer. The rows have at least one place.
-pub fn fold_rows<R: Threads + Sync, C: Cut + Sync, G: Gate + Sync, K: FoldedRows + Sync>(
-    rt: &R,
-    alloc: Global,
-    pool: &Pool<C, G>,
+pub fn fold_rows<W: Crew, K: FoldedRows + Sync>(
+    workers: &W,
     function: ScalarFunction,
     rows: &K,
 ) -> Result<Vec<i64>, Stop>
@@ -118,7 +114,7 @@ pub fn fold_rows<R: Threads + Sync, C: Cut + Sync, G: Gate + Sync, K: FoldedRows
 {
     with_summary!(
         function,
-        fold_rows_by_summary::<S, R, C, G, K>(rt, alloc, pool, rows),
+        fold_rows_by_summary::<S, W, K>(workers, rows),
         unreachable!()
     )
 }

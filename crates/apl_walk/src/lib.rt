@@ -1,4 +1,8 @@
 //! Results whose elements are an argument's, made line by line along the last axis.
+//!
+//! Below it: `apl_array` for arrays and shapes, and `apl_pool`, which fills results. `apl_divisor` finds the line that has a place, and
+//! `apl_answer` makes the array of what was filled.
+//! Begin with `specs/Maps.antt`, which says what a walk reaches, and then `map.rt`, `lined.rt` and `gathering.rt`.
 #![tactic(auto)]
 
 mod cyclic;
@@ -19,7 +23,6 @@ mod rotated_lines;
 mod stretches;
 mod walk;
 mod window;
-mod workers;
 
 pub use cyclic::Cyclic;
 pub use gathered::Gathered;

@@ -2,6 +2,7 @@
 //!
 //! Below it: `apl_options` for the words of the command line, `apl_pool` for the workers, `apl_print` for the sink,
 //! and `apl_session`, whose `run` answers the session. Its theorem is in `apl_session/src/answering.rt`.
+//! Begin with `main`.
 #![tactic(auto)]
 
 use apl_options::{Settings, refusal, settings};

@@ -7,7 +7,7 @@ use apl_answer::{
     OpFault, answer_is_each_outcome, answer_is_in_range, answer_is_within_limits, fill_array,
 };
 use apl_array::{Array, Shape};
-use apl_pool::{Every, Fault, Kernel, MOST_PLACES, Open, Pool};
+use apl_pool::{Every, Fault, Kernel, MOST_PLACES, Open, Pool, Workers};
 use std::alloc::Global;
 use std::test::Fail;
 
@@ -87,16 +87,15 @@ fn numbers(rt: HostRuntime) -> Result<(), Fail> {
     ];
     for workers in [1, 3, 64u8] {
         let pool = Pool::new(workers, Every(2), Open);
+        let workers = Workers {
+            rt: &rt,
+            alloc: rt.alloc(),
+            pool: &pool,
+        };
         for (lengths, limit, wanted) in rows {
             let shape = Shape::new(rt.alloc(), lengths)?;
             let count = shape.count();
-            let answer = fill_array(
-                &rt,
-                rt.alloc(),
-                &pool,
-                shape,
-                &PlaceNumbers { count, limit },
-            );
+            let answer = fill_array(&workers, shape, &PlaceNumbers { count, limit });
             assert!(rt;
                 is_answer(rt.alloc(), answer, wanted),
                 "{lengths:?} {limit}"
@@ -116,7 +115,12 @@ fn characters(rt: HostRuntime) -> Result<(), Fail> {
         return Err(Fail::new("two rows of two are four"));
     }
     let pool = Pool::new(2, Every(1), Open);
-    let text = fill_array(&rt, rt.alloc(), &pool, shape, &Letters)?;
+    let workers = Workers {
+        rt: &rt,
+        alloc: rt.alloc(),
+        pool: &pool,
+    };
+    let text = fill_array(&workers, shape, &Letters)?;
     assert!(rt; text.characters() == Some(['A', 'A', 'A', 'B'].as_slice()));
     Ok(())
 }

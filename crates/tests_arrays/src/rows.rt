@@ -3,7 +3,7 @@ ghost use Rattle.std.specs.Prelude.{◌*◌, ◌≤◌, length};
 ghost use Rattle.apl_pool.specs.declared.kernel.TheConstants.{MOST_PLACES};
 
 use apl_pool::{
-    Every, Fault, MOST_PLACES, Open, Pool, RowSummaries, Rows, Schedule, Stop, Summary,
+    Every, Fault, MOST_PLACES, Open, Pool, RowSummaries, Rows, Schedule, Stop, Summary, Workers,
 };
 use apl_scalar::Prim;
 use apl_summary::{FoldedRows, SignedSum, fold_rows};
@@ -122,6 +122,11 @@ fn folds_of_rows(rt: HostRuntime) -> Result<(), Fail> {
     for schedule in [Schedule::Claims, Schedule::Deques] {
         for (workers, piece) in [(1u8, 4096), (2, 1), (3, 3), (4, 4096), (64, 100)] {
             let pool = Pool::with(workers, schedule, Every(piece), Open);
+            let workers = Workers {
+                rt: &rt,
+                alloc,
+                pool: &pool,
+            };
             for (function, count, faulty, incoming, wanted) in cases {
                 let rows = Ones {
                     rows: 3,
@@ -129,7 +134,7 @@ fn folds_of_rows(rt: HostRuntime) -> Result<(), Fail> {
                     faulty,
                     incoming: incoming.as_slice(),
                 };
-                let folds = fold_rows(&rt, alloc, &pool, function, &rows);
+                let folds = fold_rows(&workers, function, &rows);
                 let is_wanted = match (folds, wanted) {
                     (Ok(folds), Ok(numbers)) => folds.as_slice() == numbers.as_slice(),
                     (Err(stop), Err(wanted)) => stop == wanted,

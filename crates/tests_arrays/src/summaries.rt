@@ -5,7 +5,7 @@ ghost use Rattle.apl_pool.specs.declared.kernel.TheConstants.{MOST_PLACES};
 ghost use Rattle.apl_summary.specs.Functions.{has_summary};
 
 use apl_array::Elem;
-use apl_pool::{Cut, Fault, MOST_PLACES, Open, Pool, Rows, Schedule, Stop, Summary};
+use apl_pool::{Cut, Fault, MOST_PLACES, Open, Pool, Rows, Schedule, Stop, Summary, Workers};
 use apl_scalar::function_types::{And, Less};
 use apl_scalar::{Prim, apply2};
 use apl_summary::{
@@ -276,10 +276,12 @@ fn every_nesting_agrees<R: Threads + Sync>(
             None => Pool::new(1, Masked(mask), Open),
             Some(schedule) => Pool::with(3, schedule, Masked(mask), Open),
         };
-        agree &= is_folded(
-            fold_rows(rt, alloc, &pool, f, &AllButLast { items }),
-            wanted,
-        );
+        let workers = Workers {
+            rt,
+            alloc,
+            pool: &pool,
+        };
+        agree &= is_folded(fold_rows(&workers, f, &AllButLast { items }), wanted);
     }
     agree
 }

@@ -12,14 +12,14 @@ returns-in-Some g c =
     let a = c.args.a.now in
     let b = c.args.b.now in
     let list : map Int c.in-Some.list.now ≡ b.ravel = ap (λ v. v.ravel) (sym c.in-Some.ensures.numbers) in
-    subst (λ r. IsAnswerOf (answer_of a.shape (member_outcome a r) Number) c.members.result) list c.members.ensures
+    subst (λ r. IsAnswerOf (answer_of a.shape (member_outcome a r) Number) c.membership.result) list c.membership.ensures
 
 pub returns : goal.returns
 returns g c =
     let a = c.args.a.now in
     let b = c.args.b.now in
     let list : map Chr c.in-Some-characters.list.now ≡ b.ravel = ap (λ v. v.ravel) (sym c.in-Some-characters.ensures.characters) in
-    subst (λ r. IsAnswerOf (answer_of a.shape (member_outcome a r) Number) c.members-2.result) list c.members-2.ensures
+    subst (λ r. IsAnswerOf (answer_of a.shape (member_outcome a r) Number) c.membership-2.result) list c.membership-2.ensures
 
 pub returns-in_default-numbers : goal.returns-in_default-numbers
 returns-in_default-numbers g c =

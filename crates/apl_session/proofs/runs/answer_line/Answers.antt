@@ -6,11 +6,11 @@ use Rattle.apl_session.specs.LineAnswer.{IsLineAnswered}
 use Rattle.apl_session.specs.Step.{session_semantics}
 use Rattle.apl_session.proofs.runs.answer_line.Goals as goal
 
-pub answer-requires : goal.answer-requires
-answer-requires g c =
+pub answer-requires-clause-unbroken : goal.answer-requires-clause-unbroken
+answer-requires-clause-unbroken g c =
     let no_bytes = eqb-true _ _ (sym c.is_empty.ensures ∙ c.if-is_empty.true) in
     let none : c.args.held.now.items ≡ [] = nil_from_length c.args.held.now.items (omega (arith, no_bytes, c.args.held.now.ok.0)) in
-    (c.type_bounds.sync-R, (c.type_bounds.sync-C, (c.type_bounds.sync-G, subst IsUnbroken (ap (λ held. held ++ c.args.end.now) none) c.requires)))
+    λ lifetimes outlives. subst IsUnbroken (ap (λ held. held ++ c.args.end.now) none) c.requires
 
 pub returns-then-is_empty-clause-answered : goal.returns-then-is_empty-clause-answered
 returns-then-is_empty-clause-answered g c ok =
