@@ -1,8 +1,9 @@
 //! Numbers and characters.
 use apl_array::{Array, Elem, Shape};
+use apl_pool::Reused;
 
 /// An element of an array of one kind: a number or a character.
-pub trait ElementType: Copy {
+pub trait ElementType: Reused {
     ghost use Rattle.std.specs.Prelude.{◌≡◌, vec_len};
     ghost use Rattle.apl_array.specs.declared.array.Elem.{Elem};
     ghost use Rattle.apl_array.specs.declared.array.Kind.{Kind};

@@ -8,6 +8,7 @@ ghost use Rattle.apl_reduce.specs.Products.{outer_row, inner_row};
 ghost use Rattle.apl_eval.specs.Functions.{monadic_column, dyadic_column, result_of, result_by, default_axis, function_axis, operator_axis, monadic_plain, dyadic_plain, reversed_along, reduced_along, dyadic_along, monadic_result, dyadic_result, index_result, assign_at_result};
 ghost use Rattle.apl_eval.specs.Refusals.{Answers};
 
+use crate::spent::let_go;
 use crate::workspace::Workspace;
 use apl_answer::OpFault;
 use apl_array::{Array, Axis};
@@ -19,6 +20,7 @@ use apl_pool::{Crew, Pool};
 use apl_print::Report;
 use apl_struct::axis_number;
 use std::alloc::Global;
+use std::rc::Rc;
 
 /// Why a function has no value.
 #[derive(Drop)]
@@ -118,6 +120,11 @@ impl<'a, W: Crew> Context<'a, W> {
     /// The memory.
     pub(crate) fn alloc(&self) -> Global {
         self.workers.alloc()
+    }
+
+    /// Keeps the numbers of a value for a later result, if they are many and nothing else has the value.
+    pub(crate) fn let_go(&self, value: Rc<Array>) {
+        let_go(self.workers.pool().kept(), value);
     }
 
     /// The threads, the memory and the pool, as functions of arrays take them.

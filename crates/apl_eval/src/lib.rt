@@ -7,6 +7,7 @@
 mod functions;
 mod laws;
 mod names;
+mod spent;
 mod stack;
 mod statement;
 mod workspace;

@@ -3,7 +3,9 @@ ghost use Rattle.std.specs.Prelude.{◌≡◌, None, Some, MatchOption, OnOk, On
 ghost use Rattle.std.specs.FinMap.{empty, get, insert};
 ghost use Rattle.apl_eval.specs.Names.{overlaid};
 
+use crate::spent::let_go;
 use apl_array::Array;
+use apl_pool::KeptList;
 use std::alloc::{AllocError, Global};
 use std::collections::HashMap;
 use std::marker::Model;
@@ -69,17 +71,20 @@ impl Names {
         self.values.clear();
     }
 
-    /// Gives the staged names their values: all of them, or none where room is refused.
-    pub(crate) fn keep(&mut self, staged: Names) -> Result<(), AllocError>
+    /// Gives the staged names their values: all of them, or none where room is refused. Those that they had before are let go.
+    pub(crate) fn keep(&mut self, staged: Names, kept: &KeptList) -> Result<(), AllocError>
         ensures ok { OnOk result (self.new ≡ overlaid staged self.old) }
         ensures err { OnErr result (self.new ≡ self.old) }
     {
         let Names { values } = staged;
         self.values.reserve(values.len())?;
         'staged: for (name, value) in values {
-            let Ok(_) = self.values.insert(name, value) else {
+            let Ok(before) = self.values.insert(name, value) else {
                 unreachable!()
             };
+            if let Some(before) = before {
+                let_go(kept, before);
+            }
         }
         Ok(())
     }

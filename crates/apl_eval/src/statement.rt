@@ -14,6 +14,7 @@ ghost use Rattle.apl_eval.specs.Steps.{step, stuck, onto, staged_in, HasValue, H
 
 use crate::functions::{Context, FunctionRefusal, dyadic_column, monadic_column};
 use crate::names::Names;
+use crate::spent::let_go;
 use crate::stack::{Stack, array_of};
 use crate::workspace::Workspace;
 use apl_array::Array;
@@ -154,6 +155,7 @@ fn apply_monadic<W: Crew>(
     let right = stack.pop_value();
     let axis = array_of(&axis);
     let answer = context.monadic(form, axis, &right);
+    context.let_go(right);
     put(
         stack,
         outcome_at(context.alloc(), monadic_column(form), answer),
@@ -175,6 +177,8 @@ fn apply_dyadic<W: Crew>(
     let right = stack.pop_value();
     let axis = array_of(&axis);
     let answer = context.dyadic(form, axis, &left, &right);
+    context.let_go(left);
+    context.let_go(right);
     put(
         stack,
         outcome_at(context.alloc(), dyadic_column(form), answer),
@@ -195,6 +199,7 @@ fn apply_index<W: Crew>(
     let slots = stack.pop_slots(context.alloc(), semicolons)?;
     let chosen = slots.arrays(context.alloc())?;
     let answer = context.index(&array, chosen.as_slice());
+    context.let_go(array);
     put(stack, outcome_at(context.alloc(), brackets.left, answer))
 }
 
@@ -334,11 +339,12 @@ pub fn eval<R: Threads + Sync, C: Cut + Sync, G: Gate + Sync>(
     match run(&context, &mut staged, program) {
         Ok(value) => {
             let shown = text_of(alloc, program, &value, workspace.width())?;
-            workspace.keep(staged)?;
+            workspace.keep(staged, pool.kept())?;
+            let_go(pool.kept(), value);
             Ok(shown)
         }
         Err(EvalStop::Error { report, column }) => {
-            workspace.keep(staged)?;
+            workspace.keep(staged, pool.kept())?;
             Err(EvalStop::Error { report, column })
         }
         Err(EvalStop::Memory) => Err(EvalStop::Memory),

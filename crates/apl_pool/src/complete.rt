@@ -10,7 +10,7 @@ use crate::kernel::{Kernel, Stop};
 use crate::pass::{Pass, fill_rooms};
 use crate::pieces::{Piece, Pieces};
 use crate::tasks::Values;
-use crate::work::write_piece;
+use crate::work::write_at;
 use std::thread::Threads;
 
 /// The values of one piece at its places in the list. If they aren't there yet, the first worker passes the gate and writes them.
@@ -37,7 +37,7 @@ where
         return Ok(());
     }
     gate.pass(0, piece.number);
-    write_piece(kernel, piece, &mut values[piece.from..piece.to])
+    write_at(kernel, piece, values)
 }
 
 /// The values of all pieces. Those of marked pieces are there already. The first worker writes the others, from place 0 upwards.

@@ -15,6 +15,7 @@ mod cut;
 mod ends;
 mod folds;
 mod gate;
+mod kept;
 mod kernel;
 mod pass;
 mod pieces;
@@ -29,6 +30,7 @@ mod workers;
 
 pub use cut::{Cut, Every};
 pub use gate::{Gate, Open};
+pub use kept::{KeptList, Reused};
 pub use kernel::{Fault, Kernel, MOST_PLACES, Stop};
 pub use pool::{MOST_WORKERS, Pool};
 pub use rows::{RowSummaries, Rows};

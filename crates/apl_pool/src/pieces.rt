@@ -25,6 +25,21 @@ pub(crate) struct Piece {
     pub to: usize,
 }
 
+impl Piece {
+    /// This piece and those after it, up to before the next one.
+    pub(crate) fn up_to(self, next: Piece) -> Piece
+        ensures number { result.number ≡ self.number }
+        ensures from { result.from ≡ self.from }
+        ensures to { result.to ≡ next.from }
+    {
+        Piece {
+            number: self.number,
+            from: self.from,
+            to: next.from,
+        }
+    }
+}
+
 /// All places cut into pieces. The cut was asked once for each piece.
 #[derive(Drop)]
 pub(crate) struct Pieces {

@@ -3,6 +3,7 @@ ghost use Rattle.std.specs.Prelude.{◌≡◌, ℕ, ◌+◌, ◌<◌, ◌≤◌,
 ghost use Rattle.apl_pool.specs.declared.kernel.TheConstants.{MOST_PLACES};
 ghost use Rattle.apl_pool.specs.declared.pool.TheConstants.{MOST_WORKERS};
 ghost use Rattle.apl_pool.specs.Pool.{AreValues, IsStopOf};
+ghost use Rattle.apl_pool.specs.Parts.{AreValuesFrom, IsStopFrom};
 ghost use Rattle.apl_pool.specs.Summaries.{IsSummaryOf, AreFolds};
 
 use crate::complete::fill_values;
@@ -10,6 +11,7 @@ use crate::copies::Copies;
 use crate::cut::Cut;
 use crate::folds::{fold_rows_alone, fold_rows_together};
 use crate::gate::Gate;
+use crate::kept::KeptList;
 use crate::kernel::{Kernel, MOST_PLACES, Stop};
 use crate::pass::Pass;
 use crate::pieces::piece_end;
@@ -17,7 +19,7 @@ use crate::rows::{OneRow, RowSummaries, Rows};
 use crate::schedule::Schedule;
 use crate::shares::Shares;
 use crate::summary::Summary;
-use crate::work::append_all;
+use crate::work::{append_all, write_all};
 use std::alloc::{AllocError, Global};
 use std::thread::Threads;
 
@@ -27,13 +29,14 @@ pub const MOST_WORKERS: u8 = 64;
 /// The most places for which room is taken before any value is computed.
 const MOST_UNTRIED: usize = 1 << 16;
 
-/// Workers, a cutting and a gate.
+/// Workers, a cutting and a gate, and the list that was let go last.
 #[derive(Drop)]
 pub struct Pool<C, G> {
     workers: u8,
     schedule: Schedule,
     cut: C,
     gate: G,
+    kept: KeptList,
     ghost some: { 1 ≤ workers },
     ghost most: { workers ≤ MOST_WORKERS },
 }
@@ -57,7 +60,13 @@ impl<C: Cut + Sync, G: Gate + Sync> Pool<C, G> {
             schedule,
             cut,
             gate,
+            kept: KeptList::new(),
         }
+    }
+
+    /// The list that was let go last.
+    pub fn kept(&self) -> &KeptList {
+        &self.kept
     }
 
     /// Whether several workers share a pass over `count` places. With one worker or one piece none do. It takes no memory.
@@ -118,19 +127,36 @@ impl<C: Cut + Sync, G: Gate + Sync> Pool<C, G> {
         ensures values { IfOk result (λ v. AreValues (K.outcome kernel.now) (K.place_count kernel.now) v.items) }
         ensures stop { IfErr result (IsStopOf (K.outcome kernel.now) (K.place_count kernel.now)) }
     {
+        let mut values = values;
+        self.write_over(rt, alloc, kernel, values.as_mut_slice())?;
+        Ok(values)
+    }
+
+    /// Writes the values at all places over those of a list.
+    fn write_over<R: Threads + Sync, K: Kernel + Sync>(
+        &self,
+        rt: &R,
+        alloc: Global,
+        kernel: &K,
+        values: &mut [K::Out],
+    ) -> Result<(), Stop>
+    where
+        K::Out: Copy + Send,
+        requires room { length values.old ≡ K.place_count kernel.now }
+        ensures ok { OnOk result (AreValuesFrom (K.outcome kernel.now) 0 (K.place_count kernel.now) values.new) }
+        ensures stop { IfErr result (IsStopFrom (K.outcome kernel.now) 0 (K.place_count kernel.now)) }
+        ensures len { length values.new ≡ length values.old }
+    {
         let count = kernel.count();
         if count == 0 {
-            return Ok(values);
+            return Ok(());
         }
         let end = piece_end(&self.cut, 0, count);
+        if self.workers == 1 || end == count {
+            return write_all(kernel, &self.cut, &self.gate, self.workers - 1, end, values);
+        }
         let shares = Shares::new(alloc, &self.cut, 1, count, end, self.workers)?;
-        let mut values = values;
-        fill_values(
-            &self.pass(rt, alloc, &shares),
-            kernel,
-            values.as_mut_slice(),
-        )?;
-        Ok(values)
+        fill_values(&self.pass(rt, alloc, &shares), kernel, values)
     }
 
     /// The summary of the items at all places, in their order, or the least place that has a fault, and

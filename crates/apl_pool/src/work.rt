@@ -1,6 +1,6 @@
 //! What a worker does with a piece and with its share: it writes the values into the room for them.
-ghost use Rattle.std.specs.Prelude.{◌≡◌, ℕ, ◌+◌, ◌<◌, ◌≤◌, ◌^◌, OnOk, IfOk, IfErr, length, slice_index, vec_len};
-ghost use Rattle.apl_pool.specs.Parts.{AreValuesFrom, IsStopFrom, IsPart};
+ghost use Rattle.std.specs.Prelude.{◌≡◌, ℕ, ◌+◌, ◌<◌, ◌≤◌, ◌^◌, ◌⊎◌, OnOk, IfOk, IfErr, length, slice_index, slice_index_or, vec_len};
+ghost use Rattle.apl_pool.specs.Parts.{AreValuesFrom, AreValuesAt, IsStopFrom, IsPart};
 ghost use Rattle.apl_pool.specs.Runs.{AreWritten};
 
 use crate::cut::Cut;
@@ -92,6 +92,26 @@ where
 {
     let first = write_runs(kernel, piece.from, piece.to, room);
     write_places(kernel, piece.from, first, piece.to, room)
+}
+
+/// Puts the values of a piece at its places in the list.
+pub(crate) fn write_at<K: Kernel>(
+    kernel: &K,
+    piece: Piece,
+    values: &mut [K::Out],
+) -> Result<(), Stop>
+where
+    K::Out: Copy,
+    requires order { piece.from ≤ piece.to }
+    requires places { piece.to ≤ K.place_count kernel.now }
+    requires most { piece.to ≤ MOST_PLACES }
+    requires room { piece.to ≤ length values.old }
+    ensures ok { OnOk result (AreValuesAt (K.outcome kernel.now) piece.from piece.to values.new) }
+    ensures kept { (k : ℕ) (d : K.Out) → (k < piece.from) ⊎ (piece.to ≤ k) → slice_index_or values.new k d ≡ slice_index_or values.old k d }
+    ensures len { length values.new ≡ length values.old }
+    ensures stop { IfErr result (IsStopFrom (K.outcome kernel.now) piece.from piece.to) }
+{
+    write_piece(kernel, piece, &mut values[piece.from..piece.to])
 }
 
 /// Puts the values of some more places of a piece after those of all places before. They are of the first place alone, or of a stretch of
@@ -196,15 +216,42 @@ where
     };
     while piece.from < count {
         let next = pass_pieces(cut, gate, worker, piece, count);
-        let pieces = Piece {
-            number: piece.number,
-            from: piece.from,
-            to: next.from,
-        };
-        values = append_piece(kernel, pieces, values)?;
+        values = append_piece(kernel, piece.up_to(next), values)?;
         piece = next;
     }
     Ok(values)
+}
+
+/// The values at all places, written over those of a list by one worker who has all pieces. The first one ends at `end`.
+pub(crate) fn write_all<K: Kernel, C: Cut, G: Gate>(
+    kernel: &K,
+    cut: &C,
+    gate: &G,
+    worker: u8,
+    end: usize,
+    values: &mut [K::Out],
+) -> Result<(), Stop>
+where
+    K::Out: Copy,
+    requires some { 0 < end }
+    requires within { end ≤ K.place_count kernel.now }
+    requires room { length values.old ≡ K.place_count kernel.now }
+    ensures ok { OnOk result (AreValuesFrom (K.outcome kernel.now) 0 (K.place_count kernel.now) values.new) }
+    ensures stop { IfErr result (IsStopFrom (K.outcome kernel.now) 0 (K.place_count kernel.now)) }
+    ensures len { length values.new ≡ length values.old }
+{
+    let count = kernel.count();
+    let mut piece = Piece {
+        number: 0,
+        from: 0,
+        to: end,
+    };
+    while piece.from < count {
+        let next = pass_pieces(cut, gate, worker, piece, count);
+        write_at(kernel, piece.up_to(next), values)?;
+        piece = next;
+    }
+    Ok(())
 }
 
 /// The piece after this one, which has no places if this is the last.

@@ -4,6 +4,7 @@ ghost use Rattle.apl_pool.specs.Pool.{AreValues, IsStopOf};
 
 use crate::cut::Cut;
 use crate::gate::Gate;
+use crate::kept::Reused;
 use crate::kernel::{Kernel, Stop};
 use crate::pool::Pool;
 use std::alloc::Global;
@@ -56,12 +57,16 @@ impl<R: Threads + Sync, C: Cut + Sync, G: Gate + Sync> Crew for Workers<'_, R, C
 }
 
 /// What the pool of these workers answers for a kernel, as `Pool::fill`. It is the value at each place, or the least place that has a
-/// fault, and that fault. `Memory` may come in place of any answer.
+/// fault, and that fault. `Memory` may come in place of any answer. The values may be written over those of the list that the pool keeps.
 pub fn fill<W: Crew, K: Kernel + Sync>(workers: &W, kernel: &K) -> Result<Vec<K::Out>, Stop>
 where
-    K::Out: Copy + Send,
+    K::Out: Reused + Send,
     ensures values { IfOk result (λ v. AreValues (K.outcome kernel.now) (K.place_count kernel.now) v.items) }
     ensures stop { IfErr result (IsStopOf (K.outcome kernel.now) (K.place_count kernel.now)) }
 {
-    workers.pool().fill(workers.rt(), workers.alloc(), kernel)
+    let (rt, alloc, pool) = (workers.rt(), workers.alloc(), workers.pool());
+    match K::Out::reused(pool.kept(), kernel.count()) {
+        Some(values) => pool.fill_into(rt, alloc, kernel, values),
+        None => pool.fill(rt, alloc, kernel),
+    }
 }

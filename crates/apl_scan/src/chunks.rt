@@ -72,8 +72,8 @@ fn carry_on<S: Summary<Item = i64> + Copy + Drop>(
     }
 }
 
-/// For each chunk the summary of its line up to the end of the chunk. If several workers made these, there are also copies of a number, one
-/// for each number.
+/// For each chunk the summary of its line up to the end of the chunk. If several workers made these and the pool has no list for the folds,
+/// there are also copies of a number, one for each number.
 pub(crate) fn summarize<S: Summary<Item = i64> + Copy + Drop + Send, W: Crew>(
     workers: &W,
     chunks: &Chunks,
@@ -83,7 +83,12 @@ pub(crate) fn summarize<S: Summary<Item = i64> + Copy + Drop + Send, W: Crew>(
         IfOk result (λ f. AreUpToChunks S.step (λ k. S.item_count k.summary) (λ k. S.outcome k.summary) c.numbers.now c.items c.per_line c.rows f.summaries.items) }
     ensures memory { IfErr result (λ stop. stop ≡ Stop.Memory) }
 {
-    let count = chunks.numbers.len();
+    let places = chunks.numbers.len();
+    let count = if workers.pool().kept().has(places) {
+        0
+    } else {
+        places
+    };
     // 1 and not 0: for a number of equal bytes the compiler calls `memset`, which takes longer than a loop.
     let mut folds: RowSummaries<BoundedSummary<S>> = workers
         .pool()

@@ -7,7 +7,7 @@ ghost use Rattle.apl_session.specs.LineAnswer.{IsLineAnswered};
 ghost use Rattle.apl_session.specs.Step.{session_semantics};
 
 use crate::sessions::Session;
-use apl_pool::Crew;
+use apl_pool::{Crew, KeptList};
 use apl_print::Sink;
 use std::marker::Model;
 use thiserror::Error;
@@ -57,6 +57,11 @@ impl<'a, W: Crew> Interpreter<'a, W> {
             workers,
             session: Session::new(workers.alloc()),
         }
+    }
+
+    /// The list that the pool keeps.
+    pub(crate) fn kept(&self) -> &'a KeptList {
+        self.workers.pool().kept()
     }
 
     /// Answers a line. If the write fails, the session is as after the line, and a beginning of the answer's text was written.

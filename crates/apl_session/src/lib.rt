@@ -13,6 +13,7 @@ mod runs;
 mod sessions;
 mod sources;
 mod streams;
+mod trying;
 
 pub use answering::{one_run, one_step, run, some_run, some_step};
 pub use endings::ending;

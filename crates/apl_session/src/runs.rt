@@ -8,6 +8,7 @@ ghost use Rattle.apl_session.specs.Progress.{IsBlockAnswered};
 
 use crate::interpreter::{Interpreter, Next, RunFault};
 use crate::lines::split_line;
+use crate::trying::hold;
 use apl_pool::Crew;
 use apl_print::Sink;
 
@@ -33,7 +34,7 @@ fn answer_line<W: Crew, S: Sink>(
     if held.is_empty() {
         return interpreter.answer(end, sink);
     }
-    held.extend_from_slice(end).map_err(|_| RunFault::Memory)?;
+    hold(interpreter.kept(), held, end).map_err(|_| RunFault::Memory)?;
     let next = interpreter.answer(held.as_slice(), sink)?;
     held.clear();
     Ok(next)
@@ -60,7 +61,7 @@ pub(crate) fn answer_block<W: Crew, S: Sink>(
             Err(fault) => return Err(fault),
         }
     }
-    match held.extend_from_slice(rest) {
+    match hold(interpreter.kept(), held, rest) {
         Ok(()) => Ok(Next::Go),
         Err(_) => Err(RunFault::Memory),
     }

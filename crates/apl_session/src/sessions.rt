@@ -13,14 +13,15 @@ ghost use Rattle.apl_session.specs.LineStep.{IsLineStep};
 
 use crate::interpreter::{Next, RunFault};
 use crate::lines::trim_return;
+use crate::trying::{evaluate, read_line};
 use apl_array::Origin;
-use apl_eval::{EvalStop, Shown, Workspace, eval};
+use apl_eval::{EvalStop, Shown, Workspace};
 use apl_grammar::Program;
 use apl_pool::{Crew, Cut, Gate, Pool, Workers};
 use apl_print::{
     Reply, Report, Sink, SinkFault, put_all, reply as put_reply, report as put_report,
 };
-use apl_syntax::{Command, Line, ReadStop, read};
+use apl_syntax::{Command, Line, ReadStop};
 use std::alloc::Global;
 use std::marker::Model;
 use std::thread::Threads;
@@ -81,7 +82,7 @@ fn answer<W: Crew, S: Sink>(
     ensures answered { IsLineOutcome IsLineStep workspace.old workspace.new line.now (S.taken sink.old) (S.taken sink.new) result }
     ensures failures { CountsFailure (S.failures sink.old) (S.failures sink.new) result }
 {
-    match read(workers.alloc(), line) {
+    match read_line(workers, line) {
         Ok(Line::Blank) => Ok(Next::Go),
         Ok(Line::Command(command)) => answer_command(workspace, command, line, sink),
         Ok(Line::Statement(program)) => answer_statement(workspace, workers, &program, line, sink),
@@ -157,8 +158,7 @@ fn answer_statement<W: Crew, S: Sink>(
     ensures answered { IsLineOutcome IsLineStep workspace.old workspace.new line.now (S.taken sink.old) (S.taken sink.new) result }
     ensures failures { CountsFailure (S.failures sink.old) (S.failures sink.new) result }
 {
-    let (rt, alloc, pool) = (workers.rt(), workers.alloc(), workers.pool());
-    match eval(workspace, rt, alloc, pool, program) {
+    match evaluate(workspace, workers, program) {
         Ok(Shown::Silent) => Ok(Next::Go),
         Ok(Shown::Text(text)) => go_on(put_all(sink, text.as_bytes())),
         Err(EvalStop::Error { report, column }) => {

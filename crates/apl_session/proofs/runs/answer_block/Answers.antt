@@ -40,7 +40,7 @@ returns-in-Err-clause-outcome g c =
     block_fails session_semantics c.in-Err.fault _ _ _ _ _ _ _ _ _ c.answer_line.new.held.items _ _ _ split.0 unbroken c.lines.invariant.few c.lines.invariant.progress c.in-Err.ensures.answered
     (λ e. let same = c.in-Err.ensures.memory e in (same.0, ap g.S.Sink.taken same.1, same.2))
 
-pub returns-in-Err-extend_from_slice-clause-outcome : goal.returns-in-Err-extend_from_slice-clause-outcome
-returns-in-Err-extend_from_slice-clause-outcome g c =
-    let some : 0 < length c.lines.rest.now = omega (arith, c.in-Err-extend_from_slice.ensures.full, c.lines.held.ok.0) in
+pub returns-in-Err-hold-clause-outcome : goal.returns-in-Err-hold-clause-outcome
+returns-in-Err-hold-clause-outcome g c =
+    let some : 0 < length c.lines.rest.now = c.in-Err-hold.ensures.some in
     end_unanswered session_semantics _ _ _ _ c.lines.held.items c.lines.rest.now _ _ c.lines.invariant.unbroken c.in_default.ensures.none some c.lines.invariant.progress
