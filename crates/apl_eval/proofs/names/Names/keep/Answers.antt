@@ -18,13 +18,8 @@ unreachable-requires c =
     let is : IsOk c.insert.result = c.insert.ensures.succeeds room in
     absurd (search (rules, is, c.in_default.is))
 
-pub staged-preserved-in-Ok : goal.staged-preserved-in-Ok
-staged-preserved-in-Ok c =
-    Keeps-more _ c.in-Some.name c.in-Some.value c.next.new.self c.staged.self-inside.values c.insert.new.self
-    (rw c.in-Some.ensures.steps at c.staged.invariant) c.in-Ok.ensures.updates c.in-Ok.ensures.spare
-
-pub staged-preserved-in-Ok-2 : goal.staged-preserved-in-Ok-2
-staged-preserved-in-Ok-2 c =
+pub staged-preserved-in-Some-before : goal.staged-preserved-in-Some-before
+staged-preserved-in-Some-before c =
     Keeps-more _ c.in-Some.name c.in-Some.value c.next.new.self c.staged.self-inside.values c.insert.new.self
     (rw c.in-Some.ensures.steps at c.staged.invariant) c.in-Ok.ensures.updates c.in-Ok.ensures.spare
 
