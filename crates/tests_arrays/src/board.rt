@@ -86,19 +86,24 @@ fn split_shares(board: &Board, seat: BoardSeat, share: u8) -> ([u8; 2], BoardSea
     }
 }
 
+/// The shares after a split of a seat with all 64, and after a split of one more share.
+fn two_splits(alloc: Global, share: u8) -> Result<([u8; 2], [u8; 2]), AllocError> {
+    let (board, seat) = Board::new(alloc, 3, 64)?;
+    let (shares, seat) = split_shares(&board, seat, share);
+    let (then, _) = split_shares(&board, seat, 1);
+    Ok((shares, then))
+}
+
 /// Every share that can be cut off a seat with all 64, and those that can't. These leave it as it was: one can be cut off it then.
 #[test]
 fn board_split(rt: HostRuntime) -> Result<(), Fail> {
     for share in 0u8..=65 {
-        let (board, seat) = Board::new(rt.alloc(), 3, 64)?;
-        let (shares, seat) = split_shares(&board, seat, share);
-        let (then, _) = split_shares(&board, seat, 1);
         let wanted = match share {
             63 => ([1, 63], [1, 0]),
             1..=62 => ([64 - share, share], [63 - share, 1]),
             _ => ([64, 0], [63, 1]),
         };
-        assert!(rt; (shares, then) == wanted, "{share}");
+        assert!(rt; two_splits(rt.alloc(), share)? == wanted, "{share}");
     }
     Ok(())
 }
