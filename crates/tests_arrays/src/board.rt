@@ -21,24 +21,44 @@ fn cut_one(board: &Board, seat: BoardSeat) -> (BoardSeat, BoardSeat)
     }
 }
 
+/// What a seat sees at first, and after each report of two seats.
+fn four_looks(board: &Board, first: &mut BoardSeat, second: &mut BoardSeat) -> [Option<u32>; 4]
+    requires { IsSeatOf board.now first.old × IsSeatOf board.now second.old }
+    ensures first { IsSeatOf board.now first.new × ((view first.new).share ≡ (view first.old).share) }
+    ensures second { IsSeatOf board.now second.new × ((view second.new).share ≡ (view second.old).share) }
+{
+    let mut least = [board.least(second); 4];
+    board.report(first, 5);
+    least[1] = board.least(second);
+    board.report(second, 2);
+    least[2] = board.least(first);
+    board.report(first, 4);
+    least[3] = board.least(first);
+    least
+}
+
+/// What two seats are given in turn.
+fn five_claims(board: &Board, first: &mut BoardSeat, second: &mut BoardSeat) -> [Option<u32>; 5]
+    requires { IsSeatOf board.now first.old × IsSeatOf board.now second.old }
+    ensures first { IsSeatOf board.now first.new × ((view first.new).share ≡ (view first.old).share) }
+    ensures second { IsSeatOf board.now second.new × ((view second.new).share ≡ (view second.old).share) }
+{
+    let mut given = [board.claim(second); 5];
+    given[1] = board.claim(first);
+    given[2] = board.claim(second);
+    given[3] = board.claim(first);
+    given[4] = board.claim(second);
+    given
+}
+
 /// Two seats see what the other reports, and share the numbers.
 #[test]
 fn board_two(rt: HostRuntime) -> Result<(), Fail> {
     let (board, seat) = Board::new(rt.alloc(), 3, 2)?;
     let (mut first, mut second) = cut_one(&board, seat);
     let shares = [first.share(), second.share()];
-    let mut least = [board.least(&mut second); 4];
-    board.report(&mut first, 5);
-    least[1] = board.least(&mut second);
-    board.report(&mut second, 2);
-    least[2] = board.least(&mut first);
-    board.report(&mut first, 4);
-    least[3] = board.least(&mut first);
-    let mut given = [board.claim(&mut second); 5];
-    given[1] = board.claim(&mut first);
-    given[2] = board.claim(&mut second);
-    given[3] = board.claim(&mut first);
-    given[4] = board.claim(&mut second);
+    let least = four_looks(&board, &mut first, &mut second);
+    let given = five_claims(&board, &mut first, &mut second);
     let seat = board.join(first, second);
     let closed = board.close(seat);
     let wanted = Closed {
