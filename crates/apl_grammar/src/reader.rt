@@ -1,5 +1,5 @@
 //! From tokens to operations, in one pass from the right.
-ghost use Rattle.std.specs.Prelude.{◌≡◌, ◌<◌, ◌++◌, ◌∷◌, [], List, Option, Some, None, reverse, IfOk, IfErr, IfSome, OnOk, option_and_then, vec_len};
+ghost use Rattle.std.specs.Prelude.{◌≡◌, ◌<◌, ◌++◌, ◌∷◌, [], List, Option, Some, None, reverse, IfOk, IfErr, IfSome, OnOk, option_and_then, option_map, ℕ, vec_len};
 ghost use Rattle.apl_grammar.specs.Automaton.{Machine, machine, after_operand, with_dyadic, with_index, stack_for_operand, with_operand, with_name, expression_operations, with_leading_function, with_monadic, with_function, leading_dot, with_leading_dot, with_dot, with_jot, with_arrow, closed_group, with_open_paren, with_close_paren, with_close_bracket, with_slot, with_next_slot, with_semicolon, closed_list, with_open_bracket, step, without_empty_places, statement_operations, run, IsRefusedBy, stack_of, machine_of};
 ghost use Rattle.apl_grammar.specs.Functions.{dyadic_counterpart};
 ghost use Rattle.apl_grammar.specs.declared.program.Operation.{Operation};
@@ -171,6 +171,16 @@ impl Reader {
         Ok(())
     }
 
+    /// What waits innermost.
+    #[inline(always)]
+    fn pop_pending(&mut self) -> Option<Pending>
+        ensures some { IfSome result (λ p. stack_of self.old ≡ p ∷ stack_of self.new) }
+        ensures none { result ≡ None → stack_of self.old ≡ [] }
+        ensures operations { self.new.operations ≡ self.old.operations }
+    {
+        self.stack.pop()
+    }
+
     /// The operation that waits for the operand which has just ended.
     fn pop_operation(&mut self) -> Option<Operation>
         ensures some { IfSome result (λ o. stack_of self.old ≡ Pending.Operation o ∷ stack_of self.new) }
@@ -236,6 +246,20 @@ impl Reader {
         Ok(())
     }
 
+    /// The function before an index of one slot is dyadic: the index waits for its array, and the function for its left argument.
+    fn push_undecided_index(
+        &mut self,
+        undecided: MaybeUndecided,
+        brackets: Brackets,
+    ) -> Result<(), TokenRefusal>
+        ensures ok { OnOk result (option_map (with_index brackets) (option_and_then (λ p. with_dyadic p.function p.axis (stack_of self.old)) undecided) ≡ Some (stack_of self.new)) }
+        ensures err { result ≡ Err TokenRefusal.Syntax → option_and_then (λ p. with_dyadic p.function p.axis (stack_of self.old)) undecided ≡ None }
+        ensures operations { self.new.operations ≡ self.old.operations }
+    {
+        self.push_undecided(undecided)?;
+        self.push_index(brackets)
+    }
+
     /// An operand ends here: what wants it waits for it.
     fn want_operand(&mut self, state: State) -> Result<(), TokenRefusal>
         ensures ok { OnOk result (stack_for_operand state (stack_of self.old) ≡ Some (stack_of self.new)) }
@@ -246,8 +270,7 @@ impl Reader {
             State::OperandWanted => Ok(()),
             State::LeadingFunction(function, axis) => self.push_dyadic(function, axis),
             State::LeadingBrackets(brackets, undecided) => {
-                self.push_undecided(undecided)?;
-                self.push_index(brackets)
+                self.push_undecided_index(undecided, brackets)
             }
             _ => Err(TokenRefusal::Syntax),
         }
@@ -355,7 +378,7 @@ impl Reader {
         ensures ok { OnOk result (with_function self.old.operations (stack_of self.old) OperandWanted column glyph ≡ Some (machine_of self.new)) }
         ensures err { result ≡ Err TokenRefusal.Syntax → with_function self.old.operations (stack_of self.old) OperandWanted column glyph ≡ None }
     {
-        let Some(Pending::Operation(Operation::Dyadic(slash, axis))) = self.stack.pop() else {
+        let Some(Pending::Operation(Operation::Dyadic(slash, axis))) = self.pop_pending() else {
             return Err(TokenRefusal::Syntax);
         };
         let Some(function) = reduced(column, glyph, &slash) else {
@@ -433,7 +456,7 @@ impl Reader {
                     None => Err(TokenRefusal::Syntax),
                 }
             }
-            State::OperandWanted => match self.stack.pop() {
+            State::OperandWanted => match self.pop_pending() {
                 Some(Pending::Operation(Operation::Dyadic(function, axis))) => {
                     self.set_leading_dot(dot, function, axis)
                 }
@@ -469,18 +492,29 @@ impl Reader {
         Ok(())
     }
 
+    /// The parenthesis on the right, if the innermost open bracket is one.
+    fn pop_group(&mut self) -> Option<usize>
+        ensures some { IfSome result (λ right. stack_of self.old ≡ Pending.Group right ∷ stack_of self.new) }
+        ensures none { result ≡ None → (os : List (Option Operation)) (l : ℕ) → closed_group l os (stack_of self.old) ≡ None }
+        ensures operations { self.new.operations ≡ self.old.operations }
+    {
+        let popped = self.pop_pending();
+        match &popped {
+            Some(Pending::Group(right)) => Some(*right),
+            _ => None,
+        }
+    }
+
     fn take_open_paren(&mut self, state: State, left: usize) -> Result<(), TokenRefusal>
         ensures ok { OnOk result (with_open_paren self.old.operations (stack_of self.old) state left ≡ Some (machine_of self.new)) }
         ensures err { result ≡ Err TokenRefusal.Syntax → with_open_paren self.old.operations (stack_of self.old) state left ≡ None }
     {
         self.end_expression(state)?;
-        match self.stack.pop() {
-            Some(Pending::Group(right)) => {
-                self.emit(Operation::Group(Brackets { left, right }))?;
-                self.complete()
-            }
-            _ => Err(TokenRefusal::Syntax),
-        }
+        let Some(right) = self.pop_group() else {
+            return Err(TokenRefusal::Syntax);
+        };
+        self.emit(Operation::Group(Brackets { left, right }))?;
+        self.complete()
     }
 
     fn take_close_paren(&mut self, state: State, right: usize) -> Result<(), TokenRefusal>
@@ -541,7 +575,7 @@ impl Reader {
         ensures ok { OnOk result (with_next_slot column self.old.operations (stack_of self.old) ≡ Some (machine_of self.new)) }
         ensures err { result ≡ Err TokenRefusal.Syntax → with_next_slot column self.old.operations (stack_of self.old) ≡ None }
     {
-        match self.stack.pop() {
+        match self.pop_pending() {
             Some(Pending::Index(right, mut semicolons)) => {
                 semicolons.push(column)?;
                 self.push_pending(Pending::Index(right, semicolons))
@@ -573,7 +607,7 @@ impl Reader {
         ensures ok { OnOk result (closed_list is_empty left self.old.operations (stack_of self.old) ≡ Some (machine_of self.new)) }
         ensures err { result ≡ Err TokenRefusal.Syntax → closed_list is_empty left self.old.operations (stack_of self.old) ≡ None }
     {
-        match self.stack.pop() {
+        match self.pop_pending() {
             Some(Pending::Index(right, semicolons)) => {
                 let brackets = Brackets { left, right };
                 self.push_pending(Pending::Operation(Operation::Index(semicolons, brackets)))
@@ -587,10 +621,9 @@ impl Reader {
                 Ok(())
             }
             Some(Pending::AxisOrIndex(right, undecided)) => {
-                self.push_undecided(undecided)?;
-                self.push_index(Brackets { left, right })?;
+                let pushed = self.push_undecided_index(undecided, Brackets { left, right });
                 self.state = State::OperandWanted;
-                Ok(())
+                pushed
             }
             _ => Err(TokenRefusal::Syntax),
         }

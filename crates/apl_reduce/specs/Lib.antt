@@ -7,6 +7,7 @@ pub mod Products
 pub mod Decoding
 pub mod Encoding
 pub mod Digits
+pub mod Filled
 pub mod Folded
 pub mod Fronts
 pub mod Carrying

@@ -1,10 +1,10 @@
 //! The items along an axis, folded at each place of the result.
-ghost use Rattle.std.specs.Prelude.{◌≡◌, ℕ, ◌+◌, ◌-◌, ◌*◌, ◌/◌, ◌%◌, ◌<◌, ◌≤◌, true, IfOk, IfErr, length, map, remove, slice_index, slice_index_or, drop};
+ghost use Rattle.std.specs.Prelude.{◌≡◌, ℕ, ◌+◌, ◌-◌, ◌*◌, ◌/◌, ◌%◌, ◌<◌, ◌≤◌, true, length, map, remove, slice_index, slice_index_or, drop};
 ghost use Rattle.apl_pool.specs.Runs.{AreWritten};
 ghost use Rattle.apl_array.specs.declared.array.Elem.TheVariants.{Int, Chr};
 ghost use Rattle.apl_array.specs.Shape.{count_of};
 ghost use Rattle.apl_pool.specs.declared.kernel.TheConstants.{MOST_PLACES};
-ghost use Rattle.apl_pool.specs.Pool.{AreValues, IsStopOf};
+ghost use Rattle.apl_reduce.specs.Filled.{IsFilled};
 ghost use Rattle.apl_reduce.specs.Folded.{fold_at};
 
 use crate::folded_rows::{fold_last_rows, fold_rows, from_place};
@@ -192,8 +192,7 @@ fn fill_folds<F: Function + Sync, T: Foldable + Sync, W: Crew>(
     workers: &W,
     axis: &AxisItems<T>,
 ) -> Result<Vec<i64>, Stop>
-    ensures values { IfOk result (λ v. AreValues (λ place. fold_at F.FUNCTION (map T.elem_of axis.now.elements.now) axis.now.items axis.now.block axis.now.inner place) axis.now.count v.items) }
-    ensures stop { IfErr result (IsStopOf (λ place. fold_at F.FUNCTION (map T.elem_of axis.now.elements.now) axis.now.items axis.now.block axis.now.inner place) axis.now.count) }
+    ensures { IsFilled (fold_at F.FUNCTION (map T.elem_of axis.now.elements.now) axis.now.items axis.now.block axis.now.inner) axis.now.count result }
 {
     let kernel = AxisFolds::<T, F> {
         axis,
@@ -208,8 +207,7 @@ pub(crate) fn fill_number_folds<W: Crew>(
     f: ScalarFunction,
     axis: &AxisItems<i64>,
 ) -> Result<Vec<i64>, Stop>
-    ensures values { IfOk result (λ v. AreValues (λ place. fold_at f (map Int axis.now.elements.now) axis.now.items axis.now.block axis.now.inner place) axis.now.count v.items) }
-    ensures stop { IfErr result (IsStopOf (λ place. fold_at f (map Int axis.now.elements.now) axis.now.items axis.now.block axis.now.inner place) axis.now.count) }
+    ensures { IsFilled (fold_at f (map Int axis.now.elements.now) axis.now.items axis.now.block axis.now.inner) axis.now.count result }
 {
     if shares_items(workers, f, axis.count, axis.items) {
         return apl_summary::fold_rows(workers, f, &ItemRows { items: axis });
@@ -223,8 +221,7 @@ pub(crate) fn fill_character_folds<W: Crew>(
     f: ScalarFunction,
     axis: &AxisItems<char>,
 ) -> Result<Vec<i64>, Stop>
-    ensures values { IfOk result (λ v. AreValues (λ place. fold_at f (map Chr axis.now.elements.now) axis.now.items axis.now.block axis.now.inner place) axis.now.count v.items) }
-    ensures stop { IfErr result (IsStopOf (λ place. fold_at f (map Chr axis.now.elements.now) axis.now.items axis.now.block axis.now.inner place) axis.now.count) }
+    ensures { IsFilled (fold_at f (map Chr axis.now.elements.now) axis.now.items axis.now.block axis.now.inner) axis.now.count result }
 {
     with_type!(f, fill_folds::<F, char, W>(workers, axis))
 }

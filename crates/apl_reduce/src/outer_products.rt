@@ -6,6 +6,7 @@ ghost use Rattle.apl_array.specs.Valences.{has_dyadic};
 ghost use Rattle.apl_pool.specs.declared.kernel.TheConstants.{MOST_PLACES};
 ghost use Rattle.apl_pool.specs.Pool.{AreValues, IsStopOf};
 ghost use Rattle.apl_answer.specs.Rows.{Answers};
+ghost use Rattle.apl_reduce.specs.Filled.{IsFilled};
 ghost use Rattle.apl_reduce.specs.Items.{outer_number, IsOuterRun};
 ghost use Rattle.apl_reduce.specs.Products.{outer_row};
 
@@ -141,8 +142,7 @@ fn fill_outer_typed<F: Function + Copy + Sync, W: Crew>(
     right: &[i64],
 ) -> Result<Vec<i64>, Stop>
     requires { length left.now * length right.now ≤ MOST_PLACES }
-    ensures values { IfOk result (λ v. AreValues (λ place. outer_number F.FUNCTION (map Int left.now) (map Int right.now) place) (length left.now * length right.now) v.items) }
-    ensures stop { IfErr result (IsStopOf (λ place. outer_number F.FUNCTION (map Int left.now) (map Int right.now) place) (length left.now * length right.now)) }
+    ensures { IsFilled (outer_number F.FUNCTION (map Int left.now) (map Int right.now)) (length left.now * length right.now) result }
 {
     fill_outer(workers, left, right, Typed::<F>(PhantomData))
 }
@@ -155,8 +155,7 @@ fn fill_outer_numbers<W: Crew>(
     right: &[i64],
 ) -> Result<Vec<i64>, Stop>
     requires { length left.now * length right.now ≤ MOST_PLACES }
-    ensures values { IfOk result (λ v. AreValues (λ place. outer_number f (map Int left.now) (map Int right.now) place) (length left.now * length right.now) v.items) }
-    ensures stop { IfErr result (IsStopOf (λ place. outer_number f (map Int left.now) (map Int right.now) place) (length left.now * length right.now)) }
+    ensures { IsFilled (outer_number f (map Int left.now) (map Int right.now)) (length left.now * length right.now) result }
 {
     with_type!(f, fill_outer_typed::<F, W>(workers, left, right))
 }

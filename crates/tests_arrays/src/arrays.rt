@@ -36,6 +36,22 @@ fn shapes(rt: HostRuntime) -> Result<(), Fail> {
     Ok(())
 }
 
+/// Whether each of 24 places has its indexes along three axes.
+fn has_coordinates(shape: &Shape) -> bool {
+    if shape.rank() != 3 || shape.count() != 24 {
+        return false;
+    }
+    for place in 0..24 {
+        let plane = shape.coordinate(place, 0);
+        let row = shape.coordinate(place, 1);
+        let column = shape.coordinate(place, 2);
+        if (plane, row, column) != (place / 12, place / 4 % 3, place % 4) {
+            return false;
+        }
+    }
+    true
+}
+
 /// Each place of a shape is found again from the indexes along its axes.
 #[test]
 fn places(rt: HostRuntime) -> Result<(), Fail> {
@@ -44,26 +60,35 @@ fn places(rt: HostRuntime) -> Result<(), Fail> {
     assert!(rt; shape.axis(1) == 3 && shape.lengths()[2] == 4);
     assert!(rt; shape.inner(0) == 12 && shape.inner(1) == 4 && shape.inner(2) == 1);
     assert!(rt; shape.place(&[1, 2, 3]) == 23 && shape.place(&[1, 0, 2]) == 14);
-    for place in 0..24 {
-        assert!(rt;
-            shape.coordinate(place, 0) == place / 12
-                && shape.coordinate(place, 1) == place / 4 % 3
-                && shape.coordinate(place, 2) == place % 4
-        );
-    }
+    assert!(rt; has_coordinates(&shape));
     Ok(())
 }
 
-/// A shape of more axes than it holds in itself is copied, and has its places.
+/// A shape of more axes than it holds in itself is copied.
 #[test]
 fn many_axes(rt: HostRuntime) -> Result<(), Fail> {
-    let shape = Shape::new(rt.alloc(), &[1, 1, 1, 1, 1, 1, 1, 1, 1, 1, 1, 1, 2, 1, 3])?;
+    let lengths = lengths_of(rt.alloc(), "1 1 1 1 1 1 1 1 1 1 1 1 2 1 3").ok_or("not lengths")?;
+    let shape = Shape::new(rt.alloc(), lengths.as_slice())?;
     let copy = shape.copy(rt.alloc())?;
     assert!(rt; copy.rank() == 15 && copy.count() == 6);
     assert!(rt; copy.lengths() == shape.lengths());
+    Ok(())
+}
+
+/// The indexes of the place 4 along the first and the last of nine axes.
+fn ends_of_four(nine: &Shape) -> Option<(usize, usize)> {
+    if nine.rank() != 9 || nine.count() <= 4 {
+        return None;
+    }
+    Some((nine.coordinate(4, 0), nine.coordinate(4, 8)))
+}
+
+/// A shape of more axes than it holds in itself has its places.
+#[test]
+fn places_of_many_axes(rt: HostRuntime) -> Result<(), Fail> {
     let nine = Shape::new(rt.alloc(), &[2, 1, 1, 1, 1, 1, 1, 1, 3])?;
     assert!(rt; nine.place(&[1, 0, 0, 0, 0, 0, 0, 0, 2]) == 5);
-    assert!(rt; nine.coordinate(4, 0) == 1 && nine.coordinate(4, 8) == 1);
+    assert!(rt; ends_of_four(&nine) == Some((1, 1)));
     Ok(())
 }
 

@@ -21,24 +21,44 @@ fn cut_one(board: &Board, seat: BoardSeat) -> (BoardSeat, BoardSeat)
     }
 }
 
+/// What a seat sees at first, and after each report of two seats.
+fn four_looks(board: &Board, first: &mut BoardSeat, second: &mut BoardSeat) -> [Option<u32>; 4]
+    requires { IsSeatOf board.now first.old × IsSeatOf board.now second.old }
+    ensures first { IsSeatOf board.now first.new × ((view first.new).share ≡ (view first.old).share) }
+    ensures second { IsSeatOf board.now second.new × ((view second.new).share ≡ (view second.old).share) }
+{
+    let mut least = [board.least(second); 4];
+    board.report(first, 5);
+    least[1] = board.least(second);
+    board.report(second, 2);
+    least[2] = board.least(first);
+    board.report(first, 4);
+    least[3] = board.least(first);
+    least
+}
+
+/// What two seats are given in turn.
+fn five_claims(board: &Board, first: &mut BoardSeat, second: &mut BoardSeat) -> [Option<u32>; 5]
+    requires { IsSeatOf board.now first.old × IsSeatOf board.now second.old }
+    ensures first { IsSeatOf board.now first.new × ((view first.new).share ≡ (view first.old).share) }
+    ensures second { IsSeatOf board.now second.new × ((view second.new).share ≡ (view second.old).share) }
+{
+    let mut given = [board.claim(second); 5];
+    given[1] = board.claim(first);
+    given[2] = board.claim(second);
+    given[3] = board.claim(first);
+    given[4] = board.claim(second);
+    given
+}
+
 /// Two seats see what the other reports, and share the numbers.
 #[test]
 fn board_two(rt: HostRuntime) -> Result<(), Fail> {
     let (board, seat) = Board::new(rt.alloc(), 3, 2)?;
     let (mut first, mut second) = cut_one(&board, seat);
     let shares = [first.share(), second.share()];
-    let mut least = [board.least(&mut second); 4];
-    board.report(&mut first, 5);
-    least[1] = board.least(&mut second);
-    board.report(&mut second, 2);
-    least[2] = board.least(&mut first);
-    board.report(&mut first, 4);
-    least[3] = board.least(&mut first);
-    let mut given = [board.claim(&mut second); 5];
-    given[1] = board.claim(&mut first);
-    given[2] = board.claim(&mut second);
-    given[3] = board.claim(&mut first);
-    given[4] = board.claim(&mut second);
+    let least = four_looks(&board, &mut first, &mut second);
+    let given = five_claims(&board, &mut first, &mut second);
     let seat = board.join(first, second);
     let closed = board.close(seat);
     let wanted = Closed {
@@ -86,19 +106,24 @@ fn split_shares(board: &Board, seat: BoardSeat, share: u8) -> ([u8; 2], BoardSea
     }
 }
 
+/// The shares after a split of a seat with all 64, and after a split of one more share.
+fn two_splits(alloc: Global, share: u8) -> Result<([u8; 2], [u8; 2]), AllocError> {
+    let (board, seat) = Board::new(alloc, 3, 64)?;
+    let (shares, seat) = split_shares(&board, seat, share);
+    let (then, _) = split_shares(&board, seat, 1);
+    Ok((shares, then))
+}
+
 /// Every share that can be cut off a seat with all 64, and those that can't. These leave it as it was: one can be cut off it then.
 #[test]
 fn board_split(rt: HostRuntime) -> Result<(), Fail> {
     for share in 0u8..=65 {
-        let (board, seat) = Board::new(rt.alloc(), 3, 64)?;
-        let (shares, seat) = split_shares(&board, seat, share);
-        let (then, _) = split_shares(&board, seat, 1);
         let wanted = match share {
             63 => ([1, 63], [1, 0]),
             1..=62 => ([64 - share, share], [63 - share, 1]),
             _ => ([64, 0], [63, 1]),
         };
-        assert!(rt; (shares, then) == wanted, "{share}");
+        assert!(rt; two_splits(rt.alloc(), share)? == wanted, "{share}");
     }
     Ok(())
 }

@@ -62,13 +62,10 @@ fn put_all_stops_at_a_fault(rt: HostRuntime) {
 fn memory_source_fails_at_its_call_alone(rt: HostRuntime) {
     let mut source = MemorySource::new(b"abcd", 2, Some(2));
     let mut room = [0; 3];
-    let takes = [
-        source.take(&mut room),
-        source.take(&mut room),
-        source.take(&mut room),
-    ];
-    assert!(rt; takes == [Ok(2), Err(SourceFault), Ok(2)] && room == *b"cd\0");
-    assert!(rt; source.take(&mut room) == Ok(0));
+    for wanted in [Ok(2), Err(SourceFault), Ok(2)] {
+        assert!(rt; source.take(&mut room) == wanted);
+    }
+    assert!(rt; room == *b"cd\0" && source.take(&mut room) == Ok(0));
 }
 
 /// Reads bytes or keeps those that are written, at most `most` a call, and fails at one call. The calls are counted.

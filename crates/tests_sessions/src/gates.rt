@@ -549,14 +549,30 @@ fn meet_at_each<R: Threads + Sync>(
     Ok(())
 }
 
-/// The line that makes `A` a vector of `count` ones.
-fn ones(alloc: Global, count: usize) -> Result<String, AllocError> {
-    let mut line = String::from_str(alloc, "A←'x'='")?;
-    for _ in 0..count {
-        line.push('x')?;
+/// As `meet_at_each`, under each schedule in turn.
+fn meet_under_both<R: Threads + Sync>(
+    rt: &R,
+    alloc: Global,
+    piece: usize,
+    opening: &str,
+    rows: &[(String, String)],
+) -> Result<(), Fail> {
+    for schedule in [Schedule::Claims, Schedule::Deques] {
+        meet_at_each(rt, alloc, schedule, piece, opening, rows)?;
     }
-    line.push_str("'\n")?;
-    Ok(line)
+    Ok(())
+}
+
+/// Lines that make `A` a vector of `count` ones, and then two texts.
+fn ones(alloc: Global, count: usize, first: &str, second: &str) -> Result<String, AllocError> {
+    let mut lines = String::from_str(alloc, "A←'x'='")?;
+    for _ in 0..count {
+        lines.push('x')?;
+    }
+    lines.push_str("'\n")?;
+    lines.push_str(first)?;
+    lines.push_str(second)?;
+    Ok(lines)
 }
 
 /// A line of a table.
@@ -586,81 +602,76 @@ fn assigned_rows(alloc: Global, table: Table) -> Result<Vec<(String, String)>, F
     Ok(rows)
 }
 
+/// Answers the lines of a table whose arrays have two elements, and one line more.
+fn meet_at_two<R: Threads + Sync>(
+    rt: &R,
+    alloc: Global,
+    opening: &str,
+    table: Table,
+    more: (&str, &str),
+) -> Result<(), Fail> {
+    let mut two = rows_of(alloc, table)?;
+    let (line, text) = more;
+    two.push(row(alloc, line, text)?)?;
+    meet_under_both(rt, alloc, 1, opening, &two)
+}
+
+/// Assigns the values of a table's lines, whose arrays have 2048 elements.
+fn meet_at_some<R: Threads + Sync>(
+    rt: &R,
+    alloc: Global,
+    opening: &str,
+    table: Table,
+) -> Result<(), Fail> {
+    let some = assigned_rows(alloc, table)?;
+    meet_under_both(rt, alloc, 1024, opening, &some)
+}
+
+/// Answers the lines of a table whose arrays have as many elements as the largest here.
+fn meet_at_many<R: Threads + Sync>(
+    rt: &R,
+    alloc: Global,
+    opening: &str,
+    table: Table,
+) -> Result<(), Fail> {
+    let many = rows_of(alloc, table)?;
+    meet_under_both(rt, alloc, HALF, opening, &many)
+}
+
 #[test]
 fn each_scalar_function_uses_the_pool(rt: HostRuntime) -> Result<(), Fail> {
     let alloc = rt.alloc();
-    let two = rows_of(alloc, (FUNCTIONS, 28))?;
-    let some = assigned_rows(alloc, (FUNCTIONS, 28))?;
-    let many = rows_of(alloc, ("B←~A →\nB←A+A →", 2))?;
-    for schedule in [Schedule::Claims, Schedule::Deques] {
-        meet_at_each(&rt, alloc, schedule, 1, "A←1 1", &two)?;
-        meet_at_each(
-            &rt,
-            alloc,
-            schedule,
-            1024,
-            ones(alloc, 2048)?.as_str(),
-            &some,
-        )?;
-        meet_at_each(
-            &rt,
-            alloc,
-            schedule,
-            HALF,
-            ones(alloc, 2 * HALF)?.as_str(),
-            &many,
-        )?;
-    }
-    Ok(())
+    let table = (FUNCTIONS, 28);
+    meet_at_two(&rt, alloc, "A←1 1", table, ("A+A", "2 2\n"))?;
+    meet_at_some(&rt, alloc, ones(alloc, 2048, "", "")?.as_str(), table)?;
+    let largest = ones(alloc, 2 * HALF, "", "")?;
+    meet_at_many(&rt, alloc, largest.as_str(), ("B←~A →\nB←A+A →", 2))
 }
 
 #[test]
 fn each_structural_function_uses_the_pool(rt: HostRuntime) -> Result<(), Fail> {
     let alloc = rt.alloc();
-    let mut few = String::from_str(alloc, "A←1 1\nN←2\nS←1 2\nT←0 2\n")?;
-    few.push_str(ARGUMENTS)?;
-    let mut more = ones(alloc, 2048)?;
-    more.push_str("N←2048\nS←1 2048\nT←0 2048\n")?;
-    more.push_str(ARGUMENTS)?;
-    let mut two = rows_of(alloc, (STRUCTURES, 52))?;
-    two.push(row(alloc, "⍴M", "1 2\n")?)?;
-    let some = assigned_rows(alloc, (STRUCTURES, 52))?;
-    let many = rows_of(alloc, ("B←⌽A →\nB←A,'' →\nB←A[A] →\nA[1]←2 →", 4))?;
-    for schedule in [Schedule::Claims, Schedule::Deques] {
-        meet_at_each(&rt, alloc, schedule, 1, few.as_str(), &two)?;
-        meet_at_each(&rt, alloc, schedule, 1024, more.as_str(), &some)?;
-        meet_at_each(
-            &rt,
-            alloc,
-            schedule,
-            HALF,
-            ones(alloc, 2 * HALF)?.as_str(),
-            &many,
-        )?;
-    }
-    Ok(())
+    let table = (STRUCTURES, 52);
+    let few = format!(in alloc; "A←1 1\nN←2\nS←1 2\nT←0 2\n{ARGUMENTS}")?;
+    meet_at_two(&rt, alloc, few.as_str(), table, ("⍴M", "1 2\n"))?;
+    let more = ones(alloc, 2048, "N←2048\nS←1 2048\nT←0 2048\n", ARGUMENTS)?;
+    meet_at_some(&rt, alloc, more.as_str(), table)?;
+    let largest = ones(alloc, 2 * HALF, "", "")?;
+    let many = ("B←⌽A →\nB←A,'' →\nB←A[A] →\nA[1]←2 →", 4);
+    meet_at_many(&rt, alloc, largest.as_str(), many)
 }
 
 #[test]
 fn each_reduction_uses_the_pool(rt: HostRuntime) -> Result<(), Fail> {
     let alloc = rt.alloc();
-    let mut few = String::from_str(alloc, "A←1 1\nV←3 2\nW←2 3\nR←1 1 1\n")?;
-    few.push_str(ITEMS)?;
-    let mut more = ones(alloc, 2048)?;
-    more.push_str("V←2 2048\nW←2048 2\nR←1 1\n")?;
-    more.push_str(ITEMS)?;
-    let mut two = rows_of(alloc, (REDUCTIONS, 116))?;
-    two.push(row(alloc, "-\\A", "1 0\n")?)?;
-    let some = assigned_rows(alloc, (REDUCTIONS, 116))?;
-    let mut largest = ones(alloc, 2 * HALF)?;
-    largest.push_str("V←2 1048576\n")?;
-    let many = rows_of(alloc, ("B←+⌿V⍴A →\nB←A∘.×1 →\nB←+/A →\nB←A+.×A →", 4))?;
-    for schedule in [Schedule::Claims, Schedule::Deques] {
-        meet_at_each(&rt, alloc, schedule, 1, few.as_str(), &two)?;
-        meet_at_each(&rt, alloc, schedule, 1024, more.as_str(), &some)?;
-        meet_at_each(&rt, alloc, schedule, HALF, largest.as_str(), &many)?;
-    }
-    Ok(())
+    let table = (REDUCTIONS, 116);
+    let few = format!(in alloc; "A←1 1\nV←3 2\nW←2 3\nR←1 1 1\n{ITEMS}")?;
+    meet_at_two(&rt, alloc, few.as_str(), table, ("-\\A", "1 0\n"))?;
+    let more = ones(alloc, 2048, "V←2 2048\nW←2048 2\nR←1 1\n", ITEMS)?;
+    meet_at_some(&rt, alloc, more.as_str(), table)?;
+    let largest = ones(alloc, 2 * HALF, "V←2 1048576\n", "")?;
+    let many = ("B←+⌿V⍴A →\nB←A∘.×1 →\nB←+/A →\nB←A+.×A →", 4);
+    meet_at_many(&rt, alloc, largest.as_str(), many)
 }
 
 /// The line that makes `F` a vector of `count` ones, by a constant.
@@ -676,17 +687,6 @@ fn items(alloc: Global, count: usize) -> Result<String, AllocError> {
 fn each_cut_fold_uses_the_pool(rt: HostRuntime) -> Result<(), Fail> {
     let alloc = rt.alloc();
     let three = rows_of(alloc, (CUT_FOLDS, 75))?;
-    let some = assigned_rows(alloc, (CUT_FOLDS, 75))?;
-    for schedule in [Schedule::Claims, Schedule::Deques] {
-        meet_at_each(&rt, alloc, schedule, 1, items(alloc, 3)?.as_str(), &three)?;
-        meet_at_each(
-            &rt,
-            alloc,
-            schedule,
-            1024,
-            items(alloc, 2049)?.as_str(),
-            &some,
-        )?;
-    }
-    Ok(())
+    meet_under_both(&rt, alloc, 1, items(alloc, 3)?.as_str(), &three)?;
+    meet_at_some(&rt, alloc, items(alloc, 2049)?.as_str(), (CUT_FOLDS, 75))
 }

@@ -4,14 +4,12 @@ use Rattle.apl_array.specs.declared.array.Elem.TheVariants.{Int}
 use Rattle.apl_reduce.proofs.Onto.{axis_row}
 use Rattle.apl_reduce.proofs.axis_items.fill_number_folds.Goals as goal
 
-pub returns-then-shares_items-clause-values : goal.returns-then-shares_items-clause-values
-returns-then-shares_items-clause-values g c =
+pub returns-then-shares_items : goal.returns-then-shares_items
+returns-then-shares_items g c =
     let axis = c.args.axis.now in
     let numbers = axis.elements.now in
-    c.fold_rows.ensures.values (fold_at c.args.f (map Int numbers) axis.items axis.block axis.inner) (λ place below. axis_row c.args.f numbers axis.items axis.block axis.inner place axis.two)
-
-pub returns-then-shares_items-clause-stop : goal.returns-then-shares_items-clause-stop
-returns-then-shares_items-clause-stop g c =
-    let axis = c.args.axis.now in
-    let numbers = axis.elements.now in
-    c.fold_rows.ensures.stop (fold_at c.args.f (map Int numbers) axis.items axis.block axis.inner) (λ place below. axis_row c.args.f numbers axis.items axis.block axis.inner place axis.two)
+    let fold = fold_at c.args.f (map Int numbers) axis.items axis.block axis.inner in
+    record {
+      values = c.fold_rows.ensures.values fold (λ place below. axis_row c.args.f numbers axis.items axis.block axis.inner place axis.two);
+      stop = c.fold_rows.ensures.stop fold (λ place below. axis_row c.args.f numbers axis.items axis.block axis.inner place axis.two);
+    }
