@@ -14,7 +14,7 @@ use Rattle.apl_answer.specs.Arguments.{is_scalar, fill_of, only_element}
 use Rattle.apl_struct.specs.Compressing.{as_vector}
 use Rattle.apl_walk.specs.Gathered.{filled_at}
 use Rattle.apl_walk.specs.Steps.{and_step, entry_step}
-use Rattle.apl_struct.specs.Scalars.{entry_index}
+use Rattle.apl_struct.specs.Along.{entry_index}
 use Rattle.apl_struct.specs.Gathering.{element_or_fill}
 use Rattle.apl_struct.proofs.Filled.{get_or-within}
 use Rattle.apl_struct.proofs.Ranges.{element_in_in}

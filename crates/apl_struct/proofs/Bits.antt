@@ -10,7 +10,7 @@ use Rattle.apl_answer.specs.Arguments.{is_bit, is_natural}
 use Rattle.apl_struct.specs.Compressing.{expanded_index}
 use Rattle.apl_struct.specs.Expanding.{expanded_entry}
 use Rattle.apl_struct.specs.declared.expanding.TheConstants.{ABSENT}
-use Rattle.apl_struct.specs.Scalars.{entry_index}
+use Rattle.apl_struct.specs.Along.{entry_index}
 use Rattle.apl_struct.proofs.AsVectors.{entry_there}
 
 abbrev pub counts : List ℤ → List ℕ

@@ -272,13 +272,13 @@ pub record SeamFacts (left right inner : ℕ) : Type 0 where
 
 pub seam_facts : (left right n outer inner count : ℕ) → left + right ≡ n → count ≡ outer * n * inner → 0 < count → count ≤ 2 ^ 30 → SeamFacts left right inner
 seam_facts left right n outer inner count whole is some most =
-    let facts = axis_facts n n outer inner count is some (omega (arith, is, most)) in
+    let facts = axis_facts outer n inner count is some in
     let split : left * inner + right * inner ≡ n * inner = sym (distributed left right inner) ∙ ap (λ w. w * inner) whole in
     record {
-      left_fits = omega (arith, split, facts.block_most);
-      right_fits = omega (arith, split, facts.block_most);
+      left_fits = omega (arith, split, facts.line_most, most);
+      right_fits = omega (arith, split, facts.line_most, most);
       some = omega (arith, split, product_some n inner facts.length_some facts.inner_some);
-      most = omega (arith, split, facts.block_most);
+      most = omega (arith, split, facts.line_most, most);
     }
 
 first_of_map : {T : Type 0} (f : T → Elem) (ravel : List Elem) (zs : List T) (fill : T) (e : Elem) → ravel ≡ map f zs → f fill ≡ e → slice_index_or ravel 0 e ≡ f (slice_index_or zs 0 fill)

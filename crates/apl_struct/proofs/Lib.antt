@@ -1,5 +1,6 @@
 pub mod Examples
 pub mod Filled
+pub mod Takings
 pub mod Elements
 pub mod Joints
 pub mod Passing

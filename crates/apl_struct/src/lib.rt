@@ -23,7 +23,6 @@ mod repeating;
 mod replacing;
 mod reversing;
 mod rotating;
-mod scalars;
 mod selecting;
 mod shapes;
 mod slices;

@@ -4,7 +4,6 @@ use Rattle.apl_array.specs.declared.array.Elem.TheVariants.{Int}
 use Rattle.apl_array.specs.Axes.{origin_number, place_number}
 use Rattle.apl_array.specs.Shape.{is_shape, index_at}
 use Rattle.apl_answer.specs.Arguments.{has_one_element, is_list, is_natural, number_of, numbers_of, only_element, size_of}
-use Rattle.apl_answer.specs.Pointwise.{answer_of}
 use Rattle.apl_struct.specs.Building.{iota_row}
 use Rattle.apl_struct.proofs.Elements.{only_number}
 use Rattle.apl_struct.proofs.Passing.{answered}
@@ -27,7 +26,7 @@ returns g c =
     let shapes : c.in_ok-shape.shape ≡ length ∷ [] = c.in_ok-shape.ensures.1 ∙ lengths in
     let lawful : is_shape (length ∷ []) ≡ true = ap is_shape (sym lengths) ∙ c.in_ok-shape.ensures.0 in
     let first = origin_cast origin c.number-first.result c.number-first.ensures.value in
-    answered row.checks (answer_of row.shape row.outcome row.kind) c.fill_array.result (list, (one_element, (c.in_ok-numbers.ensures.numbers.0, (natural, (lawful, tt)))))
+    answered row c.fill_array.result (list, (one_element, (c.in_ok-numbers.ensures.numbers.0, (natural, (lawful, tt)))))
     (rw shapes at
     (c.fill_array.ensures (λ index. Ok (Int (pos (origin_number origin + slice_index index 0))))
     (λ place inside.

@@ -28,4 +28,4 @@ returns g c =
     c.repeat.ensures _ (λ place inside.
     element_again b (count_of c.in_ok-shape.shape) place c.shape-2.ensures.lawful (rw (sym shapes) at fits) inside
     ∙ ap (λ p. element_in b (reshape_source (size_of b) p)) (sym (c.places_match_index_lists.ensures.same_place c.in_ok-shape.shape place inside))) in
-    answered row.checks (answer_of row.shape row.outcome row.kind) c.repeat.result (list, (c.in_ok-numbers.ensures.numbers.0, (natural, (lawful, (fits, tt))))) (subst P shapes repeated)
+    answered row c.repeat.result (list, (c.in_ok-numbers.ensures.numbers.0, (natural, (lawful, (fits, tt))))) (subst P shapes repeated)

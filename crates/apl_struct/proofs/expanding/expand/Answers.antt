@@ -8,7 +8,7 @@ use Rattle.apl_answer.specs.Arguments.{rank_of, is_list, is_numbers, is_bit, num
 use Rattle.apl_answer.specs.Pointwise.{answer_of, IsAnswerOf}
 use Rattle.apl_struct.specs.Compressing.{as_vector, expanded_index}
 use Rattle.apl_struct.specs.Gathering.{element_or_fill, along_axis_or_none}
-use Rattle.apl_struct.specs.Scalars.{entry_index}
+use Rattle.apl_struct.specs.Along.{entry_index}
 use Rattle.apl_struct.proofs.AsVectors.{axis_of_vector}
 use Rattle.apl_struct.proofs.Bits.{entry_is}
 use Rattle.apl_struct.proofs.expanding.expand.Goals as goal
@@ -48,8 +48,8 @@ returns g c =
     (λ none. absurd (omega (arith, none, c.vector_rank.ensures.rank)))
     c.in-Some.ensures.2 in
     let axis : j < length vector.shape = axis_of_vector (sum counts) j b within in
-    let P : List ℕ → ℕ → Type 0 = λ s i. IsAnswerOf (answer_of s (λ index. Ok (element_or_fill vector (along_axis_or_none i (expanded_index counts) index))) b.kind) c.gather_listed.result in
-    let given : P c.in_ok-shape.shape j = c.gather_listed.ensures _ (λ index inside.
+    let P : List ℕ → ℕ → Type 0 = λ s i. IsAnswerOf (answer_of s (λ index. Ok (element_or_fill vector (along_axis_or_none i (expanded_index counts) index))) b.kind) c.gather_along.result in
+    let given : P c.in_ok-shape.shape j = c.gather_along.ensures _ (λ index inside.
     let i = slice_index index j in
     let extent_is : slice_index c.in_ok-shape.shape j ≡ length bits = ap (λ s. slice_index s j) shape_at.1 ∙ get_or-set_same vector.shape j (length bits) 0 axis in
     let wide : j < length c.in_ok-shape.shape = omega (arith, axis, ap length shape_at.1, length-set vector.shape j (length bits)) in

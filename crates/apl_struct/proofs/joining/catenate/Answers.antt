@@ -34,5 +34,5 @@ returns g c =
     let shapes : c.in_ok-shape.shape ≡ slice_set own k (n + m) = c.in_ok-shape.ensures.value ∙ c.as_slice.ensures ∙ lengths in
     let P : List ℕ → ℕ → ℕ → Type 0 = λ s j l. IsAnswerOf (answer_of s (λ index. Ok (catenated_element rank j l a b index)) (joined_kind a b)) c.join_along.result in
     let main : P c.in_ok-shape.shape c.in-Some.k c.in_ok-lengths.field-0.left = c.join_along.ensures in
-    answered row.checks (answer_of row.shape row.outcome row.kind) c.join_along.result (has, (ranks, (others, (kinds, (lawful, tt)))))
+    answered row c.join_along.result (has, (ranks, (others, (kinds, (lawful, tt)))))
     (subst (λ s. P s k n) shapes (subst (λ j. P c.in_ok-shape.shape j n) k_is (subst (λ l. P c.in_ok-shape.shape c.in-Some.k l) left main)))
