@@ -26,4 +26,3 @@ pub mod Bits
 pub mod Naturals
 pub mod Replicated
 pub mod AsVectors
-pub mod Origins

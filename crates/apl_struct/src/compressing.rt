@@ -13,9 +13,9 @@ ghost use Rattle.apl_struct.specs.Replicating.{replicated};
 use crate::along::{Taking, gather_along, shape_with_axis, vector_length, vector_rank};
 use crate::arguments::numbers_among;
 use crate::plain::empty;
-use crate::repeating::{capped_product, capped_sum, kept_indexes, listed_indexes};
+use crate::repeating::{capped_sum, kept_indexes, listed_indexes};
 use apl_answer::OpFault;
-use apl_array::{Array, Axis, Shape};
+use apl_array::{Array, Axis, MOST_ELEMENTS, Shape};
 use apl_pool::{Crew, Cut, Gate, Pool, Workers};
 use std::alloc::Global;
 use std::thread::Threads;
@@ -84,7 +84,9 @@ fn replicate_all<W: Crew>(
         return Err(OpFault::Domain);
     }
     let times = count as usize;
-    let shape = shape_with_axis(workers.alloc(), b, k, capped_product(length, times))?;
+    // A length past the limit is refused, whatever it is.
+    let extent = length.saturating_mul(times).min(MOST_ELEMENTS + 1);
+    let shape = shape_with_axis(workers.alloc(), b, k, extent)?;
     gather_along(workers, shape, b, k, length, Taking::Repeated(times))
 }
 

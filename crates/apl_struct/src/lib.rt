@@ -25,7 +25,6 @@ mod reversing;
 mod rotating;
 mod selecting;
 mod shapes;
-mod slices;
 mod slots;
 mod taking;
 

@@ -1,12 +1,10 @@
-use Rattle.std.proofs.Common.{◌≡◌, ℕ, ◌+◌, ◌*◌, ◌/◌, ◌%◌, ◌<◌, ◌≤◌, length, drop, take, slice_index, ap, sym, subst, ◌∙◌, arith}
-use Rattle.std.specs.Prelude.{slice_set, Some, option_map}
+use Rattle.std.proofs.Common.{◌≡◌, ◌+◌, ◌*◌, ◌/◌, ◌%◌, ◌<◌, ◌≤◌, length, drop, take, slice_index, ap, sym, ◌∙◌, arith}
+use Rattle.std.specs.Prelude.{slice_set, option_map}
 use Rattle.std.proofs.Math.Nat.{mod-lt, mul-pos}
 use Rattle.std.proofs.lemmas.List.{drop-set-lt, get_or-set_same}
 use Rattle.apl_array.specs.Shape.{count_of, index_at}
 use Rattle.apl_walk.specs.Gathered.{filled_at}
-use Rattle.apl_walk.specs.Maps.{walked, map_extent, map_step}
-use Rattle.apl_walk.specs.Steps.{and_step}
-use Rattle.apl_walk.specs.Walks.{maps_of}
+use Rattle.apl_walk.specs.Maps.{map_extent, map_step}
 use Rattle.apl_struct.specs.Along.{taking_extent, taking_index}
 use Rattle.apl_struct.specs.Compressing.{as_vector}
 use Rattle.apl_struct.specs.Gathering.{element_or_fill, along_axis_or_none}
@@ -62,8 +60,7 @@ pub gather-requires-clause-extent : goal.gather-requires-clause-extent
 gather-requires-clause-extent g c = λ lifetimes outlive.
     let known = facts g (goal.at.gather-requires-clause-extent g c).After-axis in
     let extent : map_extent c.map-map.result ≡ c.axis.result = c.map-map.ensures.extent ∙ sym known.1 in
-    c.in_ok-walk.ensures.extent ∙ ap (λ m. c.count-2.result / (c.axis.result * c.inner-inner.result) * (m * c.inner-inner.result)) extent
-    ∙ rw known.3.outer_is (sym known.3.count_is) ∙ c.count-2.ensures.count
+    (rw (extent, known.3.outer_is) at c.in_ok-walk.ensures.extent) ∙ sym known.3.count_is ∙ c.count-2.ensures.count
 
 pub returns : goal.returns
 returns g c = λ element same.
@@ -89,9 +86,7 @@ returns g c = λ element same.
     let here : place < count_of (slice_set vector.shape k m) = rw shape_is at inside in
     let reached : place < blocks * (map_extent map * apart) =
     rw (extent, sym known.1, known.3.outer_is) (omega (arith, known.3.count_is, c.count-2.ensures.count, inside)) in
-    let Place : ℕ → ℕ → ℕ → Type 0 = λ e a p. walked (maps_of c.in_ok-walk.walk) place ≡ and_step (and_step (Some (place % a)) (map_step map (place / a % e))) (Some (place / (e * a) * p)) in
-    let placed : Place m inner (count_of b.shape / outer) =
-    subst (Place m inner) block_is (subst (λ a. Place m a (c.count-3.result / blocks)) known.2 (subst (λ e. Place e apart (c.count-3.result / blocks)) extent (c.in_ok-walk.ensures.place place reached))) in
+    let placed = rw (block_is, extent, known.2) at (c.in_ok-walk.ensures.place place reached) in
     let i = place / inner % m in
     let i_below : i < m = mod-lt (place / inner) (rw known.1 at known.3.length_some) in
     let step : map_step map i ≡ option_map (λ j. j * stride_of b inner) (taken i) =

@@ -1,4 +1,4 @@
-use Rattle.std.proofs.Common.{◌≡◌, ℕ, ℤ, List, Err, true, false, if◌then◌else◌, length, map, replicate, slice_index, slice_index_or, pos, to_z, of_z, w64, ap, sym, subst, ◌∙◌, eq-eqb, arith, rules}
+use Rattle.std.proofs.Common.{◌≡◌, ℕ, ℤ, List, Err, true, false, if◌then◌else◌, length, replicate, slice_index, slice_index_or, pos, to_z, of_z, w64, ap, sym, subst, ◌∙◌, eq-eqb, arith, rules}
 use Rattle.std.specs.Prelude.{◌||◌, ◌==◌}
 use Rattle.std.specs.List.{list_all}
 use Rattle.std.proofs.lemmas.List.{length-map}
@@ -12,7 +12,6 @@ use Rattle.apl_answer.specs.Pointwise.{IsAnswerOf}
 use Rattle.apl_struct.specs.Compressing.{as_vector}
 use Rattle.apl_struct.specs.Replicating.{replicated}
 use Rattle.apl_struct.proofs.Naturals.{single_natural}
-use Rattle.apl_struct.proofs.Replicated.{row_answered}
 use Rattle.apl_struct.proofs.Rotations.{number_in}
 use Rattle.apl_struct.proofs.compressing.compress.Given.{Over}
 use Rattle.apl_struct.proofs.compressing.compress.Goals as goal
@@ -33,17 +32,17 @@ judged g c =
     let n = size_of a in
     let vector = as_vector n c.args.b.now in
     let rank : c.vector_rank.result ≡ rank_of vector = c.vector_rank.ensures.vector n in
-    let k_is : c.in-Some.k ≡ axis_of c.args.axis (rank_of vector) = c.in-Some.ensures.1 ∙ ap (axis_of c.args.axis) rank in
+    let at = rw rank at c.in-Some.ensures in
     let numbers : numbers_of a ≡ c.in_ok-counts.counts.now = c.in_ok-counts.ensures.numbers.1 in
     let count_is : c.count-count.result ≡ n = c.count-count.ensures.count ∙ ap count_of c.shape-2.ensures.shape in
     record {
-      has = ap (has_axis c.args.axis) (sym rank) ∙ c.in-Some.ensures.0;
-      k_is = k_is;
+      has = at.0;
+      k_is = at.1;
       list = search rules;
       judged = c.in_ok-counts.ensures.numbers.0;
       numbers = numbers;
       many = sym (ap length numbers) ∙ length-map a.ravel number_of ∙ c.shape.ensures.lawful.len;
-      length_is = c.vector_length-length.ensures.length ∙ ap (λ m. slice_index (as_vector m c.args.b.now).shape c.in-Some.k) count_is ∙ ap (slice_index vector.shape) k_is;
+      length_is = rw (count_is, at.1) at c.vector_length-length.ensures.length;
     }
 
 pub returns-then-count-eq1 : goal.returns-then-count-eq1
@@ -61,15 +60,11 @@ returns-then-count-eq1 g c =
     let z = slice_index_or own 0 (pos 0) in
     let turned : to_z w64 (of_z w64 z) ≡ z = search rules in
     let number_is : to_z w64 (of_z w64 z) ≡ number_of (only_element a) = turned ∙ sym (number_in a.ravel 0 ∙ ap (λ ns. slice_index_or ns 0 (pos 0)) known.numbers) in
-    let natural : list_all is_natural (numbers_of a) ≡ is_natural (to_z w64 (of_z w64 z)) = ap (list_all is_natural) known.numbers ∙ single_natural own (known.many ∙ count) ∙ ap is_natural (sym turned) in
-    let P : ℕ → ℕ → ℕ → ℤ → Type 0 = λ m j l y. IsAnswerOf
-    (if is_natural (to_z w64 (of_z w64 z)) then replicated (as_vector m b) j (replicate l (place_number y)) else Err Domain)
+    let natural : list_all is_natural (numbers_of a) ≡ is_natural (number_of (only_element a)) = ap (list_all is_natural) known.numbers ∙ single_natural own (known.many ∙ count) ∙ ap is_natural (sym turned ∙ number_is) in
+    let P : ℕ → Type 0 = λ m. IsAnswerOf
+    (if is_natural (number_of (only_element a)) then replicated (as_vector m b) k (replicate (slice_index vector.shape k) (place_number (number_of (only_element a)))) else Err Domain)
     c.replicate_all.result in
-    let by_length = subst (λ l. P 1 c.in-Some.k l (to_z w64 (of_z w64 z))) known.length_is c.replicate_all.ensures in
-    let by_number = subst (P 1 c.in-Some.k (slice_index vector.shape k)) number_is by_length in
-    let by_axis = subst (λ j. P 1 j (slice_index vector.shape k) (number_of (only_element a))) known.k_is by_number in
-    row_answered a b c.args.axis c.replicate_all.result known.has known.list served known.judged
-    (rw (natural, one) (subst (λ m. P m k (slice_index vector.shape k) (number_of (only_element a))) (sym count) by_axis))
+    rw (known.has, known.list, served, known.judged, natural, one) (subst P (sym count) (rw (number_is, known.length_is, known.k_is) at c.replicate_all.ensures))
 
 pub returns : goal.returns
 returns g c =
@@ -85,7 +80,4 @@ returns g c =
     let fits : c.count-count.result ≡ c.vector_length-length.result = omega arith in
     let served : (has_one_element a.shape || (n == slice_index vector.shape k)) ≡ true = rw more (eq-eqb n (slice_index vector.shape k)
     (sym (c.count-count.ensures.count ∙ ap count_of c.shape-2.ensures.shape) ∙ fits ∙ known.length_is)) in
-    let P : ℕ → ℕ → List ℤ → Type 0 = λ m j ns. IsAnswerOf (if list_all is_natural ns then replicated (as_vector m b) j (map place_number ns) else Err Domain) c.replicate_each.result in
-    let by_count = subst (λ m. P m c.in-Some.k own) known.many c.replicate_each.ensures in
-    let by_axis = subst (λ j. P n j own) known.k_is by_count in
-    row_answered a b c.args.axis c.replicate_each.result known.has known.list served known.judged (rw more (subst (P n k) (sym known.numbers) by_axis))
+    rw (known.has, known.list, served, known.judged, more) (rw (known.many, known.k_is, ← known.numbers) at c.replicate_each.ensures)

@@ -1,10 +1,7 @@
-use Rattle.std.proofs.Common.{◌≡◌, ℕ, List, Ok, length, map, slice_index, ap, sym, subst, ◌∙◌, rules}
+use Rattle.std.proofs.Common.{◌≡◌, length, map, ap, sym, ◌∙◌, rules}
 use Rattle.std.specs.Prelude.{slice_set, sum, vec_len}
-use Rattle.apl_array.specs.Array.{element_at}
 use Rattle.apl_array.specs.Axes.{place_number}
-use Rattle.apl_answer.specs.Pointwise.{answer_of, IsAnswerOf}
-use Rattle.apl_struct.specs.Compressing.{as_vector, repeated_indexes}
-use Rattle.apl_struct.specs.Gathering.{along_axis}
+use Rattle.apl_struct.specs.Compressing.{as_vector}
 use Rattle.apl_struct.proofs.AsVectors.{axis_of_vector}
 use Rattle.apl_struct.proofs.CappedAxes.{capped_shape}
 use Rattle.apl_struct.proofs.Repeated.{repeated_length}
@@ -49,11 +46,8 @@ returns-in_err-shape-2 g c =
 
 pub returns-then-count-eq0 : goal.returns-then-count-eq0
 returns-then-count-eq0 g c =
-    let b = c.args.b.now in
-    let counts = map place_number c.args.counts.now in
     let capped = made g (goal.at.returns-then-count-eq0 g c).In_ok-shape-2 in
-    let P : List ℕ → Type 0 = λ s. IsAnswerOf (answer_of s (λ index. Ok (element_at (as_vector (length c.args.counts.now) b) (along_axis c.args.k (slice_index (repeated_indexes counts)) index))) b.kind) c.empty.result in
-    rw (c.in-Some-capped_sum.ensures.0, capped.lawful) (subst P capped.shape_is (c.empty.ensures _))
+    rw (c.in-Some-capped_sum.ensures.0, capped.lawful, sym capped.shape_is) (c.empty.ensures _)
 
 pub listed_indexes-requires-clause-all : goal.listed_indexes-requires-clause-all
 listed_indexes-requires-clause-all g c = (made g (goal.at.listed_indexes-requires-clause-all g c).In_ok-shape-2).exact_is

@@ -1,5 +1,5 @@
-use Rattle.std.proofs.Common.{◌≡◌, true, length, slice_index, ap, sym, ◌∙◌}
-use Rattle.apl_array.specs.Axes.{has_axis, axis_of}
+use Rattle.std.proofs.Common.{◌≡◌, length, slice_index, ap, ◌∙◌}
+use Rattle.apl_array.specs.Axes.{axis_of}
 use Rattle.apl_answer.specs.Arguments.{rank_of}
 use Rattle.apl_struct.specs.Gathering.{along_axis}
 use Rattle.apl_struct.specs.Rearranging.{reversed_index}
@@ -10,5 +10,4 @@ returns-then-rank-eq0 g c =
     let b = c.args.b.now in
     let k = axis_of c.args.axis (rank_of b) in
     let rank : c.rank.result ≡ rank_of b = c.rank.ensures.rank ∙ ap length c.shape.ensures.shape in
-    let has : has_axis c.args.axis (rank_of b) ≡ true = ap (has_axis c.args.axis) (sym rank) ∙ c.in-Some.ensures.0 in
-    rw has (c.gather_scalar.ensures (along_axis k (reversed_index (slice_index b.shape k))))
+    rw (rw rank at c.in-Some.ensures).0 (c.gather_scalar.ensures (along_axis k (reversed_index (slice_index b.shape k))))

@@ -1,8 +1,7 @@
-use Rattle.std.proofs.Common.{◌≡◌, ◌+◌, true, false, length, slice_index, slice_index_or, pos, to_z, of_z, w64, ap, sym, ◌∙◌, arith, rules}
+use Rattle.std.proofs.Common.{◌≡◌, ◌+◌, true, false, length, slice_index, slice_index_or, pos, to_z, of_z, w64, refl, ap, ◌∙◌, arith, rules}
 use Rattle.std.specs.Prelude.{◌||◌, ◌==◌, remove}
-use Rattle.apl_array.specs.Array.{element_at}
-use Rattle.apl_array.specs.Axes.{has_axis, axis_of}
-use Rattle.apl_array.specs.Shape.{count_of, place_of}
+use Rattle.apl_array.specs.Axes.{axis_of}
+use Rattle.apl_array.specs.Shape.{count_of}
 use Rattle.apl_answer.specs.Arguments.{rank_of, has_one_element, is_same_shape}
 use Rattle.apl_answer.specs.Rows.{HavePassed}
 use Rattle.apl_struct.specs.Gathering.{along_axis}
@@ -20,12 +19,12 @@ judged g c =
     let b = c.args.b.now in
     let k = axis_of c.args.axis (rank_of b) in
     let rank : c.rank.result ≡ rank_of b = c.rank.ensures.rank ∙ ap length c.shape.ensures.shape in
-    let has : has_axis c.args.axis (rank_of b) ≡ true = ap (has_axis c.args.axis) (sym rank) ∙ c.in-Some.ensures.0 in
-    let k_is : c.in-Some.k ≡ k = c.in-Some.ensures.1 ∙ ap (axis_of c.args.axis) rank in
+    let at = rw rank at c.in-Some.ensures in
+    let k_is : c.in-Some.k ≡ k = at.1 in
     let rank_fits : (has_one_element a.shape || (rank_of a + 1 == rank_of b)) ≡ true = search rules in
     let fit : (has_one_element a.shape || is_same_shape a.shape (remove b.shape c.in-Some.k)) ≡ true = search rules in
     let lengths_fit : (has_one_element a.shape || is_same_shape a.shape (remove b.shape k)) ≡ true = rw k_is at fit in
-    (k_is, (has, (rank_fits, (lengths_fit, (c.in_ok-rotations.ensures.numbers.0, tt)))))
+    (k_is, (at.0, (rank_fits, (lengths_fit, (c.in_ok-rotations.ensures.numbers.0, tt)))))
 
 pub returns-then-rank-eq0 : goal.returns-then-rank-eq0
 returns-then-rank-eq0 g c =
@@ -47,9 +46,7 @@ returns-then-count-eq1 g c =
     let z = slice_index_or zs 0 (pos 0) in
     let same : to_z w64 (of_z w64 z) ≡ z = search rules in
     answered (rotate_row a b c.args.axis) c.rotate_all.result known.1
-    (c.rotate_all.ensures _ (λ index lawful.
-    ap (λ y. element_at b (along_axis c.in-Some.k (rotated_index y (slice_index b.shape c.in-Some.k)) index)) (same ∙ sym (rotation_of_all a zs k index c.in_ok-rotations.ensures.numbers.1 one))
-    ∙ ap (λ j. element_at b (along_axis j (rotated_index (rotation_at a k index) (slice_index b.shape j)) index)) known.0))
+    (c.rotate_all.ensures _ (λ index lawful. rw (known.0, same, rotation_of_all a zs k index c.in_ok-rotations.ensures.numbers.1 one) refl))
 
 pub returns-else-count-eq1 : goal.returns-else-count-eq1
 returns-else-count-eq1 g c =
@@ -62,6 +59,4 @@ returns-else-count-eq1 g c =
     let zs = c.in_ok-rotations.rotations.now in
     let others : a.shape ≡ remove b.shape k = same_from_test a.shape (remove b.shape k) (rw more at known.1.1.1.0) in
     answered (rotate_row a b c.args.axis) c.rotate_each.result known.1
-    (c.rotate_each.ensures _ (λ index lawful.
-    ap (λ j. element_at b (along_axis j (rotated_index (slice_index_or zs (place_of (remove b.shape j) (remove index j)) (pos 0)) (slice_index b.shape j)) index)) known.0
-    ∙ ap (λ y. element_at b (along_axis k (rotated_index y (slice_index b.shape k)) index)) (sym (rotation_of_line a zs (remove b.shape k) k index c.in_ok-rotations.ensures.numbers.1 more others))))
+    (c.rotate_each.ensures _ (λ index lawful. rw (known.0, rotation_of_line a zs (remove b.shape k) k index c.in_ok-rotations.ensures.numbers.1 more others) refl))

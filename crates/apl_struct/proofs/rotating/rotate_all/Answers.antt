@@ -1,6 +1,5 @@
-use Rattle.std.proofs.Common.{◌≡◌, List, ℕ, Ok, ◌<◌, ◌+◌, slice_index, slice_set, length, w64, to_z, of_z, ap, sym, subst, ◌∙◌, arith, rules}
+use Rattle.std.proofs.Common.{◌≡◌, ◌<◌, ◌+◌, slice_index, slice_set, length, w64, to_z, of_z, ap, sym, ◌∙◌, arith, rules}
 use Rattle.apl_array.specs.Array.{element_at}
-use Rattle.apl_answer.specs.Pointwise.{answer_of, IsAnswerOf}
 use Rattle.apl_struct.specs.declared.along.Taking.TheVariants.{Rotated}
 use Rattle.apl_struct.specs.Along.{taking_index}
 use Rattle.apl_struct.specs.Gathering.{element_or_fill, along_axis_or_none}
@@ -19,8 +18,7 @@ returns g c = λ element told.
     let same : to_z w64 (of_z w64 z) ≡ z = search rules in
     let shapes : c.in_ok-shape.shape ≡ b.shape = search rules in
     let n_is : n ≡ slice_index b.shape k = c.axis-length.ensures.length ∙ ap (λ s. slice_index s k) shapes in
-    let P : List ℕ → Type 0 = λ s. IsAnswerOf (answer_of s (λ index. Ok (element index)) b.kind) c.gather_along.result in
-    subst P shapes
+    rw (sym shapes)
     (c.gather_along.ensures element (λ index lawful.
     let i = slice_index index k in
     let inside : i < n = omega (arith, c.axis-length.ensures.length, lawful.below k (omega (arith, c.requires, ap length shapes))) in

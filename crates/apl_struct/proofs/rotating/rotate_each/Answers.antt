@@ -1,8 +1,7 @@
-use Rattle.std.proofs.Common.{◌≡◌, ℕ, List, Ok, Some, ◌<◌, ◌≤◌, ◌+◌, ◌*◌, drop, take, slice_index, slice_index_or, slice_set, length, map, pos, ap, sym, subst, ◌∙◌, arith, rules}
+use Rattle.std.proofs.Common.{◌≡◌, Some, ◌<◌, ◌≤◌, ◌+◌, ◌*◌, drop, take, slice_index, slice_index_or, slice_set, length, map, pos, ap, sym, ◌∙◌, arith, rules}
 use Rattle.std.specs.Prelude.{remove}
 use Rattle.apl_array.specs.Array.{element_at}
 use Rattle.apl_array.specs.Shape.{IsIndexOf, count_of, place_of, index_at}
-use Rattle.apl_answer.specs.Pointwise.{answer_of, IsAnswerOf}
 use Rattle.apl_struct.specs.Along.{line_index, line_number, line_place}
 use Rattle.apl_struct.specs.Rearranging.{rotated_index}
 use Rattle.apl_struct.specs.Rotation.{rotation_of}
@@ -18,8 +17,7 @@ use Rattle.apl_struct.proofs.rotating.rotate_each.Goals.{After-inner-inner}
 pub returns-then-count-eq0 : goal.returns-then-count-eq0
 returns-then-count-eq0 g c = λ element told.
     let shapes : c.in_ok-shape.shape ≡ c.args.b.now.shape = search rules in
-    let P : List ℕ → Type 0 = λ s. IsAnswerOf (answer_of s (λ index. Ok (element index)) c.args.b.now.kind) c.empty.result in
-    subst P shapes (c.empty.ensures element)
+    rw (sym shapes) (c.empty.ensures element)
 
 facts : (g : Over) (c : After-inner-inner g) → AxisFacts (count_of (take c.args.k c.in_ok-shape.shape)) c.axis-length.result c.inner-inner.result c.count.result
 facts g c =
@@ -66,8 +64,7 @@ returns g c = λ element told.
     let n_is : c.axis-length.result ≡ n = c.axis-length.ensures.length ∙ ap (λ s. slice_index s k) shapes in
     let inner_is : c.inner-inner.result ≡ inner = c.inner-inner.ensures.inner ∙ ap (λ s. count_of (drop (k + 1) s)) shapes in
     let by_is : by ≡ map (rotation_of n) zs = (let plain : by ≡ map (rotation_of c.axis-length.result) zs = search rules in plain) ∙ ap (λ m. map (rotation_of m) zs) n_is in
-    let P : List ℕ → Type 0 = λ s. IsAnswerOf (answer_of s (λ index. Ok (element index)) b.kind) c.rotate_lines.result in
-    subst P shapes
+    rw (sym shapes)
     (c.rotate_lines.ensures element (λ place inside.
     let here : place < count_of b.shape = rw shapes at inside in
     let index = index_at b.shape place in
