@@ -1,22 +1,14 @@
 -- Scalars that serve as vectors.
-use Rattle.std.proofs.Common.{◌≡◌, pos, ℕ, ◌+◌, ◌*◌, ◌%◌, ◌<◌, true, false, Bool, List, [], ◌∷◌, length, slice_index, refl, ap, sym, ◌∙◌, ⊎_elim, eq-eqb, arith}
-use Rattle.std.specs.Prelude.{nat_lt, slice_set, Option, Some, None, option_map, IfSome, max, All, replicate, if◌then◌else◌}
-use Rattle.std.proofs.Math.Nat.{div-one, mod-eq_of_lt}
+use Rattle.std.proofs.Common.{◌≡◌, ℕ, ◌<◌, true, false, Bool, List, [], ◌∷◌, length, refl, ap, ⊎_elim, arith}
+use Rattle.std.specs.Prelude.{nat_lt, Some, IfSome, max, All, replicate, if◌then◌else◌}
 use Rattle.std.proofs.lemmas.Bool.{cases_Bool, lt-ltb, ltb-true}
-use Rattle.std.proofs.lemmas.List.{get_or-replicate, nil_from_length}
 use Rattle.std.proofs.lemmas.List.Elements.{All-replicate}
 use Rattle.apl_array.specs.declared.array.Elem.{Elem}
-use Rattle.apl_array.specs.declared.array.Elem.TheVariants.{Int}
 use Rattle.apl_array.specs.Range.{IsElementInRange, HasNumbersInRange}
-use Rattle.apl_array.specs.Array.{ArrayValue, IsArray}
-use Rattle.apl_array.specs.Shape.{count_of, index_at}
-use Rattle.apl_answer.specs.Arguments.{is_scalar, fill_of, only_element}
+use Rattle.apl_array.specs.Array.{ArrayValue}
+use Rattle.apl_answer.specs.Arguments.{is_scalar, only_element}
 use Rattle.apl_struct.specs.Compressing.{as_vector}
-use Rattle.apl_walk.specs.Gathered.{filled_at}
-use Rattle.apl_walk.specs.Steps.{and_step, entry_step}
-use Rattle.apl_struct.specs.Scalars.{entry_index}
-use Rattle.apl_struct.specs.Gathering.{element_or_fill}
-use Rattle.apl_struct.proofs.Filled.{get_or-within}
+use Rattle.apl_struct.specs.Along.{entry_index}
 use Rattle.apl_struct.proofs.Ranges.{element_in_in}
 
 -- the shape of a scalar that serves as a vector of n
@@ -42,28 +34,6 @@ vector_axis n k (m ∷ shape) axis = grind (arith, axis)
 pub axis_of_vector : (n k : ℕ) (b : ArrayValue) → k < max 1 (length b.shape) → k < length (as_vector n b).shape
 axis_of_vector n k b axis = rw (vector_shape_is n b) (vector_axis n k b.shape axis)
 
-pub vector_filled : (b : ArrayValue) (n m place : ℕ) (j : Option ℕ) → IsArray b → length b.shape ≡ 0 → IfSome j (λ i. i < n)
-    → filled_at b (option_map (λ i. 0) j) ≡ element_or_fill (as_vector n b) (option_map (slice_set (index_at (m ∷ []) place) 0) j)
-vector_filled b n m place None array none within = refl
-vector_filled b n m place (Some i) array none within =
-    let scalar : is_scalar b ≡ true = eq-eqb (length b.shape) 0 none in
-    let one : count_of b.shape ≡ 1 = ap count_of (nil_from_length b.shape none) in
-    let first = get_or-within b.ravel 0 (fill_of b.kind) (Int (pos 0)) (omega (arith, array.len, one)) in
-    rw scalar (first ∙ sym (get_or-replicate n (i * 1 + 0) (only_element b) (Int (pos 0)) (omega (arith, within))))
-
--- no step leads away from a scalar's only element
-pub scalar_step : (step j : Option ℕ) → step ≡ option_map (λ i. i * 0) j → and_step (Some 0) step ≡ option_map (λ i. 0) j
-scalar_step step None is = ap (and_step (Some 0)) is
-scalar_step step (Some i) is = ap (and_step (Some 0)) is ∙ ap Some (omega arith)
-
--- an entry's step, as that of an index
-pub entry_steps : (n stride entry : ℕ) → entry_step n stride entry ≡ option_map (λ j. j * stride) (entry_index n entry)
-entry_steps n stride entry =
-    ⊎_elim
-    (λ below. rw below refl)
-    (λ past. rw past refl)
-    (cases_Bool (nat_lt entry n))
-
 pub entry_below : (n entry : ℕ) → IfSome (entry_index n entry) (λ j. j < n)
 entry_below n entry =
     ⊎_elim
@@ -73,9 +43,6 @@ entry_below n entry =
 
 pub entry_there : (n entry : ℕ) → entry < n → entry_index n entry ≡ Some entry
 entry_there n entry below = rw (lt-ltb entry n below) refl
-
-pub vector_index : (m place : ℕ) → place < m → slice_index (index_at (m ∷ []) place) 0 ≡ place
-vector_index m place inside = ap (λ p. p % m) (div-one place) ∙ mod-eq_of_lt inside
 
 either_all : (c : Bool) (xs ys : List Elem) → All IsElementInRange xs → All IsElementInRange ys → All IsElementInRange (if c then xs else ys)
 either_all true xs ys h k = h

@@ -1,6 +1,7 @@
 -- Lists of bits, as counts.
 use Rattle.std.proofs.Common.{◌≡◌, ℕ, ℤ, pos, negsuc, zero, suc, ◌+◌, ◌*◌, ◌<◌, true, false, Bool, int_eq, List, [], ◌∷◌, ◌++◌, map, take, length, slice_index, slice_index_or, refl, ap, sym, ⊎_elim, inl, inr, arith}
 use Rattle.std.specs.Prelude.{◌≤◌, ◌^◌, ◌==◌, ◌||◌, ◌⊎◌, sum, replicate}
+use Rattle.std.proofs.Math.ListN.{get_or-map}
 use Rattle.std.proofs.lemmas.Bool.{true≢false, cases_Bool, eqb-true, le-ltb}
 use Rattle.std.proofs.lemmas.Bool.Decides.{Decides-int_eq}
 use Rattle.std.proofs.lemmas.List.Sums.{sum_by_more, sum_by-take-le}
@@ -10,16 +11,14 @@ use Rattle.apl_answer.specs.Arguments.{is_bit, is_natural}
 use Rattle.apl_struct.specs.Compressing.{expanded_index}
 use Rattle.apl_struct.specs.Expanding.{expanded_entry}
 use Rattle.apl_struct.specs.declared.expanding.TheConstants.{ABSENT}
-use Rattle.apl_struct.specs.Scalars.{entry_index}
+use Rattle.apl_struct.specs.Along.{entry_index}
 use Rattle.apl_struct.proofs.AsVectors.{entry_there}
 
 abbrev pub counts : List ℤ → List ℕ
 counts bits = map place_number bits
 
 pub count_at : (bits : List ℤ) (i : ℕ) → slice_index (counts bits) i ≡ place_number (slice_index_or bits i (pos 0))
-count_at [] i = refl
-count_at (z ∷ zs) zero = refl
-count_at (z ∷ zs) (suc i) = count_at zs i
+count_at bits i = get_or-map place_number bits i (pos 0)
 
 either : (p q : Bool) → (p || q) ≡ true → (p ≡ true) ⊎ (q ≡ true)
 either true q e = inl refl

@@ -1,7 +1,10 @@
 -- Short names for the arrays of the worked examples.
-use Rattle.std.proofs.Common.{ℕ, ℤ, pos, neg_ℤ, List, [], ◌∷◌, length, map, replicate}
+use Rattle.std.proofs.Common.{◌≡◌, ℕ, ℤ, pos, neg_ℤ, List, [], ◌∷◌, length, map, replicate}
+use Rattle.std.specs.Prelude.{Result}
 use Rattle.apl_array.specs.Shape.{count_of}
 use Rattle.apl_array.specs.Array.{ArrayValue, number_array, character_array}
+use Rattle.apl_answer.specs.declared.fault.OpFault.{OpFault}
+use Rattle.apl_answer.specs.Rows.{Row, result_of}
 pub mod Axes
 pub mod Building
 pub mod Joining
@@ -9,6 +12,10 @@ pub mod Taking
 pub mod Rearranging
 pub mod Compressing
 pub mod Indexing
+
+-- each row answers what stands beside it
+abbrev pub AllAnswer : List (Row × Result ArrayValue OpFault) → Type 0
+AllAnswer examples = map (λ e. result_of e.0) examples ≡ map (λ e. e.1) examples
 
 -- numbers from 0 up
 abbrev pub numbers : List ℕ → List ℕ → ArrayValue

@@ -1,6 +1,6 @@
 -- The places of joined arrays.
 use Rattle.std.proofs.Common.{◌≡◌, true, false, pos, ℕ, zero, suc, ◌+◌, ◌-◌, ◌*◌, ◌/◌, ◌%◌, ◌<◌, ◌≤◌, ◌==◌, inl, inr, List, [], ◌∷◌, length, map, drop, take, slice_index, refl, sym, ap, subst, ◌∙◌, arith}
-use Rattle.std.specs.Prelude.{◌^◌, ◌||◌, ◌&&◌, max, insert, remove, slice_set, slice_index_or, nat_le, nat_lt}
+use Rattle.std.specs.Prelude.{◌||◌, ◌&&◌, max, insert, remove, slice_set, slice_index_or, nat_le, nat_lt}
 use Rattle.std.proofs.Math.Arith.{mod-mul}
 use Rattle.std.proofs.Math.Nat.{mod-lt, mul-le-mul_right}
 use Rattle.std.proofs.Math.ListN.{get_or-map}
@@ -118,16 +118,6 @@ module _ (below : (shape index : List ℕ) → IsIndexOf shape index → place_o
 
 -- ---- the blocks of a joined array
 
-factors_some : (a b c : ℕ) → 0 < a * b * c → (0 < b) × (0 < c)
-factors_some a zero c some = absurd (omega (arith, some))
-factors_some a (suc b) zero some = absurd (omega (arith, some))
-factors_some a (suc b) (suc c) some = (omega arith, omega arith)
-
-pub product_some : (a b : ℕ) → 0 < a → 0 < b → 0 < a * b
-product_some zero b first second = absurd (omega arith)
-product_some (suc a) zero first second = absurd (omega arith)
-product_some (suc a) (suc b) first second = omega arith
-
 pub set_by_insert : (xs : List ℕ) (k n : ℕ) → k < length xs → slice_set xs k n ≡ insert (remove xs k) k n
 set_by_insert [] k n inside = absurd (omega arith)
 set_by_insert (x ∷ xs) zero n inside = refl
@@ -150,13 +140,10 @@ below_left i n inner x first within = omega (arith, mul-le-mul_right {m = i + 1}
 above_left : (i n inner x : ℕ) → n ≤ i → n * inner ≤ i * inner + x
 above_left i n inner x later = omega (arith, mul-le-mul_right {m = n} {n = i} inner later)
 
--- the place in the left argument, and in the right one
-left_place : (q n i inner x : ℕ) → q * (n * inner) + (i * inner + x) ≡ (q * n + i) * inner + x
-left_place q n i inner x = omega arith
-
 distributed : (a b inner : ℕ) → (a + b) * inner ≡ a * inner + b * inner
 distributed a b inner = omega arith
 
+-- the place in the right argument
 right_place : (q n m i inner x : ℕ) → n ≤ i → q * (m * inner) + ((i * inner + x) - n * inner) ≡ (q * m + (i - n)) * inner + x
 right_place q n m i inner x later =
     let split : i * inner ≡ (i - n) * inner + n * inner = ap (λ j. j * inner) (omega arith) ∙ distributed (i - n) n inner in
@@ -194,10 +181,10 @@ module _ (below : (shape index : List ℕ) → IsIndexOf shape index → place_o
       let shapes : shape ≡ slice_set right k all = same_but_for left right k all axis_left axis_right (same_text (remove left k) (remove right k) (sym others)) in
       let inners : count_of (drop (k + 1) right) ≡ inner =
       ap count_of (sym (drop-set-lt (k + 1) right k all (omega arith)) ∙ ap (drop (k + 1)) (sym shapes) ∙ drop-set-lt (k + 1) left k all (omega arith)) in
-      let some : (0 < all) × (0 < inner) = factors_some (count_of (take k left)) all inner (omega (arith, counted left k all axis_left, inside)) in
+      let some = axis_facts (count_of (take k left)) all inner (count_of shape) (counted left k all axis_left) (omega (arith, inside)) in
       let i_is : i ≡ place / inner % all = at_axis left k all place axis_left in
-      let rest : place % (all * inner) ≡ i * inner + x = mod-mul place some.0 some.1 ∙ ap (λ j. j * inner + x) (sym i_is) in
-      let x_below : x < inner = mod-lt place some.1 in
+      let rest : place % (all * inner) ≡ i * inner + x = mod-mul place some.length_some some.inner_some ∙ ap (λ j. j * inner + x) (sym i_is) in
+      let x_below : x < inner = mod-lt place some.inner_some in
       let is_index : IsIndexOf shape index = lawful shape place inside in
       let past_a = slice_index_or a.ravel 0 fill in
       let past_b = slice_index_or b.ravel 0 fill in
@@ -208,7 +195,7 @@ module _ (below : (shape index : List ℕ) → IsIndexOf shape index → place_o
             let here : IsIndexOf left index = subst (λ l. IsIndexOf left l) same (changed left index k all i axis_left is_index first) in
             let taken = q * (n * inner) + place % (all * inner) in
             let there : taken ≡ place_of left index =
-            ap (λ r. q * (n * inner) + r) rest ∙ left_place q n i inner x ∙ sym (placed left k all place i axis_left inside) ∙ ap (place_of left) same in
+            ap (λ r. q * (n * inner) + r) rest ∙ omega arith ∙ sym (placed left k all place i axis_left inside) ∙ ap (place_of left) same in
             let early : place % (all * inner) < n * inner = rw rest (below_left i n inner x first x_below) in
             let part : joined_value a.ravel b.ravel past_a past_b (n * inner) (m * inner) q (place % (all * inner)) ≡ slice_index_or a.ravel taken past_a =
             rw (lt-ltb (place % (all * inner)) (n * inner) early) refl in
@@ -249,9 +236,7 @@ module _ (below : (shape index : List ℕ) → IsIndexOf shape index → place_o
       let widths : width ≡ n * inner = width_is ∙ ap (λ l. l * count_of (drop (k + 1) shape)) left_is ∙ ap (λ w. n * w) inners in
       let other_widths : others ≡ m * inner = others_is ∙ ap (λ l. l * count_of (drop (k + 1) shape)) right_is ∙ ap (λ w. m * w) inners in
       let here : place < count_of (slice_set own k (n + m)) = rw shapes at inside in
-      ap (λ w. joined_at a b w others place) widths ∙ ap (λ w. joined_at a b (n * inner) w place) other_widths
-      ∙ joined_element a b rank k place array_a array_b refl joins axis same here
-      ∙ ap (λ l. catenated_element rank k l a b (index_at (slice_set own k (n + m)) place)) (sym left_is) ∙ ap (λ s. catenated_element rank k left a b (index_at s place)) (sym shapes)
+      rw (widths, other_widths, left_is, shapes) (joined_element a b rank k place array_a array_b refl joins axis same here)
 
 -- the axis of the joined shape
 pub joined_axis : (a b : ArrayValue) (k left right : ℕ) (shape : List ℕ) → k < joined_rank a b → shape ≡ slice_set (slices_shape (joined_rank a b) k a b) k (left + right)
@@ -264,22 +249,8 @@ joined_axis a b k left right shape axis is =
     (omega arith, sym at_k)
 
 -- the parts of a line on an axis that has elements
-pub record SeamFacts (left right inner : ℕ) : Type 0 where
-  pub left_fits : left * inner ≤ 2 ^ 30
-  pub right_fits : right * inner ≤ 2 ^ 30
-  pub some : 0 < left * inner + right * inner
-  pub most : left * inner + right * inner ≤ 2 ^ 30
-
-pub seam_facts : (left right n outer inner count : ℕ) → left + right ≡ n → count ≡ outer * n * inner → 0 < count → count ≤ 2 ^ 30 → SeamFacts left right inner
-seam_facts left right n outer inner count whole is some most =
-    let facts = axis_facts n n outer inner count is some (omega (arith, is, most)) in
-    let split : left * inner + right * inner ≡ n * inner = sym (distributed left right inner) ∙ ap (λ w. w * inner) whole in
-    record {
-      left_fits = omega (arith, split, facts.block_most);
-      right_fits = omega (arith, split, facts.block_most);
-      some = omega (arith, split, product_some n inner facts.length_some facts.inner_some);
-      most = omega (arith, split, facts.block_most);
-    }
+pub parts_of_line : (left right n inner : ℕ) → left + right ≡ n → left * inner + right * inner ≡ n * inner
+parts_of_line left right n inner whole = sym (distributed left right inner) ∙ ap (λ w. w * inner) whole
 
 first_of_map : {T : Type 0} (f : T → Elem) (ravel : List Elem) (zs : List T) (fill : T) (e : Elem) → ravel ≡ map f zs → f fill ≡ e → slice_index_or ravel 0 e ≡ f (slice_index_or zs 0 fill)
 first_of_map f ravel zs fill e ravel_is is = ap (λ r. slice_index_or r 0 e) ravel_is ∙ ap (slice_index_or (map f zs) 0) (sym is) ∙ get_or-map f zs 0 fill
@@ -294,8 +265,4 @@ joined_elements f a b xs ys x y fill left right place fill_is ravel_a ravel_b x_
     let e = fill_of (joined_kind a b) in
     let first_a : slice_index_or a.ravel 0 e ≡ f x = first_of_map f a.ravel xs fill e ravel_a fill_is ∙ ap f (sym x_is) in
     let first_b : slice_index_or b.ravel 0 e ≡ f y = first_of_map f b.ravel ys fill e ravel_b fill_is ∙ ap f (sym y_is) in
-    ap (λ p. joined_value a.ravel b.ravel p (slice_index_or b.ravel 0 e) left right line i) first_a
-    ∙ ap (λ p. joined_value a.ravel b.ravel (f x) p left right line i) first_b
-    ∙ ap (λ r. joined_value r b.ravel (f x) (f y) left right line i) ravel_a
-    ∙ ap (λ r. joined_value (map f xs) r (f x) (f y) left right line i) ravel_b
-    ∙ joined_of_map f xs ys x y left right line i
+    rw (first_a, first_b, ravel_a, ravel_b) (joined_of_map f xs ys x y left right line i)

@@ -1,5 +1,6 @@
 pub mod Examples
 pub mod Filled
+pub mod Takings
 pub mod Elements
 pub mod Joints
 pub mod Passing
@@ -25,4 +26,3 @@ pub mod Bits
 pub mod Naturals
 pub mod Replicated
 pub mod AsVectors
-pub mod Origins

@@ -1,19 +1,16 @@
 -- The answer of a row whose checks all hold.
-use Rattle.std.proofs.Common.{◌≡◌, true, List, [], ◌∷◌, Result, Err, sym, subst}
+use Rattle.std.proofs.Common.{List, [], ◌∷◌, Result, Err, sym, subst}
 use Rattle.std.specs.Prelude.{Bool, if◌then◌else◌}
 use Rattle.apl_array.specs.Array.{ArrayValue}
 use Rattle.apl_answer.specs.declared.fault.OpFault.{OpFault}
-use Rattle.apl_answer.specs.Pointwise.{IsAnswerOf}
-use Rattle.apl_answer.specs.Rows.{Check, first_failure_or}
+use Rattle.apl_answer.specs.Pointwise.{answer_of, IsAnswerOf}
+use Rattle.apl_answer.specs.Rows.{Check, Row, HavePassed, Answers, first_failure_or}
 
--- all the tests hold
-abbrev pub AllHold : List Check → Type 0
-AllHold [] = Unit {0}
-AllHold (check ∷ checks) = (check.0 ≡ true) × AllHold checks
-
-pub answered : (checks : List Check) (answer result : Result ArrayValue OpFault) → AllHold checks → IsAnswerOf answer result
-    → IsAnswerOf (first_failure_or checks answer) result
-answered [] answer result hold is = is
-answered (check ∷ checks) answer result hold is =
+passed : (checks : List Check) (answer result : Result ArrayValue OpFault) → HavePassed checks → IsAnswerOf answer result → IsAnswerOf (first_failure_or checks answer) result
+passed [] answer result hold is = is
+passed (check ∷ checks) answer result hold is =
     let P : Bool → Type 0 = λ b. IsAnswerOf (if b then first_failure_or checks answer else Err check.1) result in
-    subst P (sym hold.0) (answered checks answer result hold.1 is)
+    subst P (sym hold.0) (passed checks answer result hold.1 is)
+
+pub answered : (row : Row) (result : Result ArrayValue OpFault) → HavePassed row.checks → IsAnswerOf (answer_of row.shape row.outcome row.kind) result → Answers row result
+answered row result hold is = passed row.checks (answer_of row.shape row.outcome row.kind) result hold is

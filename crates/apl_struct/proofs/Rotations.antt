@@ -1,6 +1,7 @@
 -- The rotation of a line as a number of the list of rotations.
-use Rattle.std.proofs.Common.{◌≡◌, ℕ, ℤ, pos, zero, suc, true, false, List, [], ◌∷◌, map, slice_index_or, refl, ap, ◌∙◌}
+use Rattle.std.proofs.Common.{◌≡◌, ℕ, ℤ, pos, true, false, List, map, slice_index_or, sym, ap, ◌∙◌}
 use Rattle.std.specs.Prelude.{remove}
+use Rattle.std.proofs.Math.ListN.{get_or-map}
 use Rattle.apl_array.specs.declared.array.Elem.{Elem}
 use Rattle.apl_array.specs.declared.array.Elem.TheVariants.{Int}
 use Rattle.apl_array.specs.Array.{ArrayValue}
@@ -9,9 +10,7 @@ use Rattle.apl_answer.specs.Arguments.{number_of, numbers_of, has_one_element}
 use Rattle.apl_struct.specs.Rearranging.{rotation_at}
 
 pub number_in : (elements : List Elem) (place : ℕ) → number_of (slice_index_or elements place (Int (pos 0))) ≡ slice_index_or (map number_of elements) place (pos 0)
-number_in [] place = refl
-number_in (x ∷ xs) zero = refl
-number_in (x ∷ xs) (suc place) = number_in xs place
+number_in elements place = sym (get_or-map number_of elements place (Int (pos 0)))
 
 pub rotation_of_all : (a : ArrayValue) (numbers : List ℤ) (k : ℕ) (index : List ℕ) → numbers_of a ≡ numbers → has_one_element a.shape ≡ true
     → rotation_at a k index ≡ slice_index_or numbers 0 (pos 0)

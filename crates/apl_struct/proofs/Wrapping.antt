@@ -1,7 +1,8 @@
 -- Rotated indexes as a sum that is counted round.
 use Rattle.std.proofs.Common.{◌≡◌, ℕ, ℤ, pos, negsuc, zero, suc, ◌+◌, ◌*◌, ◌-◌, ◌/◌, ◌%◌, ◌<◌, ◌+ℤ◌, true, false, refl, ap, sym, ◌∙◌, ⊎_elim, arith}
-use Rattle.std.specs.Prelude.{◌≤◌, List, [], ◌∷◌, map, nat_lt, nat_abs, unsigned_abs, slice_index, slice_index_or}
+use Rattle.std.specs.Prelude.{◌≤◌, List, map, nat_lt, nat_abs, unsigned_abs, slice_index, slice_index_or}
 use Rattle.std.specs.Int.{int_rem_euclid}
+use Rattle.std.proofs.Math.ListN.{get_or-map}
 use Rattle.std.proofs.lemmas.Bool.{cases_lt}
 use Rattle.std.proofs.lemmas.Int.{ints, int_rem_euclid_is}
 use Rattle.std.proofs.Math.Nat.{div-one, div-div-eq-div-mul, mod-one, mod-lt, mod-eq_of_lt, mod-eq-sub-mod, add-mod-mod, mod-add-div'}
@@ -61,9 +62,7 @@ rotation_of_none (suc m) = mod-eq_of_lt (omega arith)
 
 -- the rotation of a line, of which there may be none
 pub rotation_at_line : (n : ℕ) (rotations : List ℤ) (line : ℕ) → slice_index (map (rotation_of n) rotations) line ≡ rotation_of n (slice_index_or rotations line (pos 0))
-rotation_at_line n [] line = sym (rotation_of_none n)
-rotation_at_line n (z ∷ zs) zero = refl
-rotation_at_line n (z ∷ zs) (suc line) = rotation_at_line n zs line
+rotation_at_line n rotations line = ap (slice_index_or (map (rotation_of n) rotations) line) (sym (rotation_of_none n)) ∙ get_or-map (rotation_of n) rotations line (pos 0)
 
 pub rotation_at_line_most : (n : ℕ) (rotations : List ℤ) (line : ℕ) → slice_index (map (rotation_of n) rotations) line ≤ n
 rotation_at_line_most n rotations line = rw (rotation_at_line n rotations line) (rotation_most n (slice_index_or rotations line (pos 0)))

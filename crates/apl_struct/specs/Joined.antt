@@ -6,7 +6,7 @@ use Rattle.apl_answer.specs.declared.fault.OpFault.{OpFault}
 use Rattle.apl_answer.specs.declared.fault.OpFault.TheVariants.{Length, Memory}
 use Rattle.apl_answer.specs.Arguments.{fill_of, is_same_shape}
 use Rattle.apl_walk.specs.Seams.{joined_value}
-use Rattle.apl_struct.specs.declared.slices.Joint.{Joint}
+use Rattle.apl_struct.specs.declared.joining.Joint.{Joint}
 use Rattle.apl_struct.specs.Joining.{joined_kind}
 
 -- The element at a place where each line has the next `left` of A and then the next `right` of B. Past its last one an argument has its first.

@@ -7,7 +7,6 @@ pub mod Rearranging
 pub mod Compressing
 pub mod Expanding
 pub mod Replicating
-pub mod Scalars
 pub mod Indexing
 pub mod Along
 pub mod Joined

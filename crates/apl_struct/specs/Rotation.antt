@@ -1,12 +1,7 @@
 -- Indexes counted round. No contract of a public function cites this file.
-use Rattle.std.specs.Prelude.{◌≡◌, ℕ, ℤ, pos, zero, suc, nat_abs, ◌+◌, ◌*◌, List, Result, Ok, slice_index, slice_index_or, remove}
+use Rattle.std.specs.Prelude.{ℕ, ℤ, pos, zero, suc, nat_abs, ◌+◌, ◌*◌, List, slice_index, slice_index_or, remove}
 use Rattle.std.specs.Int.{int_rem_euclid}
-use Rattle.apl_array.specs.declared.array.Elem.{Elem}
-use Rattle.apl_array.specs.declared.array.Kind.{Kind}
 use Rattle.apl_array.specs.Shape.{place_of}
-use Rattle.apl_array.specs.Array.{ArrayValue}
-use Rattle.apl_answer.specs.declared.fault.OpFault.{OpFault}
-use Rattle.apl_answer.specs.Pointwise.{answer_of, IsAnswerOf}
 use Rattle.apl_struct.specs.Gathering.{along_axis}
 use Rattle.apl_struct.specs.Rearranging.{rotated_index}
 use Rattle.apl_struct.specs.Along.{line_index, line_number, line_place}
@@ -28,8 +23,3 @@ line_rotation rotations shape k index = slice_index_or rotations (place_of (remo
 -- the index list in the argument if each line along axis k is rotated by its number
 abbrev pub rotated_source : List ℤ → List ℕ → ℕ → List ℕ → List ℕ
 rotated_source rotations shape k index = along_axis k (rotated_index (line_rotation rotations shape k index) (slice_index shape k)) index
-
--- the array of this shape and kind whose element is known at each list of indexes
-abbrev pub IsArrayEverywhere : List ℕ → Kind → (List ℕ → Elem) → Result ArrayValue OpFault → Type 0
-IsArrayEverywhere shape kind at_index result = (element : List ℕ → Elem) → ((index : List ℕ) → at_index index ≡ element index)
-    → IsAnswerOf (answer_of shape (λ index. Ok (element index)) kind) result

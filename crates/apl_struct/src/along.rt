@@ -1,52 +1,122 @@
-//! Results that differ from an argument along one axis.
-ghost use Rattle.std.specs.Prelude.{◌≡◌, ◌+◌, ◌*◌, ◌/◌, ◌<◌, ◌≤◌, IfOk, length, drop, slice_index, slice_set, remove};
-ghost use Rattle.apl_array.specs.Shape.{count_of, place_of};
+//! Results that differ from an argument along one axis, where a scalar serves as a vector.
+ghost use Rattle.std.specs.Prelude.{◌≡◌, ℕ, ◌*◌, ◌<◌, ◌≤◌, if◌then◌else◌, IfOk, max, option_map, slice_index, slice_set};
 ghost use Rattle.apl_pool.specs.declared.kernel.TheConstants.{MOST_PLACES};
-ghost use Rattle.apl_struct.specs.Along.{IsWalkAlong, IsArrayAlong};
+ghost use Rattle.apl_answer.specs.Arguments.{rank_of, is_scalar};
+ghost use Rattle.apl_answer.specs.Pointwise.{IsArrayBy, IsShapeOf};
+ghost use Rattle.apl_struct.specs.Along.{taking_extent, taking_index, IsTakingOf, IsWalkAlong};
+ghost use Rattle.apl_struct.specs.Compressing.{as_vector};
+ghost use Rattle.apl_struct.specs.Gathering.{element_or_fill, along_axis_or_none};
 ghost use Rattle.apl_walk.specs.declared.map.TheConstants.{MOST_STEP};
 ghost use Rattle.apl_walk.specs.Maps.{extent_of, map_extent, map_step};
 ghost use Rattle.apl_walk.specs.Walks.{maps_of};
 
+use crate::plain::empty;
 use apl_answer::OpFault;
 use apl_array::{
     Array, Shape, changed_axis_has_place, places_match_index_lists, replaced_index_has_place,
 };
 use apl_pool::Crew;
-use apl_walk::{AxisMap, MOST_STEP, Map, Walk, Window, gather};
+use apl_walk::{AxisMap, ListedOrNone, Map, Repeated, Reversed, Rotated, Walk, Window, gather};
 use std::alloc::{AllocError, Global};
 
-/// By what places along an axis are taken apart.
-#[derive(Clone, Copy)]
-pub(crate) struct Steps {
-    /// How long the result's axis is.
-    pub length: usize,
-    /// How far apart neighbours along it are.
-    pub inner: usize,
-    /// How many places of the argument there are for one index list of the axes to the left.
-    pub block: usize,
+/// How many axes an array has where a scalar serves as a vector.
+pub(crate) fn vector_rank(b: &Array) -> usize
+    ensures rank { result ≡ max 1 (rank_of b.now) }
+    ensures vector { (n : ℕ) → result ≡ rank_of (as_vector n b.now) }
+{
+    b.shape().rank().max(1)
 }
 
-/// The steps along axis `k` of a result with elements, which is the argument's but for that axis.
-pub(crate) fn steps_along(argument: &Shape, shape: &Shape, k: usize) -> Steps
-    requires axis { k < length argument.now }
-    requires shape { shape.now ≡ slice_set argument.now k (slice_index shape.now k) }
-    requires some { 0 < count_of shape.now }
-    ensures length { result.length ≡ slice_index shape.now k }
-    ensures inner { result.inner ≡ count_of (drop (k + 1) argument.now) }
-    ensures block { result.block ≡ slice_index argument.now k * count_of (drop (k + 1) argument.now) }
-    ensures length_some { 0 < result.length }
-    ensures inner_some { 0 < result.inner }
-    ensures line_most { result.length * result.inner ≤ count_of shape.now }
-    ensures block_most { result.block ≤ MOST_PLACES }
+/// The length of axis `k` where a scalar serves as a vector of `n`.
+pub(crate) fn vector_length(b: &Array, k: usize, n: usize) -> usize
+    requires axis { k < max 1 (rank_of b.now) }
+    requires most { n ≤ MOST_PLACES }
+    ensures length { result ≡ slice_index (as_vector n b.now).shape k }
+    ensures most { result ≤ MOST_PLACES }
 {
-    changed_axis_has_place();
-    replaced_index_has_place();
-    let inner = shape.inner(k);
-    Steps {
-        length: shape.axis(k),
-        inner,
-        block: argument.axis(k) * inner,
+    if b.shape().rank() == 0 {
+        n
+    } else {
+        b.shape().axis(k)
     }
+}
+
+/// The lengths with another one of axis `k`.
+fn lengths_with(alloc: Global, b: &Array, k: usize, length: usize) -> Result<Vec<usize>, AllocError>
+    requires { k < max 1 (rank_of b.now) }
+    ensures { IfOk result (λ lengths. (n : ℕ) → lengths.items ≡ slice_set (as_vector n b.now).shape k length) }
+{
+    if b.shape().rank() == 0 {
+        return [length].to_vec(alloc);
+    }
+    let mut lengths = b.shape().lengths().to_vec(alloc)?;
+    lengths[k] = length;
+    Ok(lengths)
+}
+
+/// The shape in which axis `k` has this length. It is refused where it passes a limit (`Limit`).
+pub(crate) fn shape_with_axis(
+    alloc: Global,
+    b: &Array,
+    k: usize,
+    length: usize,
+) -> Result<Shape, OpFault>
+    requires { k < max 1 (rank_of b.now) }
+    ensures { (n : ℕ) → IsShapeOf (slice_set (as_vector n b.now).shape k length) result }
+{
+    let lengths = lengths_with(alloc, b, k, length)?;
+    Ok(Shape::new(alloc, lengths.as_slice())?)
+}
+
+/// Which index of an argument's axis each index of a result's axis takes.
+#[derive(Clone, Copy)]
+pub(crate) enum Taking<'a> {
+    /// The last one first.
+    Reversed,
+    /// The one that is so much further, counted round.
+    Rotated(usize),
+    /// Each one so many times.
+    Repeated(usize),
+    /// Those that are listed. An entry that is no index of the axis is a fill.
+    Listed(&'a [u32]),
+}
+
+impl<'a> Taking<'a> {
+    /// What they add to a place, where the axis has this length and its neighbours are `stride` apart.
+    fn map(self, length: usize, stride: usize) -> Map<'a>
+        requires taking { IsTakingOf length self }
+        requires some { 0 < taking_extent length self }
+        requires most { taking_extent length self ≤ MOST_PLACES }
+        requires near { length * stride ≤ MOST_STEP }
+        ensures extent { map_extent result ≡ taking_extent length self.entry }
+        ensures step { (i : ℕ) → map_step result i ≡ option_map (λ j. j * stride) (taking_index length self.entry i) }
+    {
+        match self {
+            Taking::Reversed => Map::Reversed(Reversed::new(length, stride)),
+            Taking::Rotated(by) => Map::Rotated(Rotated {
+                extent: length,
+                by,
+                stride,
+            }),
+            Taking::Repeated(times) => Map::Repeated(Repeated {
+                axis_length: length,
+                times,
+                stride,
+            }),
+            Taking::Listed(entries) => Map::ListedOrNone(ListedOrNone {
+                entries,
+                axis_length: length,
+                stride,
+            }),
+        }
+    }
+}
+
+/// How far apart neighbours along an axis are: those of a scalar are its only element.
+fn stride_of(b: &Array, inner: usize) -> usize
+    ensures { result ≡ (if is_scalar b.now then 0 else inner) }
+{
+    if b.shape().rank() == 0 { 0 } else { inner }
 }
 
 /// The walk along an axis whose neighbours are `inner` apart. The argument has `block` places for each of `outer` index lists of the
@@ -71,31 +141,32 @@ fn walk_along<'a>(
     walk.with(Map::Window(Window::whole(outer, block)))
 }
 
-/// The array of this shape, which has elements and is the argument's but for axis `k`. Along it are the elements at the
-/// indexes that a map takes.
-pub(crate) fn gather_mapped<W: Crew>(
+/// The array of this shape, which is the argument's but for axis `k` of this length. Along it are the elements at the indexes that are
+/// taken. All those of a scalar are its only element.
+pub(crate) fn gather_along<W: Crew>(
     workers: &W,
     shape: Shape,
     b: &Array,
     k: usize,
-    map: Map,
+    length: usize,
+    taking: Taking,
 ) -> Result<Array, OpFault>
-    requires axis { k < length b.now.shape }
-    requires shape { shape ≡ slice_set b.now.shape k (map_extent map) }
-    requires some { 0 < count_of shape }
-    ensures { IsArrayAlong shape b.now.kind b.now k (count_of (drop (k + 1) b.now.shape)) (map_extent map.entry) (map_step map.entry) result }
+    requires axis { k < max 1 (rank_of b.now) }
+    requires taking { IsTakingOf length taking }
+    requires length { length ≡ slice_index (as_vector length b.now).shape k }
+    requires shape { shape ≡ slice_set (as_vector length b.now).shape k (taking_extent length taking) }
+    ensures { IsArrayBy shape b.now.kind (λ index. element_or_fill (as_vector length b.now) (along_axis_or_none k (taking_index length taking.entry) index)) result }
 {
     places_match_index_lists();
     changed_axis_has_place();
     replaced_index_has_place();
-    // An array that was asked something is known to be lawful.
-    let _kind = b.kind();
-    let Steps {
-        length,
-        inner,
-        block,
-    } = steps_along(b.shape(), &shape, k);
-    let outer = shape.count() / (length * inner);
+    if shape.count() == 0 {
+        return empty(workers, shape, b);
+    }
+    let inner = shape.inner(k);
+    let outer = shape.count() / (shape.axis(k) * inner);
+    let block = b.shape().count() / outer;
+    let map = taking.map(length, stride_of(b, inner));
     let walk = walk_along(workers.alloc(), outer, block, map, inner)?;
     gather(workers, shape, b, walk)
 }

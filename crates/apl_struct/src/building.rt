@@ -12,6 +12,7 @@ ghost use Rattle.apl_walk.specs.Gathered.{filled_at};
 ghost use Rattle.apl_struct.specs.Building.{shape_of_row, ravel_row, reshape_source, reshape_row, iota_row};
 
 use crate::arguments::numbers_among;
+use crate::shapes::lawful_shape;
 use apl_answer::{ElementType, OpFault, fill_array};
 use apl_array::{Array, MOST_AXES, MOST_ELEMENTS, Origin, Shape, places_match_index_lists};
 use apl_pool::{Crew, Cut, Fault, Gate, Kernel, Pool, Workers};
@@ -19,17 +20,6 @@ use apl_walk::{ByLines, Cyclic};
 use smallvec::SmallVec;
 use std::alloc::Global;
 use std::thread::Threads;
-
-/// The shape of a vector.
-pub(crate) fn vector_shape(alloc: Global, length: usize) -> Shape
-    requires { length ≤ MOST_ELEMENTS }
-    ensures { result ≡ length ∷ [] }
-{
-    let Ok(shape) = Shape::new(alloc, &[length]) else {
-        unreachable!()
-    };
-    shape
-}
 
 /// The lengths of a shape.
 #[derive(Drop)]
@@ -68,7 +58,7 @@ pub fn shape_of<R: Threads + Sync, C: Cut + Sync, G: Gate + Sync>(
     ensures { Answers (shape_of_row b.now) result }
 {
     let workers = Workers { rt, alloc, pool };
-    let shape = vector_shape(alloc, b.shape().rank());
+    let shape = lawful_shape(alloc, &[b.shape().rank()])?;
     fill_array(&workers, shape, &Lengths { shape: b.shape() })
 }
 
@@ -85,7 +75,8 @@ pub fn ravel<R: Threads + Sync, C: Cut + Sync, G: Gate + Sync>(
 {
     let workers = Workers { rt, alloc, pool };
     let count = b.shape().count();
-    repeat(&workers, vector_shape(alloc, count), b)
+    let shape = lawful_shape(alloc, &[count])?;
+    repeat(&workers, shape, b)
 }
 
 fn repeat_elements<T: ElementType + Send + Sync, W: Crew>(

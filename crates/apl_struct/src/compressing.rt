@@ -1,5 +1,5 @@
 //! Indexes of an axis that numbers keep and repeat.
-ghost use Rattle.std.specs.Prelude.{◌≡◌, ◌||◌, ◌==◌, true, ℕ, ◌<◌, ◌≤◌, if◌then◌else◌, Err, map, max, length, replicate, slice_index, slice_set};
+ghost use Rattle.std.specs.Prelude.{◌≡◌, true, ◌<◌, ◌≤◌, if◌then◌else◌, Err, map, max, length, replicate, slice_index, slice_set};
 ghost use Rattle.std.specs.List.{list_all};
 ghost use Rattle.apl_array.specs.Axes.{place_number};
 ghost use Rattle.apl_array.specs.Shape.{is_shape};
@@ -10,25 +10,15 @@ ghost use Rattle.apl_answer.specs.Rows.{Answers};
 ghost use Rattle.apl_struct.specs.Compressing.{as_vector, repeated_indexes, replicate_row};
 ghost use Rattle.apl_struct.specs.Replicating.{replicated};
 
+use crate::along::{Taking, gather_along, shape_with_axis, vector_length, vector_rank};
 use crate::arguments::numbers_among;
 use crate::plain::empty;
-use crate::repeating::{capped_product, capped_sum, kept_indexes, listed_indexes};
-use crate::scalars::{
-    gather_listed, gather_vector, shape_with_axis, vector_length, vector_rank, vector_stride,
-};
+use crate::repeating::{capped_sum, kept_indexes, listed_indexes};
 use apl_answer::OpFault;
-use apl_array::{Array, Axis, Shape};
+use apl_array::{Array, Axis, MOST_ELEMENTS, Shape};
 use apl_pool::{Crew, Cut, Gate, Pool, Workers};
-use apl_walk::{Map, Repeated};
 use std::alloc::Global;
 use std::thread::Threads;
-
-/// Whether this many numbers serve an axis of this length: one for each index, or one for all.
-fn serves(count: usize, length: usize) -> bool
-    ensures { result ≡ ((count == 1) || (count == length)) }
-{
-    count == 1 || count == length
-}
 
 /// The repeated indexes of axis `k`, which are listed.
 fn gather_repeated<W: Crew>(
@@ -42,31 +32,14 @@ fn gather_repeated<W: Crew>(
     requires axis { k < max 1 (rank_of b.now) }
     requires length { length counts.now ≡ slice_index (as_vector (length counts.now) b.now).shape k }
     requires indexes { indexes.now ≡ repeated_indexes (map place_number counts.now) }
-    requires shape { (n : ℕ) → shape ≡ slice_set (as_vector n b.now).shape k (length indexes.now) }
+    requires shape { shape ≡ slice_set (as_vector (length counts.now) b.now).shape k (length indexes.now) }
     requires lawful { is_shape shape ≡ true }
     ensures { IsAnswerOf (replicated (as_vector (length counts.now) b.now) k (map place_number counts.now)) result }
 {
-    gather_listed(workers, shape, b, k, indexes, counts.len())
+    gather_along(workers, shape, b, k, counts.len(), Taking::Listed(indexes))
 }
 
-/// The kept indexes of axis `k`, which are listed.
-fn compress_each<W: Crew>(
-    workers: &W,
-    b: &Array,
-    k: usize,
-    bits: &[i64],
-    indexes: &[u32],
-) -> Result<Array, OpFault>
-    requires axis { k < max 1 (rank_of b.now) }
-    requires length { length bits.now ≡ slice_index (as_vector (length bits.now) b.now).shape k }
-    requires indexes { indexes.now ≡ repeated_indexes (map place_number bits.now) }
-    ensures { IsAnswerOf (replicated (as_vector (length bits.now) b.now) k (map place_number bits.now)) result }
-{
-    let shape = shape_with_axis(workers.alloc(), b, k, indexes.len())?;
-    gather_repeated(workers, shape, b, k, bits, indexes)
-}
-
-/// Each index of axis `k` as often as its count says.
+/// Each index of axis `k` as often as its count says. Counts that are all 0 or 1 are listed while they are judged.
 fn replicate_each<W: Crew>(
     workers: &W,
     b: &Array,
@@ -78,14 +51,19 @@ fn replicate_each<W: Crew>(
     requires most { length counts.now ≤ MOST_PLACES }
     ensures { IsAnswerOf (if list_all is_natural counts.now then replicated (as_vector (length counts.now) b.now) k (map place_number counts.now) else Err OpFault.Domain) result }
 {
+    let alloc = workers.alloc();
+    if let Some(indexes) = kept_indexes(alloc, counts)? {
+        let shape = shape_with_axis(alloc, b, k, indexes.len())?;
+        return gather_repeated(workers, shape, b, k, counts, indexes.as_slice());
+    }
     let Some(extent) = capped_sum(counts) else {
         return Err(OpFault::Domain);
     };
-    let shape = shape_with_axis(workers.alloc(), b, k, extent)?;
+    let shape = shape_with_axis(alloc, b, k, extent)?;
     if shape.count() == 0 {
         return empty(workers, shape, b);
     }
-    let indexes = listed_indexes(workers.alloc(), counts, extent)?;
+    let indexes = listed_indexes(alloc, counts, extent)?;
     gather_repeated(workers, shape, b, k, counts, indexes.as_slice())
 }
 
@@ -106,18 +84,10 @@ fn replicate_all<W: Crew>(
         return Err(OpFault::Domain);
     }
     let times = count as usize;
-    let extent = capped_product(length, times);
+    // A length past the limit is refused, whatever it is.
+    let extent = length.saturating_mul(times).min(MOST_ELEMENTS + 1);
     let shape = shape_with_axis(workers.alloc(), b, k, extent)?;
-    if shape.count() == 0 {
-        return empty(workers, shape, b);
-    }
-    let stride = vector_stride(b, &shape, k);
-    let map = Repeated {
-        axis_length: length,
-        times,
-        stride,
-    };
-    gather_vector(workers, shape, b, k, Map::Repeated(map))
+    gather_along(workers, shape, b, k, length, Taking::Repeated(times))
 }
 
 /// `A/B`, compress and replicate: each index of an axis as often as its number in `A` says, in order.
@@ -143,15 +113,12 @@ pub fn compress<R: Threads + Sync, C: Cut + Sync, G: Gate + Sync>(
     }
     let count = a.shape().count();
     let length = vector_length(b, k, count);
-    if !serves(count, length) {
+    if count != 1 && count != length {
         return Err(OpFault::Length);
     }
     let counts = numbers_among(a)?;
     if count == 1 {
         return replicate_all(&workers, b, k, length, counts[0]);
     }
-    match kept_indexes(alloc, counts)? {
-        Some(indexes) => compress_each(&workers, b, k, counts, indexes.as_slice()),
-        None => replicate_each(&workers, b, k, counts),
-    }
+    replicate_each(&workers, b, k, counts)
 }

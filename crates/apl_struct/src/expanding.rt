@@ -9,9 +9,9 @@ ghost use Rattle.apl_struct.specs.Compressing.{expand_row};
 ghost use Rattle.apl_struct.specs.Expanding.{AreEntriesOf};
 ghost use Rattle.apl_struct.specs.declared.expanding.TheConstants.{ABSENT};
 
+use crate::along::{Taking, gather_along, shape_with_axis, vector_length, vector_rank};
 use crate::arguments::numbers_among;
 use crate::repeating::is_bit;
-use crate::scalars::{gather_listed, shape_with_axis, vector_length, vector_rank};
 use apl_answer::OpFault;
 use apl_array::{Array, Axis};
 use apl_pool::{Cut, Gate, Pool, Workers};
@@ -77,5 +77,6 @@ pub fn expand<R: Threads + Sync, C: Cut + Sync, G: Gate + Sync>(
         return Err(OpFault::Length);
     }
     let shape = shape_with_axis(alloc, b, k, bits.len())?;
-    gather_listed(&workers, shape, b, k, entries.as_slice(), ones)
+    let taking = Taking::Listed(entries.as_slice());
+    gather_along(&workers, shape, b, k, ones, taking)
 }

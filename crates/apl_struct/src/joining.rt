@@ -1,15 +1,17 @@
 //! Joined arrays.
-ghost use Rattle.std.specs.Prelude.{◌≡◌, ◌+◌, ◌*◌, ◌<◌, ◌≤◌, ◌==◌, ◌&&◌, ◌||◌, map, length, not, true, Ok, slice_index, slice_set, remove, drop};
+ghost use Rattle.std.specs.Prelude.{◌≡◌, ◌+◌, ◌*◌, ◌<◌, ◌≤◌, ◌==◌, ◌&&◌, ◌||◌, map, length, not, true, Ok, IfOk, slice_index, slice_set, insert, remove, drop};
 ghost use Rattle.apl_array.specs.declared.array.Elem.TheVariants.{Int, Chr};
 ghost use Rattle.apl_array.specs.Shape.{count_of};
+ghost use Rattle.apl_array.specs.declared.shape.TheConstants.{MOST_ELEMENTS};
+ghost use Rattle.smallvec.specs.SmallVec.{small_vec_len};
 ghost use Rattle.apl_pool.specs.declared.kernel.TheConstants.{MOST_PLACES};
 ghost use Rattle.apl_answer.specs.Arguments.{has_elements, is_numbers, is_number_kind, is_same_kind, is_same_shape};
 ghost use Rattle.apl_answer.specs.Pointwise.{answer_of, IsAnswerOf, IsArrayAt};
 ghost use Rattle.apl_answer.specs.Rows.{Answers};
-ghost use Rattle.apl_struct.specs.Joined.{joined_at};
+ghost use Rattle.apl_struct.specs.Joined.{joined_at, IsJoint};
 ghost use Rattle.apl_struct.specs.Joining.{joined_rank, can_join, slices_shape, joined_kind, catenated_element, catenate_row};
 
-use crate::slices::{Joint, joint_of};
+use crate::arguments::is_same_shape;
 use apl_answer::{ElementType, OpFault, fill_array};
 use apl_array::{
     Array, Axis, Kind, MOST_AXES, Shape, changed_axis_has_place, places_match_index_lists,
@@ -17,27 +19,91 @@ use apl_array::{
 };
 use apl_pool::{Crew, Cut, Gate, Pool, Workers};
 use apl_walk::{ByLines, Joined, Part};
-use std::alloc::Global;
+use smallvec::SmallVec;
+use std::alloc::{AllocError, Global};
 use std::thread::Threads;
+
+/// The lengths with another axis put in.
+fn with_axis(
+    mut lengths: SmallVec<usize, MOST_AXES>,
+    k: usize,
+    length: usize,
+) -> Result<SmallVec<usize, MOST_AXES>, AllocError>
+    requires { k ≤ small_vec_len lengths }
+    ensures { IfOk result (λ longer. longer.items ≡ insert lengths.items k length) }
+{
+    lengths.insert(k, length)?;
+    Ok(lengths)
+}
+
+/// The lengths of what an argument is taken for, along axis `k` of `rank` axes, beside the other.
+fn slices_lengths(
+    alloc: Global,
+    own: &Array,
+    other: &Array,
+    rank: usize,
+    k: usize,
+) -> Result<SmallVec<usize, MOST_AXES>, AllocError>
+    requires rank { rank ≡ joined_rank own.now other.now }
+    requires axis { k < rank }
+    ensures lengths { IfOk result (λ lengths. lengths.items ≡ slices_shape rank k own.now other.now) }
+    ensures axes { IfOk result (λ lengths. small_vec_len lengths ≡ rank) }
+    ensures most { IfOk result (λ lengths. slice_index lengths.items k ≤ MOST_ELEMENTS) }
+{
+    if own.shape().rank() == rank {
+        return SmallVec::from_slice(alloc, own.shape().lengths());
+    }
+    if own.shape().rank() + 1 == rank {
+        let lengths = SmallVec::from_slice(alloc, own.shape().lengths())?;
+        return with_axis(lengths, k, 1);
+    }
+    let mut lengths = SmallVec::from_slice(alloc, other.shape().lengths())?;
+    lengths.as_mut_slice()[k] = 1;
+    Ok(lengths)
+}
+
+/// The lengths of a joined array, and how many indexes along the axis are each argument's.
+#[derive(Drop)]
+struct Joint {
+    lengths: SmallVec<usize, MOST_AXES>,
+    left: usize,
+    right: usize,
+}
+
+/// The lengths of two arguments that are joined along axis `k` of `rank` axes. Other axes that
+/// differ are refused (`Length`).
+fn joint_of(alloc: Global, a: &Array, b: &Array, rank: usize, k: usize) -> Result<Joint, OpFault>
+    requires rank { rank ≡ joined_rank a.now b.now }
+    requires axis { k < rank }
+    ensures { IsJoint (slices_shape rank k a.now b.now) (slices_shape rank k b.now a.now) k result }
+{
+    let mut lengths = slices_lengths(alloc, a, b, rank, k)?;
+    let mut others = slices_lengths(alloc, b, a, rank, k)?;
+    let left = lengths.remove(k);
+    let right = others.remove(k);
+    if !is_same_shape(lengths.as_slice(), others.as_slice()) {
+        return Err(OpFault::Length);
+    }
+    let lengths = with_axis(lengths, k, left + right)?;
+    Ok(Joint {
+        lengths,
+        left,
+        right,
+    })
+}
 
 /// The numbers of an array in row order, none where it is of characters.
 fn numbers_in(a: &Array) -> &[i64]
     ensures { is_numbers a.now ≡ true → a.now.ravel ≡ map Int result.now }
 {
-    match a.numbers() {
-        Some(numbers) => numbers,
-        None => &[],
-    }
+    a.numbers().unwrap_or(&[])
 }
 
 /// The characters of an array in row order, none where it is of numbers.
 fn characters_in(a: &Array) -> &[char]
     ensures { (not (is_number_kind a.now.kind) || not (has_elements a.now)) ≡ true → a.now.ravel ≡ map Chr result.now }
 {
-    match a.characters() {
-        Some(characters) => characters,
-        None => &[],
-    }
+    a.characters().unwrap_or(&[])
 }
 
 /// The kind of the argument that has elements, else the left one's.

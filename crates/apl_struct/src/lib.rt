@@ -23,10 +23,8 @@ mod repeating;
 mod replacing;
 mod reversing;
 mod rotating;
-mod scalars;
 mod selecting;
 mod shapes;
-mod slices;
 mod slots;
 mod taking;
 

@@ -1,5 +1,5 @@
 //! Indexes of an axis, each as often as its count says.
-ghost use Rattle.std.specs.Prelude.{◌≡◌, ◌+◌, ◌*◌, ◌<◌, ◌≤◌, ◌++◌, true, false, IfOk, MatchOption, map, min, sum, length, replicate, vec_len, vec_capacity};
+ghost use Rattle.std.specs.Prelude.{◌≡◌, ◌+◌, ◌<◌, ◌≤◌, ◌++◌, true, false, IfOk, MatchOption, map, min, sum, length, replicate, vec_len, vec_capacity};
 ghost use Rattle.std.specs.List.{list_all};
 ghost use Rattle.apl_array.specs.Axes.{place_number};
 ghost use Rattle.apl_array.specs.declared.shape.TheConstants.{MOST_ELEMENTS};
@@ -26,14 +26,6 @@ pub(crate) fn capped_sum(counts: &[i64]) -> Option<usize>
         all = (all + *count as usize).min(MOST_ELEMENTS + 1);
     }
     Some(all)
-}
-
-/// The sum of as many equal counts as an axis is long, or one more than the most elements where it
-/// passes that.
-pub(crate) fn capped_product(length: usize, count: usize) -> usize
-    ensures { result ≡ min (length * count) (MOST_ELEMENTS + 1) }
-{
-    length.saturating_mul(count).min(MOST_ELEMENTS + 1)
 }
 
 /// Whether a number is 0 or 1.

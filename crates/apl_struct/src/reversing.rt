@@ -3,12 +3,11 @@ ghost use Rattle.std.specs.Prelude.{◌≡◌};
 ghost use Rattle.apl_answer.specs.Rows.{Answers};
 ghost use Rattle.apl_struct.specs.Rearranging.{reverse_row};
 
-use crate::along::{Steps, gather_mapped, steps_along};
-use crate::plain::{empty, gather_scalar};
+use crate::along::{Taking, gather_along};
+use crate::plain::gather_scalar;
 use apl_answer::OpFault;
 use apl_array::{Array, Axis};
 use apl_pool::{Cut, Gate, Pool, Workers};
-use apl_walk::{Map, Reversed};
 use std::alloc::Global;
 use std::thread::Threads;
 
@@ -32,10 +31,5 @@ pub fn reverse<R: Threads + Sync, C: Cut + Sync, G: Gate + Sync>(
         return gather_scalar(&workers, b);
     }
     let shape = b.shape().copy(alloc)?;
-    if shape.count() == 0 {
-        return empty(&workers, shape, b);
-    }
-    let Steps { length, inner, .. } = steps_along(b.shape(), &shape, k);
-    let map = Map::Reversed(Reversed::new(length, inner));
-    gather_mapped(&workers, shape, b, k, map)
+    gather_along(&workers, shape, b, k, b.shape().axis(k), Taking::Reversed)
 }

@@ -4,15 +4,15 @@ ghost use Rattle.apl_array.specs.Array.{element_at};
 ghost use Rattle.apl_array.specs.Shape.{IsIndexOf};
 ghost use Rattle.apl_pool.specs.declared.kernel.TheConstants.{MOST_PLACES};
 ghost use Rattle.apl_answer.specs.Arguments.{is_same_shape, has_one_element, rank_of};
-ghost use Rattle.apl_answer.specs.Pointwise.{IsArrayAt};
+ghost use Rattle.apl_answer.specs.Pointwise.{IsArrayAt, IsArrayBy};
 ghost use Rattle.apl_answer.specs.Rows.{Answers};
 ghost use Rattle.apl_struct.specs.Gathering.{along_axis};
 ghost use Rattle.apl_struct.specs.Rearranging.{rotated_index, rotate_row};
-ghost use Rattle.apl_struct.specs.Rotation.{rotation_of, turned_place, rotated_source, IsArrayEverywhere};
+ghost use Rattle.apl_struct.specs.Rotation.{rotation_of, turned_place, rotated_source};
 ghost use Rattle.apl_walk.specs.Gathered.{filled_at};
 ghost use Rattle.apl_walk.specs.Steps.{wrapped};
 
-use crate::along::{Steps, gather_mapped, steps_along};
+use crate::along::{Taking, gather_along};
 use crate::arguments::{is_without_axis, numbers_among};
 use crate::plain::{empty, gather_scalar};
 use apl_answer::{ElementType, OpFault, fill_array};
@@ -22,7 +22,7 @@ use apl_array::{
 };
 use apl_divisor::Divisor;
 use apl_pool::{Crew, Cut, Gate, Pool, Workers};
-use apl_walk::{ByLines, Map, Rotated, RotatedColumns, RotatedRows, Rotations};
+use apl_walk::{ByLines, RotatedColumns, RotatedRows, Rotations};
 use std::alloc::{AllocError, Global};
 use std::thread::Threads;
 
@@ -57,20 +57,12 @@ fn rotations_within(
 /// All lines along axis `k` rotated by one number.
 fn rotate_all<W: Crew>(workers: &W, b: &Array, k: usize, rotation: i64) -> Result<Array, OpFault>
     requires { k < length b.now.shape }
-    ensures { IsArrayEverywhere b.now.shape b.now.kind (λ index. element_at b.now (along_axis k (rotated_index rotation (slice_index b.now.shape k)) index)) result }
+    ensures { IsArrayBy b.now.shape b.now.kind (λ index. element_at b.now (along_axis k (rotated_index rotation (slice_index b.now.shape k)) index)) result }
 {
     let shape = b.shape().copy(workers.alloc())?;
-    if shape.count() == 0 {
-        return empty(workers, shape, b);
-    }
-    let Steps { length, inner, .. } = steps_along(b.shape(), &shape, k);
+    let length = shape.axis(k);
     let by = rotation_within(rotation, length);
-    let map = Map::Rotated(Rotated {
-        extent: length,
-        by,
-        stride: inner,
-    });
-    gather_mapped(workers, shape, b, k, map)
+    gather_along(workers, shape, b, k, length, Taking::Rotated(by))
 }
 
 /// An argument whose lines along an axis are rotated, where neighbours along it are `inner` apart.
@@ -141,7 +133,7 @@ fn rotate_each<W: Crew>(
     rotations: &[i64],
 ) -> Result<Array, OpFault>
     requires { k < length b.now.shape }
-    ensures { IsArrayEverywhere b.now.shape b.now.kind (λ index. element_at b.now (rotated_source rotations.now b.now.shape k index)) result }
+    ensures { IsArrayBy b.now.shape b.now.kind (λ index. element_at b.now (rotated_source rotations.now b.now.shape k index)) result }
 {
     places_match_index_lists();
     inserted_index_has_place();
@@ -151,7 +143,8 @@ fn rotate_each<W: Crew>(
     if shape.count() == 0 {
         return empty(workers, shape, b);
     }
-    let Steps { length, inner, .. } = steps_along(b.shape(), &shape, k);
+    let length = shape.axis(k);
+    let inner = shape.inner(k);
     let by = rotations_within(workers.alloc(), rotations, length)?;
     let by = by.as_slice();
     rotate_lines(workers, shape, b, Rotations { by, length }, inner)

@@ -25,28 +25,12 @@ returns-clause-place c =
     let Place : Walk → Type 0 = λ walk. (place : ℕ) → place < outer * (e * inner) → walked (maps_of walk) place
     ≡ and_step (and_step (Some (place % inner)) (map_step m (place / inner % e))) (Some (place / (e * inner) * block)) in
     let first : (place : ℕ) → walked (maps_of one) place ≡ Some (place % inner) = λ place.
-    let i = place / 1 % inner in
-    let same : i ≡ place % inner = ap (λ p. p % inner) (div-one place) in
-    c.in_ok-walk.ensures.place place
-    ∙ ap (λ s. and_step s (step_of near (place / extent_of (maps_of c.new.result) % near.extent))) (c.new.ensures.place place)
-    ∙ ap (λ n. and_step (Some 0) (step_of near (place / n % near.extent))) c.new.ensures.extent
-    ∙ ap (λ n. and_step (Some 0) (step_of near (place / 1 % n))) c.whole.ensures.extent
-    ∙ ap (and_step (Some 0)) (c.whole.ensures.step i (mod-lt (place / 1) c.requires.inner))
-    ∙ ap Some (omega (arith, same)) in
-    let second : (place : ℕ) → walked (maps_of two) place ≡ and_step (Some (place % inner)) (map_step m (place / inner % e)) = λ place.
-    c.in_ok-walk-2.ensures.place place
-    ∙ ap (λ s. and_step s (map_step m (place / extent_of (maps_of one) % e))) (first place)
-    ∙ ap (λ n. and_step (Some (place % inner)) (map_step m (place / n % e))) line in
+    (rw (c.new.ensures.place place, c.new.ensures.extent, c.whole.ensures.extent, div-one place, c.whole.ensures.step (place % inner) (mod-lt place c.requires.inner)) at
+    (c.in_ok-walk.ensures.place place)) ∙ ap Some (omega arith) in
+    let second : (place : ℕ) → walked (maps_of two) place ≡ and_step (Some (place % inner)) (map_step m (place / inner % e)) = λ place. rw (first place, line) at (c.in_ok-walk-2.ensures.place place) in
     let some : 0 < e * inner = omega (arith, le-mul_of_pos_right e c.requires.inner, c.requires.some) in
-    let third : (place : ℕ) → place < outer * (e * inner) → step_of far (place / extent_of (maps_of two) % far.extent) ≡ Some (place / (e * inner) * block) = λ place inside.
-    let below : place / (e * inner) < outer = (div-lt_iff_lt-mul {k = e * inner} {x = place} {y = outer} some).1 inside in
-    ap (λ n. step_of far (place / n % far.extent)) lines
-    ∙ ap (λ n. step_of far (place / (e * inner) % n)) c.whole-2.ensures.extent
-    ∙ ap (step_of far) (mod-eq_of_lt below)
-    ∙ c.whole-2.ensures.step (place / (e * inner)) below in
     IfOk-weaker c.with-3.result Step Place
     (λ walk step place inside.
-    step place
-    ∙ ap (λ s. and_step s (step_of far (place / extent_of (maps_of two) % far.extent))) (second place)
-    ∙ ap (and_step (and_step (Some (place % inner)) (map_step m (place / inner % e)))) (third place inside))
+    let below : place / (e * inner) < outer = (div-lt_iff_lt-mul {k = e * inner} {x = place} {y = outer} some).1 inside in
+    rw (second place, lines, c.whole-2.ensures.extent, mod-eq_of_lt below, c.whole-2.ensures.step (place / (e * inner)) below) at (step place))
     c.with-3.ensures.place

@@ -1,16 +1,21 @@
-use Rattle.std.proofs.Common.{◌≡◌, ◌<◌, ◌+◌, pos, true, [], ◌∷◌, Ok, map, slice_index, sym, ap, ◌∙◌, rules}
+use Rattle.std.proofs.Common.{◌≡◌, ◌+◌, ℤ, pos, to_z, of_z, w64, refl, true, [], ◌∷◌, Ok, map, slice_index, sym, ap, ◌∙◌, rules}
+use Rattle.std.specs.Prelude.{unsigned_abs}
 use Rattle.std.specs.List.{list_all}
+use Rattle.apl_array.specs.declared.axis.Origin.{Origin}
+use Rattle.apl_array.specs.declared.axis.Origin.TheVariants.{Zero, One}
 use Rattle.apl_array.specs.declared.array.Elem.TheVariants.{Int}
 use Rattle.apl_array.specs.Axes.{origin_number, place_number}
-use Rattle.apl_array.specs.Shape.{is_shape, index_at}
+use Rattle.apl_array.specs.Shape.{is_shape}
 use Rattle.apl_answer.specs.Arguments.{has_one_element, is_list, is_natural, number_of, numbers_of, only_element, size_of}
-use Rattle.apl_answer.specs.Pointwise.{answer_of}
 use Rattle.apl_struct.specs.Building.{iota_row}
 use Rattle.apl_struct.proofs.Elements.{only_number}
 use Rattle.apl_struct.proofs.Passing.{answered}
-use Rattle.apl_struct.proofs.Origins.{origin_cast}
-use Rattle.apl_struct.proofs.Vectors.{vector_place, vector_index}
+use Rattle.apl_struct.proofs.Vectors.{vector_index}
 use Rattle.apl_struct.proofs.building.iota.Goals as goal
+
+origin_cast : (origin : Origin) (number : ℤ) → number ≡ pos (origin_number origin) → unsigned_abs (to_z w64 (of_z w64 number)) ≡ origin_number origin
+origin_cast Zero number is = rw is refl
+origin_cast One number is = rw is refl
 
 pub returns : goal.returns
 returns g c =
@@ -27,11 +32,8 @@ returns g c =
     let shapes : c.in_ok-shape.shape ≡ length ∷ [] = c.in_ok-shape.ensures.1 ∙ lengths in
     let lawful : is_shape (length ∷ []) ≡ true = ap is_shape (sym lengths) ∙ c.in_ok-shape.ensures.0 in
     let first = origin_cast origin c.number-first.result c.number-first.ensures.value in
-    answered row.checks (answer_of row.shape row.outcome row.kind) c.fill_array.result (list, (one_element, (c.in_ok-numbers.ensures.numbers.0, (natural, (lawful, tt)))))
+    answered row c.fill_array.result (list, (one_element, (c.in_ok-numbers.ensures.numbers.0, (natural, (lawful, tt)))))
     (rw shapes at
     (c.fill_array.ensures (λ index. Ok (Int (pos (origin_number origin + slice_index index 0))))
     (λ place inside.
-    let below : place < length = vector_place length place (rw shapes at inside) in
-    let same : slice_index (index_at c.in_ok-shape.shape place) 0 ≡ place =
-    ap (λ s. slice_index (index_at s place) 0) shapes ∙ vector_index length place below in
-    ap (λ k. Ok (Int (pos (k + place)))) first ∙ ap (λ p. Ok (Int (pos (origin_number origin + p)))) (sym same))))
+    ap (λ k. Ok (Int (pos (k + place)))) first ∙ ap (λ p. Ok (Int (pos (origin_number origin + p)))) (sym (vector_index c.in_ok-shape.shape length place shapes inside).1))))

@@ -1,8 +1,6 @@
-use Rattle.std.proofs.Common.{◌≡◌, ◌%◌, Ok, length, slice_index_or, sym, ap, subst, ◌∙◌, arith}
+use Rattle.std.proofs.Common.{◌≡◌, Ok, length, sym, ap, ◌∙◌, arith}
 use Rattle.std.proofs.lemmas.List.{length-map}
-use Rattle.apl_array.specs.declared.array.Kind.{Kind}
 use Rattle.apl_answer.specs.Arguments.{fill_of, size_of}
-use Rattle.apl_answer.specs.Pointwise.{answer_of, IsAnswerOf}
 use Rattle.apl_struct.proofs.Elements.{element_round}
 use Rattle.apl_struct.proofs.building.repeat_elements.Goals as goal
 
@@ -14,11 +12,9 @@ returns g c = λ element same.
     let round = c.new.result in
     let size : length xs ≡ size_of b = sym (length-map xs f) ∙ ap length (sym c.requires.ravel) ∙ c.shape.ensures.lawful.len in
     let fill_is : f c.fill.result ≡ fill_of b.kind = c.fill.ensures ∙ ap fill_of (sym c.requires.kind) in
-    let P : Kind → Type 0 = λ k. IsAnswerOf (answer_of c.args.shape (λ index. Ok (element index)) k) c.fill_array.result in
-    subst P (sym c.requires.kind)
+    rw c.requires.kind
     (c.fill_array.ensures (λ index. Ok (element index))
     (λ place inside.
-    ap (λ r. Ok (f (slice_index_or r.elements.now (place % r.extent) r.past))) c.new-kernel.ensures
-    ∙ ap (λ ys. Ok (f (slice_index_or ys (place % round.extent) round.past))) c.new.ensures.elements
-    ∙ ap Ok (element_round f b xs round.past c.fill.result round.extent place c.requires.ravel size fill_is
-    (c.new.ensures.values place (omega (arith, inside, c.count.ensures.count))) ∙ same place inside)))
+    rw (c.new-kernel.ensures, c.new.ensures.elements)
+    (ap Ok (element_round f b xs round.past c.fill.result round.extent place c.requires.ravel size fill_is
+    (c.new.ensures.values place (omega (arith, inside, c.count.ensures.count))) ∙ same place inside))))

@@ -1,11 +1,10 @@
-use Rattle.std.proofs.Common.{◌≡◌, true, List, ℕ, Ok, map, ◌==◌, sym, ap, subst, ◌∙◌, rules}
+use Rattle.std.proofs.Common.{◌≡◌, true, map, ◌==◌, sym, ap, ◌∙◌, rules}
 use Rattle.std.specs.Prelude.{◌||◌}
 use Rattle.std.specs.List.{list_all}
 use Rattle.apl_array.specs.Axes.{place_number}
 use Rattle.apl_array.specs.Shape.{is_shape, count_of, place_of}
 use Rattle.apl_array.specs.Array.{element_in}
 use Rattle.apl_answer.specs.Arguments.{is_list, is_natural, has_elements, numbers_of, size_of}
-use Rattle.apl_answer.specs.Pointwise.{answer_of, IsAnswerOf}
 use Rattle.apl_struct.specs.Building.{reshape_source, reshape_row}
 use Rattle.apl_struct.proofs.Elements.{element_again}
 use Rattle.apl_struct.proofs.Passing.{answered}
@@ -23,9 +22,8 @@ returns g c =
     let shapes : c.in_ok-shape.shape ≡ shape = c.in_ok-shape.ensures.1 ∙ ap (map place_number) (sym numbers) in
     let lawful : is_shape shape ≡ true = ap (λ ns. is_shape (map place_number ns)) numbers ∙ c.in_ok-shape.ensures.0 in
     let fits : (has_elements b || (count_of shape == 0)) ≡ true = search rules in
-    let P : List ℕ → Type 0 = λ s. IsAnswerOf (answer_of s (λ index. Ok (element_in b (reshape_source (size_of b) (place_of s index)))) b.kind) c.repeat.result in
-    let repeated : P c.in_ok-shape.shape =
-    c.repeat.ensures _ (λ place inside.
+    let repeated =
+    c.repeat.ensures (λ index. element_in b (reshape_source (size_of b) (place_of c.in_ok-shape.shape index))) (λ place inside.
     element_again b (count_of c.in_ok-shape.shape) place c.shape-2.ensures.lawful (rw (sym shapes) at fits) inside
     ∙ ap (λ p. element_in b (reshape_source (size_of b) p)) (sym (c.places_match_index_lists.ensures.same_place c.in_ok-shape.shape place inside))) in
-    answered row.checks (answer_of row.shape row.outcome row.kind) c.repeat.result (list, (c.in_ok-numbers.ensures.numbers.0, (natural, (lawful, (fits, tt))))) (subst P shapes repeated)
+    answered row c.repeat.result (list, (c.in_ok-numbers.ensures.numbers.0, (natural, (lawful, (fits, tt))))) (rw shapes at repeated)

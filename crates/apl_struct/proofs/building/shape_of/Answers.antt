@@ -1,18 +1,15 @@
-use Rattle.std.proofs.Common.{◌≡◌, ◌<◌, pos, [], ◌∷◌, length, slice_index, sym, ap, ◌∙◌, rules}
+use Rattle.std.proofs.Common.{◌≡◌, pos, [], ◌∷◌, length, slice_index, sym, ap, ◌∙◌, rules}
 use Rattle.std.specs.Prelude.{Ok}
 use Rattle.apl_array.specs.declared.array.Elem.TheVariants.{Int}
-use Rattle.apl_array.specs.Shape.{index_at}
-use Rattle.apl_struct.proofs.Vectors.{vector_place, vector_index}
+use Rattle.apl_struct.proofs.Vectors.{vector_index}
 use Rattle.apl_struct.proofs.building.shape_of.Goals as goal
 
 pub returns : goal.returns
 returns g c =
     let b = c.args.b.now in
-    let shapes : c.vector_shape-shape.result ≡ length b.shape ∷ [] = search rules in
+    let shapes : c.in_ok-shape.shape ≡ length b.shape ∷ [] = search rules in
     rw shapes at
     (c.fill_array.ensures (λ index. Ok (Int (pos (slice_index b.shape (slice_index index 0)))))
     (λ place inside.
-    let below : place < length b.shape = vector_place (length b.shape) place (rw shapes at inside) in
-    let same : slice_index (index_at c.vector_shape-shape.result place) 0 ≡ place =
-    ap (λ s. slice_index (index_at s place) 0) shapes ∙ vector_index (length b.shape) place below in
-    ap (λ s. Ok (Int (pos (slice_index s place)))) c.shape-2.ensures.shape ∙ ap (λ p. Ok (Int (pos (slice_index b.shape p)))) (sym same)))
+    ap (λ s. Ok (Int (pos (slice_index s place)))) c.shape-2.ensures.shape
+    ∙ ap (λ p. Ok (Int (pos (slice_index b.shape p)))) (sym (vector_index c.in_ok-shape.shape (length b.shape) place shapes inside).1)))

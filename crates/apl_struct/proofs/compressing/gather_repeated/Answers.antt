@@ -1,26 +1,13 @@
-use Rattle.std.proofs.Common.{◌≡◌, ◌<◌, ℕ, List, Ok, true, length, map, slice_index, ap, sym, subst, ◌∙◌, arith}
-use Rattle.std.specs.Prelude.{slice_set, sum, option_map}
+use Rattle.std.proofs.Common.{◌≡◌, ◌<◌, true, length, map, slice_index, refl, ap, sym, ◌∙◌, arith}
+use Rattle.std.specs.Prelude.{slice_set, sum}
 use Rattle.std.proofs.lemmas.List.{length-map, get_or-set_same, length-set}
 use Rattle.std.proofs.lemmas.List.Elements.{All-get_or}
-use Rattle.apl_array.specs.Array.{element_at}
 use Rattle.apl_array.specs.Axes.{place_number}
 use Rattle.apl_array.specs.Shape.{is_shape}
-use Rattle.apl_answer.specs.Pointwise.{answer_of, IsAnswerOf}
 use Rattle.apl_struct.specs.Compressing.{as_vector, repeated_indexes}
-use Rattle.apl_struct.specs.Gathering.{along_axis, element_or_fill}
-use Rattle.apl_struct.specs.Scalars.{entry_index}
 use Rattle.apl_struct.proofs.AsVectors.{axis_of_vector, entry_there}
-use Rattle.apl_struct.proofs.CappedAxes.{capped_most}
 use Rattle.apl_struct.proofs.Repeated.{repeated_below, repeated_length}
 use Rattle.apl_struct.proofs.compressing.gather_repeated.Goals as goal
-
-pub gather_listed-requires-clause-most : goal.gather_listed-requires-clause-most
-gather_listed-requires-clause-most g c = λ lifetimes outlive.
-    let b = c.args.b.now in
-    let k = c.args.k in
-    let n = length c.args.counts.now in
-    let axis : k < length (as_vector n b).shape = axis_of_vector n k b c.requires.axis in
-    capped_most (as_vector n b).shape k (length c.args.indexes.now) axis (ap is_shape (sym (c.requires.shape n)) ∙ c.requires.lawful)
 
 pub returns : goal.returns
 returns g c =
@@ -32,16 +19,14 @@ returns g c =
     let vector = as_vector n b in
     let axis : k < length vector.shape = axis_of_vector n k b c.requires.axis in
     let sum_is : length indexes ≡ sum counts = ap length c.requires.indexes ∙ repeated_length counts in
-    let shape_is : c.args.shape ≡ slice_set vector.shape k (sum counts) = c.requires.shape n ∙ ap (slice_set vector.shape k) sum_is in
+    let shape_is : c.args.shape ≡ slice_set vector.shape k (sum counts) = c.requires.shape ∙ ap (slice_set vector.shape k) sum_is in
     let lawful : is_shape (slice_set vector.shape k (sum counts)) ≡ true = ap is_shape (sym shape_is) ∙ c.requires.lawful in
-    let P : List ℕ → Type 0 = λ s. IsAnswerOf (answer_of s (λ index. Ok (element_at vector (along_axis k (slice_index (repeated_indexes counts)) index))) b.kind) c.gather_listed.result in
-    rw lawful (subst P shape_is
-    (c.gather_listed.ensures _ (λ index inside.
+    rw (lawful, sym shape_is)
+    (c.gather_along.ensures _ (λ index inside.
     let i = slice_index index k in
     let extent_is : slice_index c.args.shape k ≡ sum counts = ap (λ s. slice_index s k) shape_is ∙ get_or-set_same vector.shape k (sum counts) 0 axis in
     let wide : k < length c.args.shape = omega (arith, axis, ap length shape_is, length-set vector.shape k (sum counts)) in
     let here : i < length (repeated_indexes counts) = omega (arith, inside.below k wide, extent_is, repeated_length counts) in
     let j = slice_index (repeated_indexes counts) i in
     let below : j < n = omega (arith, length-map c.args.counts.now place_number, All-get_or (λ i. i < length counts) (repeated_indexes counts) i 0 here (repeated_below counts)) in
-    ap (λ l. element_or_fill vector (option_map (slice_set index k) (entry_index n (slice_index l i)))) c.requires.indexes
-    ∙ ap (λ o. element_or_fill vector (option_map (slice_set index k) o)) (entry_there n j below))))
+    rw (c.requires.indexes, entry_there n j below) refl))

@@ -1,14 +1,12 @@
-use Rattle.std.proofs.Common.{◌≡◌, ◌<◌, ℕ, List, Ok, true, length, map, slice_index, ap, sym, subst, ◌∙◌, ⊎_elim, eq-eqb, arith, rules}
-use Rattle.std.specs.Prelude.{◌&&◌, ◌==◌, max, slice_set, sum, option_map}
+use Rattle.std.proofs.Common.{◌≡◌, ◌<◌, true, length, map, slice_index, refl, ap, sym, ◌∙◌, ⊎_elim, eq-eqb, arith, rules}
+use Rattle.std.specs.Prelude.{◌&&◌, ◌==◌, max, slice_set, sum}
 use Rattle.std.specs.List.{list_all}
 use Rattle.std.proofs.lemmas.List.{length-map, length-set, get_or-set_same}
-use Rattle.apl_array.specs.Axes.{place_number, has_axis, axis_of}
+use Rattle.apl_array.specs.Axes.{place_number, axis_of}
 use Rattle.apl_array.specs.Shape.{count_of, is_shape}
 use Rattle.apl_answer.specs.Arguments.{rank_of, is_list, is_numbers, is_bit, number_of, numbers_of}
-use Rattle.apl_answer.specs.Pointwise.{answer_of, IsAnswerOf}
 use Rattle.apl_struct.specs.Compressing.{as_vector, expanded_index}
 use Rattle.apl_struct.specs.Gathering.{element_or_fill, along_axis_or_none}
-use Rattle.apl_struct.specs.Scalars.{entry_index}
 use Rattle.apl_struct.proofs.AsVectors.{axis_of_vector}
 use Rattle.apl_struct.proofs.Bits.{entry_is}
 use Rattle.apl_struct.proofs.expanding.expand.Goals as goal
@@ -26,8 +24,8 @@ returns g c =
     let entries = c.in-Some-2.entries.items in
     let made = rw c.in-Some-2.is at c.in_ok-entries.ensures in
     let rank : c.vector_rank.result ≡ rank_of vector = c.vector_rank.ensures.vector (sum counts) in
-    let has : has_axis c.args.axis (rank_of vector) ≡ true = ap (has_axis c.args.axis) (sym rank) ∙ c.in-Some.ensures.0 in
-    let k_is : j ≡ k = c.in-Some.ensures.1 ∙ ap (axis_of c.args.axis) rank in
+    let at = rw rank at c.in-Some.ensures in
+    let k_is : j ≡ k = at.1 in
     let list : is_list a ≡ true = search rules in
     let numbers : numbers_of a ≡ bits = c.in_ok-bits.ensures.numbers.1 in
     let judged : (is_numbers a && list_all is_bit (numbers_of a)) ≡ true = rw (c.in_ok-bits.ensures.numbers.0, numbers) made.0 in
@@ -48,16 +46,11 @@ returns g c =
     (λ none. absurd (omega (arith, none, c.vector_rank.ensures.rank)))
     c.in-Some.ensures.2 in
     let axis : j < length vector.shape = axis_of_vector (sum counts) j b within in
-    let P : List ℕ → ℕ → Type 0 = λ s i. IsAnswerOf (answer_of s (λ index. Ok (element_or_fill vector (along_axis_or_none i (expanded_index counts) index))) b.kind) c.gather_listed.result in
-    let given : P c.in_ok-shape.shape j = c.gather_listed.ensures _ (λ index inside.
+    let given = c.gather_along.ensures (λ index. element_or_fill vector (along_axis_or_none j (expanded_index counts) index)) (λ index inside.
     let i = slice_index index j in
     let extent_is : slice_index c.in_ok-shape.shape j ≡ length bits = ap (λ s. slice_index s j) shape_at.1 ∙ get_or-set_same vector.shape j (length bits) 0 axis in
     let wide : j < length c.in_ok-shape.shape = omega (arith, axis, ap length shape_at.1, length-set vector.shape j (length bits)) in
     let here : i < length bits = omega (arith, inside.below j wide, extent_is) in
-    ap (λ n. element_or_fill (as_vector n b) (option_map (slice_set index j) (entry_index n (slice_index c.as_slice.result.now i)))) ones_is
-    ∙ ap (λ l. element_or_fill vector (option_map (slice_set index j) (entry_index (sum counts) (slice_index l i)))) c.as_slice.ensures.value
-    ∙ ap (λ e. element_or_fill vector (option_map (slice_set index j) (entry_index (sum counts) e))) (made.1.1 i here)
-    ∙ ap (λ o. element_or_fill vector (option_map (slice_set index j) o))
-    (entry_is counts i (omega (arith, here, length-map bits place_number)) (omega (arith, ones_is, long, c.vector_length.ensures.most)))) in
-    let by_shape = subst (λ s. P s j) shape_is given in
-    rw (judged, numbers, has, list, fit, lawful) (subst (P (slice_set vector.shape k (count_of a.shape))) k_is by_shape)
+    let entry = entry_is counts i (omega (arith, here, length-map bits place_number)) (omega (arith, ones_is, long, c.vector_length.ensures.most)) in
+    rw (ones_is, c.as_slice.ensures.value, made.1.1 i here, entry) refl) in
+    rw (judged, numbers, at.0, list, fit, lawful) (rw (shape_is, k_is) at given)

@@ -1,10 +1,9 @@
-use Rattle.std.proofs.Common.{◌≡◌, pos, true, ◌++◌, [], ◌∷◌, to_z, of_z, w64, nat_abs, slice_index, slice_index_or, int_eq, ap, sym, ◌∙◌, arith, rules}
-use Rattle.std.specs.Prelude.{◌&&◌, ◌==◌, if◌then◌else◌}
+use Rattle.std.proofs.Common.{◌≡◌, pos, true, ◌++◌, [], ◌∷◌, to_z, of_z, w64, nat_abs, slice_index, slice_index_or, ap, sym, ◌∙◌, arith, rules}
+use Rattle.std.specs.Prelude.{◌&&◌}
 use Rattle.std.proofs.lemmas.List.Folds.{list_all_more}
 use Rattle.apl_array.specs.Axes.{place_number}
 use Rattle.apl_answer.specs.Arguments.{is_bit}
 use Rattle.apl_struct.specs.Expanding.{expanded_entry}
-use Rattle.apl_struct.specs.declared.expanding.TheConstants.{ABSENT}
 use Rattle.apl_struct.proofs.Bits.{counts, count_at, bit_most, bit_natural, one_test, push_each}
 use Rattle.apl_struct.proofs.Naturals.{cast_is, natural_sum}
 use Rattle.apl_struct.proofs.expanding.expanded_entries.Goals as goal
@@ -19,10 +18,7 @@ loop-bit-preserved c =
     let turned : to_z w64 (of_z w64 z) ≡ z = search rules in
     let bit : is_bit z ≡ true = search rules in
     let held : nat_abs (to_z w64 (of_z w64 z)) ≡ place_number z = cast_is z (bit_natural z bit) turned in
-    let sums = ap (λ s. if slice_index (counts bits) i == 1 then s else ABSENT) kept.ones in
-    let entry : c.entry_at.result ≡ expanded_entry (counts bits) i =
-    c.entry_at.ensures ∙ ap (λ y. if int_eq y (pos 1) then c.loop-bit.ones else ABSENT) turned
-    ∙ ap (λ b. if b then c.loop-bit.ones else ABSENT) (one_test z bit ∙ ap (λ n. n == 1) (sym (count_at bits i))) ∙ sums in
+    let entry : c.entry_at.result ≡ expanded_entry (counts bits) i = rw (turned, one_test z bit, sym (count_at bits i), kept.ones) at c.entry_at.ensures in
     let items = c.loop-bit.entries.items in
     let pushed : c.push_reserved.new.self.items ≡ items ++ c.entry_at.result ∷ [] = search rules in
     record {

@@ -1,8 +1,5 @@
-use Rattle.std.proofs.Common.{◌≡◌, ◌+◌, ◌/◌, ◌%◌, Ok, map, slice_index_or, sym, ap, subst, ◌∙◌}
-use Rattle.apl_array.specs.declared.array.Kind.{Kind}
+use Rattle.std.proofs.Common.{◌≡◌, Ok, map, slice_index_or, sym, ap, ◌∙◌}
 use Rattle.apl_answer.specs.Arguments.{fill_of}
-use Rattle.apl_answer.specs.Pointwise.{answer_of, IsAnswerOf}
-use Rattle.apl_walk.specs.Seams.{joined_value}
 use Rattle.apl_struct.specs.Joined.{joined_at}
 use Rattle.apl_struct.specs.Joining.{joined_kind}
 use Rattle.apl_struct.proofs.Joints.{joined_elements}
@@ -23,11 +20,9 @@ returns g c = λ element same.
     let ravel_b : b.ravel ≡ map f r.elements.now = c.requires.right ∙ ap (map f) (sym right.elements) in
     let past_a : l.past ≡ slice_index_or l.elements.now 0 fill = left.past ∙ ap (λ xs. slice_index_or xs 0 fill) (sym left.elements) in
     let past_b : r.past ≡ slice_index_or r.elements.now 0 fill = right.past ∙ ap (λ xs. slice_index_or xs 0 fill) (sym right.elements) in
-    let P : Kind → Type 0 = λ k. IsAnswerOf (answer_of c.args.shape (λ index. Ok (element index)) k) c.fill_array.result in
-    subst P (sym c.requires.kind)
+    rw c.requires.kind
     (c.fill_array.ensures (λ index. Ok (element index))
     (λ place inside.
-    ap (λ j. Ok (f (joined_value j.left.elements.now j.right.elements.now j.left.past j.right.past j.left.length j.right.length
-    (place / (j.left.length + j.right.length)) (place % (j.left.length + j.right.length))))) c.new-kernel.ensures
-    ∙ ap Ok (sym (joined_elements f a b l.elements.now r.elements.now l.past r.past fill l.length r.length place fill_is ravel_a ravel_b past_a past_b)
-    ∙ ap (λ n. joined_at a b n r.length place) left.length ∙ ap (λ n. joined_at a b c.args.seam.left n place) right.length ∙ same place inside)))
+    rw c.new-kernel.ensures
+    (ap Ok (sym (joined_elements f a b l.elements.now r.elements.now l.past r.past fill l.length r.length place fill_is ravel_a ravel_b past_a past_b)
+    ∙ ap (λ n. joined_at a b n r.length place) left.length ∙ ap (λ n. joined_at a b c.args.seam.left n place) right.length ∙ same place inside))))

@@ -1,69 +1,62 @@
-use Rattle.std.proofs.Common.{◌≡◌, ◌+◌, true, false, length, slice_index, slice_index_or, pos, to_z, of_z, w64, ap, sym, ◌∙◌, arith, rules}
+use Rattle.std.proofs.Common.{◌≡◌, ◌+◌, true, false, length, slice_index, slice_index_or, pos, to_z, of_z, w64, refl, ap, ◌∙◌, arith, rules}
 use Rattle.std.specs.Prelude.{◌||◌, ◌==◌, remove}
-use Rattle.apl_array.specs.Array.{element_at}
-use Rattle.apl_array.specs.Axes.{has_axis, axis_of}
-use Rattle.apl_array.specs.Shape.{count_of, place_of}
-use Rattle.apl_answer.specs.Arguments.{rank_of, has_one_element, is_same_shape, is_numbers}
+use Rattle.apl_array.specs.Axes.{axis_of}
+use Rattle.apl_array.specs.Shape.{count_of}
+use Rattle.apl_answer.specs.Arguments.{rank_of, has_one_element, is_same_shape}
+use Rattle.apl_answer.specs.Rows.{HavePassed}
 use Rattle.apl_struct.specs.Gathering.{along_axis}
-use Rattle.apl_struct.specs.Rearranging.{rotated_index, rotation_at}
+use Rattle.apl_struct.specs.Rearranging.{rotated_index, rotation_at, rotate_row}
+use Rattle.apl_struct.proofs.Passing.{answered}
 use Rattle.apl_struct.proofs.Rotations.{rotation_of_all, rotation_of_line}
 use Rattle.apl_struct.proofs.Without.{same_from_test}
+use Rattle.apl_struct.proofs.rotating.rotate.Given.{Over}
 use Rattle.apl_struct.proofs.rotating.rotate.Goals as goal
+use Rattle.apl_struct.proofs.rotating.rotate.Goals.{After-rank-2}
 
-pub returns-then-rank-eq0 : goal.returns-then-rank-eq0
-returns-then-rank-eq0 g c =
+judged : (g : Over) (c : After-rank-2 g) → (c.in-Some.k ≡ axis_of c.args.axis (rank_of c.args.b.now)) × HavePassed (rotate_row c.args.a.now c.args.b.now c.args.axis).checks
+judged g c =
     let a = c.args.a.now in
     let b = c.args.b.now in
     let k = axis_of c.args.axis (rank_of b) in
     let rank : c.rank.result ≡ rank_of b = c.rank.ensures.rank ∙ ap length c.shape.ensures.shape in
-    let has : has_axis c.args.axis (rank_of b) ≡ true = ap (has_axis c.args.axis) (sym rank) ∙ c.in-Some.ensures.0 in
-    let k_is : c.in-Some.k ≡ k = c.in-Some.ensures.1 ∙ ap (axis_of c.args.axis) rank in
+    let at = rw rank at c.in-Some.ensures in
+    let k_is : c.in-Some.k ≡ k = at.1 in
     let rank_fits : (has_one_element a.shape || (rank_of a + 1 == rank_of b)) ≡ true = search rules in
     let fit : (has_one_element a.shape || is_same_shape a.shape (remove b.shape c.in-Some.k)) ≡ true = search rules in
     let lengths_fit : (has_one_element a.shape || is_same_shape a.shape (remove b.shape k)) ≡ true = rw k_is at fit in
-    let numbers : is_numbers a ≡ true = c.in_ok-rotations.ensures.numbers.0 in
-    rw (has, rank_fits, lengths_fit, numbers)
-    (c.gather_scalar.ensures (λ index. along_axis k (rotated_index (rotation_at a k index) (slice_index b.shape k)) index))
+    (k_is, (at.0, (rank_fits, (lengths_fit, (c.in_ok-rotations.ensures.numbers.0, tt)))))
+
+pub returns-then-rank-eq0 : goal.returns-then-rank-eq0
+returns-then-rank-eq0 g c =
+    let row = rotate_row c.args.a.now c.args.b.now c.args.axis in
+    let known = judged g (goal.at.returns-then-rank-eq0 g c).After-rank-2 in
+    answered row c.gather_scalar.result known.1
+    (c.gather_scalar.ensures (λ index. along_axis (axis_of c.args.axis (rank_of c.args.b.now))
+    (rotated_index (rotation_at c.args.a.now (axis_of c.args.axis (rank_of c.args.b.now)) index) (slice_index c.args.b.now.shape (axis_of c.args.axis (rank_of c.args.b.now)))) index))
 
 pub returns-then-count-eq1 : goal.returns-then-count-eq1
 returns-then-count-eq1 g c =
     let a = c.args.a.now in
     let b = c.args.b.now in
     let k = axis_of c.args.axis (rank_of b) in
-    let rank : c.rank.result ≡ rank_of b = c.rank.ensures.rank ∙ ap length c.shape.ensures.shape in
-    let has : has_axis c.args.axis (rank_of b) ≡ true = ap (has_axis c.args.axis) (sym rank) ∙ c.in-Some.ensures.0 in
-    let k_is : c.in-Some.k ≡ k = c.in-Some.ensures.1 ∙ ap (axis_of c.args.axis) rank in
-    let rank_fits : (has_one_element a.shape || (rank_of a + 1 == rank_of b)) ≡ true = search rules in
-    let fit : (has_one_element a.shape || is_same_shape a.shape (remove b.shape c.in-Some.k)) ≡ true = search rules in
-    let lengths_fit : (has_one_element a.shape || is_same_shape a.shape (remove b.shape k)) ≡ true = rw k_is at fit in
-    let numbers = c.in_ok-rotations.ensures.numbers in
+    let known = judged g (goal.at.returns-then-count-eq1 g c).After-rank-2 in
     let counts : count_of a.shape ≡ 1 = search rules in
     let one : has_one_element a.shape ≡ true = grind (arith, counts) in
     let zs = c.in_ok-rotations.rotations.now in
     let z = slice_index_or zs 0 (pos 0) in
     let same : to_z w64 (of_z w64 z) ≡ z = search rules in
-    rw (has, rank_fits, lengths_fit, numbers.0)
-    (c.rotate_all.ensures _ (λ index.
-    ap (λ y. element_at b (along_axis c.in-Some.k (rotated_index y (slice_index b.shape c.in-Some.k)) index)) (same ∙ sym (rotation_of_all a zs k index numbers.1 one))
-    ∙ ap (λ j. element_at b (along_axis j (rotated_index (rotation_at a k index) (slice_index b.shape j)) index)) k_is))
+    answered (rotate_row a b c.args.axis) c.rotate_all.result known.1
+    (c.rotate_all.ensures _ (λ index lawful. rw (known.0, same, rotation_of_all a zs k index c.in_ok-rotations.ensures.numbers.1 one) refl))
 
 pub returns-else-count-eq1 : goal.returns-else-count-eq1
 returns-else-count-eq1 g c =
     let a = c.args.a.now in
     let b = c.args.b.now in
     let k = axis_of c.args.axis (rank_of b) in
-    let rank : c.rank.result ≡ rank_of b = c.rank.ensures.rank ∙ ap length c.shape.ensures.shape in
-    let has : has_axis c.args.axis (rank_of b) ≡ true = ap (has_axis c.args.axis) (sym rank) ∙ c.in-Some.ensures.0 in
-    let k_is : c.in-Some.k ≡ k = c.in-Some.ensures.1 ∙ ap (axis_of c.args.axis) rank in
-    let rank_fits : (has_one_element a.shape || (rank_of a + 1 == rank_of b)) ≡ true = search rules in
-    let fit : (has_one_element a.shape || is_same_shape a.shape (remove b.shape c.in-Some.k)) ≡ true = search rules in
-    let lengths_fit : (has_one_element a.shape || is_same_shape a.shape (remove b.shape k)) ≡ true = rw k_is at fit in
-    let numbers = c.in_ok-rotations.ensures.numbers in
+    let known = judged g (goal.at.returns-else-count-eq1 g c).After-rank-2 in
     let many : count_of a.shape ≡ 1 → ⊥ = search rules in
     let more : has_one_element a.shape ≡ false = grind (arith, many) in
     let zs = c.in_ok-rotations.rotations.now in
-    let others : a.shape ≡ remove b.shape k = same_from_test a.shape (remove b.shape k) (rw more at lengths_fit) in
-    rw (has, rank_fits, lengths_fit, numbers.0)
-    (c.rotate_each.ensures _ (λ index.
-    ap (λ j. element_at b (along_axis j (rotated_index (slice_index_or zs (place_of (remove b.shape j) (remove index j)) (pos 0)) (slice_index b.shape j)) index)) k_is
-    ∙ ap (λ y. element_at b (along_axis k (rotated_index y (slice_index b.shape k)) index)) (sym (rotation_of_line a zs (remove b.shape k) k index numbers.1 more others))))
+    let others : a.shape ≡ remove b.shape k = same_from_test a.shape (remove b.shape k) (rw more at known.1.1.1.0) in
+    answered (rotate_row a b c.args.axis) c.rotate_each.result known.1
+    (c.rotate_each.ensures _ (λ index lawful. rw (known.0, rotation_of_line a zs (remove b.shape k) k index c.in_ok-rotations.ensures.numbers.1 more others) refl))

@@ -1,36 +1,53 @@
-use Rattle.std.proofs.Common.{◌≡◌, ℕ, List, Ok, Some, ◌<◌, ◌≤◌, ◌+◌, ◌*◌, drop, take, slice_index, slice_index_or, slice_set, map, pos, ap, sym, subst, ◌∙◌, arith, rules}
+use Rattle.std.proofs.Common.{◌≡◌, Some, ◌<◌, ◌≤◌, ◌+◌, ◌*◌, drop, take, slice_index, slice_index_or, slice_set, length, map, pos, ap, sym, ◌∙◌, arith, rules}
 use Rattle.std.specs.Prelude.{remove}
-use Rattle.std.proofs.Math.Nat.{le-mul_of_pos_right}
 use Rattle.apl_array.specs.Array.{element_at}
 use Rattle.apl_array.specs.Shape.{IsIndexOf, count_of, place_of, index_at}
-use Rattle.apl_answer.specs.Pointwise.{answer_of, IsAnswerOf}
 use Rattle.apl_struct.specs.Along.{line_index, line_number, line_place}
 use Rattle.apl_struct.specs.Rearranging.{rotated_index}
 use Rattle.apl_struct.specs.Rotation.{rotation_of}
 use Rattle.apl_walk.specs.Gathered.{filled_at}
 use Rattle.apl_walk.specs.Steps.{wrapped}
-use Rattle.apl_struct.proofs.Filled.{filled_within}
+use Rattle.apl_struct.proofs.Filled.{AxisFacts, axis_facts, filled_within}
 use Rattle.apl_struct.proofs.Numbering.{line_is}
 use Rattle.apl_struct.proofs.Wrapping.{rotated_by, rotation_at_line, rotation_at_line_most, wrapped_below}
+use Rattle.apl_struct.proofs.rotating.rotate_each.Given.{Over}
 use Rattle.apl_struct.proofs.rotating.rotate_each.Goals as goal
+use Rattle.apl_struct.proofs.rotating.rotate_each.Goals.{After-inner-inner}
 
 pub returns-then-count-eq0 : goal.returns-then-count-eq0
 returns-then-count-eq0 g c = λ element told.
     let shapes : c.in_ok-shape.shape ≡ c.args.b.now.shape = search rules in
-    let P : List ℕ → Type 0 = λ s. IsAnswerOf (answer_of s (λ index. Ok (element index)) c.args.b.now.kind) c.empty.result in
-    subst P shapes (c.empty.ensures element)
+    rw (sym shapes) (c.empty.ensures element)
+
+facts : (g : Over) (c : After-inner-inner g) → AxisFacts (count_of (take c.args.k c.in_ok-shape.shape)) c.axis-length.result c.inner-inner.result c.count.result
+facts g c =
+    let k = c.args.k in
+    let shape = c.in_ok-shape.shape in
+    let shapes : shape ≡ c.args.b.now.shape = search rules in
+    let count : c.count.result ≡ count_of (take k shape) * c.axis-length.result * c.inner-inner.result =
+    rw (c.axis-length.ensures.length, c.inner-inner.ensures.inner) (c.count.ensures.count ∙ c.replaced_index_has_place.ensures.count shape k (omega (arith, c.requires, ap length shapes))) in
+    axis_facts (count_of (take k shape)) c.axis-length.result c.inner-inner.result c.count.result count (omega arith)
 
 pub invariant_of-rotate_lines : goal.invariant_of-rotate_lines
 invariant_of-rotate_lines g c =
-    let steps = c.steps_along-length in
+    let n = c.axis-length.result in
     let zs = c.args.rotations.now in
     let by = c.as_slice-by.result.now in
-    let by_is : by ≡ map (rotation_of steps.result.length) zs = search rules in
+    let by_is : by ≡ map (rotation_of n) zs = search rules in
+    let axis = facts g (goal.at.invariant_of-rotate_lines g c).After-inner-inner in
     record {
-      some = steps.ensures.length_some;
-      most = omega (arith, le-mul_of_pos_right steps.result.length steps.ensures.inner_some, steps.ensures.line_most, c.count.ensures.lawful.count);
-      below = λ line. rw by_is (rotation_at_line_most steps.result.length zs line);
+      some = axis.length_some;
+      most = omega (arith, axis.length_most, c.count.ensures.lawful.count, c.count.ensures.count);
+      below = λ line. rw by_is (rotation_at_line_most n zs line);
     }
+
+pub rotate_lines-requires-clause-some : goal.rotate_lines-requires-clause-some
+rotate_lines-requires-clause-some g c = λ lifetimes outlive.
+    (facts g (goal.at.rotate_lines-requires-clause-some g c).After-inner-inner).inner_some
+
+pub rotate_lines-requires-clause-most : goal.rotate_lines-requires-clause-most
+rotate_lines-requires-clause-most g c = λ lifetimes outlive.
+    omega (arith, (facts g (goal.at.rotate_lines-requires-clause-most g c).After-inner-inner).inner_most, c.count.ensures.lawful.count, c.count.ensures.count)
 
 pub returns : goal.returns
 returns g c = λ element told.
@@ -43,14 +60,11 @@ returns g c = λ element told.
     let n = slice_index b.shape k in
     let inner = count_of (drop (k + 1) b.shape) in
     let by = c.as_slice-by.result.now in
-    let steps = c.steps_along-length in
     let shapes : c.in_ok-shape.shape ≡ b.shape = search rules in
-    let n_is : steps.result.length ≡ n = steps.ensures.length ∙ ap (λ s. slice_index s k) shapes in
-    let argument : c.shape-3.result.now ≡ b.shape = search rules in
-    let inner_is : steps.result.inner ≡ inner = steps.ensures.inner ∙ ap (λ s. count_of (drop (k + 1) s)) argument in
-    let by_is : by ≡ map (rotation_of n) zs = (let plain : by ≡ map (rotation_of steps.result.length) zs = search rules in plain) ∙ ap (λ m. map (rotation_of m) zs) n_is in
-    let P : List ℕ → Type 0 = λ s. IsAnswerOf (answer_of s (λ index. Ok (element index)) b.kind) c.rotate_lines.result in
-    subst P shapes
+    let n_is : c.axis-length.result ≡ n = c.axis-length.ensures.length ∙ ap (λ s. slice_index s k) shapes in
+    let inner_is : c.inner-inner.result ≡ inner = c.inner-inner.ensures.inner ∙ ap (λ s. count_of (drop (k + 1) s)) shapes in
+    let by_is : by ≡ map (rotation_of n) zs = (let plain : by ≡ map (rotation_of c.axis-length.result) zs = search rules in plain) ∙ ap (λ m. map (rotation_of m) zs) n_is in
+    rw (sym shapes)
     (c.rotate_lines.ensures element (λ place inside.
     let here : place < count_of b.shape = rw shapes at inside in
     let index = index_at b.shape place in
@@ -75,4 +89,4 @@ returns g c = λ element told.
     rw (n_is, inner_is)
     (ap (λ p. filled_at b (Some p)) same
     ∙ filled_within law.below b taken c.shape.ensures.lawful (replaced.lawful b.shape index k j lawful j_below)
-    ∙ ap (λ m. element_at b (slice_set index k m)) rotated ∙ told index ∙ ap (λ s. element (index_at s place)) (sym shapes))))
+    ∙ ap (λ m. element_at b (slice_set index k m)) rotated ∙ told index lawful ∙ ap (λ s. element (index_at s place)) (sym shapes))))

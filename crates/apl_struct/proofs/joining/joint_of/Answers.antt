@@ -1,10 +1,10 @@
 use Rattle.std.proofs.Common.{◌≡◌, ◌+◌, ◌<◌, true, length, slice_index, sym, ap, ◌∙◌, arith, rules}
-use Rattle.std.specs.Prelude.{insert, remove}
+use Rattle.std.specs.Prelude.{remove}
 use Rattle.apl_answer.specs.Arguments.{is_same_shape}
 use Rattle.apl_struct.specs.Joining.{slices_shape}
 use Rattle.apl_struct.proofs.Filled.{get_or-within}
 use Rattle.apl_struct.proofs.Joints.{slices_length, set_by_insert}
-use Rattle.apl_struct.proofs.slices.joint_of.Goals as goal
+use Rattle.apl_struct.proofs.joining.joint_of.Goals as goal
 
 pub returns : goal.returns
 returns c =
@@ -26,9 +26,7 @@ returns c =
     let kept' : c.remove-right.new.self.items ≡ remove other k = c.remove-right.ensures.items ∙ ap (λ l. remove l k) others in
     let same : is_same_shape (remove own k) (remove other k) ≡ true = search rules in (
       same,
-      c.in_ok-lengths-2.ensures ∙ ap (λ l. insert l k (c.remove-left.result + c.remove-right.result)) kept
-          ∙ ap (λ n. insert (remove own k) k (n + c.remove-right.result)) lefts ∙ ap (λ n. insert (remove own k) k (slice_index own k + n)) rights
-          ∙ sym (set_by_insert own k (slice_index own k + slice_index other k) axis),
+      (rw (kept, lefts, rights) at c.in_ok-lengths-2.ensures) ∙ sym (set_by_insert own k (slice_index own k + slice_index other k) axis),
       lefts,
       rights,
     )

@@ -1,0 +1,100 @@
+use Rattle.std.proofs.Common.{◌≡◌, ◌+◌, ◌*◌, ◌/◌, ◌%◌, ◌<◌, ◌≤◌, length, drop, take, slice_index, ap, sym, ◌∙◌, arith}
+use Rattle.std.specs.Prelude.{slice_set, option_map}
+use Rattle.std.proofs.Math.Nat.{mod-lt, mul-pos}
+use Rattle.std.proofs.lemmas.List.{drop-set-lt, get_or-set_same}
+use Rattle.apl_array.specs.Shape.{count_of, index_at}
+use Rattle.apl_walk.specs.Gathered.{filled_at}
+use Rattle.apl_walk.specs.Maps.{map_extent, map_step}
+use Rattle.apl_struct.specs.Along.{taking_extent, taking_index}
+use Rattle.apl_struct.specs.Compressing.{as_vector}
+use Rattle.apl_struct.specs.Gathering.{element_or_fill, along_axis_or_none}
+use Rattle.apl_struct.proofs.AsVectors.{axis_of_vector}
+use Rattle.apl_struct.proofs.Filled.{AxisFacts, axis_facts}
+use Rattle.apl_struct.proofs.Takings.{stride_of, stride_most, along_element, taking_below}
+use Rattle.apl_struct.proofs.along.gather_along.Given.{Over}
+use Rattle.apl_struct.proofs.along.gather_along.Goals as goal
+use Rattle.apl_struct.proofs.along.gather_along.Goals.{After-axis}
+
+facts : (g : Over) (c : After-axis g) → let shape = (as_vector c.args.length c.args.b.now).shape in let long = c.axis.result in let apart = c.inner-inner.result in
+    (c.args.k < length shape) × (long ≡ taking_extent c.args.length c.args.taking) × (apart ≡ count_of (drop (c.args.k + 1) shape)) × AxisFacts (count_of (take c.args.k shape)) long apart c.count-2.result
+facts g c =
+    let k = c.args.k in
+    let shape = (as_vector c.args.length c.args.b.now).shape in
+    let m = taking_extent c.args.length c.args.taking in
+    let wide : k < length shape = axis_of_vector c.args.length k c.args.b.now c.requires.axis in
+    let long : c.axis.result ≡ m = c.axis.ensures.length ∙ ap (λ s. slice_index s k) c.requires.shape ∙ get_or-set_same shape k m 0 wide in
+    let apart : c.inner-inner.result ≡ count_of (drop (k + 1) shape) =
+    c.inner-inner.ensures.inner ∙ ap (λ s. count_of (drop (k + 1) s)) c.requires.shape ∙ ap count_of (drop-set-lt (k + 1) shape k m (omega arith)) in
+    let count : c.count-2.result ≡ count_of (take k shape) * c.axis.result * c.inner-inner.result =
+    rw (long, apart) (c.count-2.ensures.count ∙ ap count_of c.requires.shape ∙ c.changed_axis_has_place.ensures.count shape k m wide) in
+    (wide, long, apart, axis_facts (count_of (take k shape)) c.axis.result c.inner-inner.result c.count-2.result count (omega (arith, c.count-2.ensures.count, c.count.ensures.count)))
+
+pub returns-then-count-eq0 : goal.returns-then-count-eq0
+returns-then-count-eq0 g c = λ element same. c.empty.ensures element
+
+pub overflow_mul-outer : goal.overflow_mul-outer
+overflow_mul-outer g c = omega (arith, (facts g c).3.line_most, c.count-2.ensures.lawful.count)
+
+pub nonzero_div-outer : goal.nonzero_div-outer
+nonzero_div-outer g c = let axis = (facts g c).3 in mul-pos axis.length_some axis.inner_some
+
+pub nonzero_div-block : goal.nonzero_div-block
+nonzero_div-block g c = let axis = (facts g (goal.at.nonzero_div-block g c).After-axis).3 in rw axis.outer_is axis.outer_some
+
+pub map-map-requires-clause-near : goal.map-map-requires-clause-near
+map-map-requires-clause-near g c =
+    let known = facts g (goal.at.map-map-requires-clause-near g c).After-axis in
+    let apart = c.inner-inner.result in
+    let near : c.args.length * stride_of c.args.b.now apart ≤ count_of c.args.b.now.shape =
+    stride_most c.replaced_index_has_place.ensures.count c.args.b.now c.args.length c.args.k apart c.requires.axis c.requires.length known.2 known.3.outer_some in
+    let is : c.stride_of.result ≡ stride_of c.args.b.now apart = c.stride_of.ensures in
+    rw is (omega (arith, near, c.shape-2.ensures.lawful.shape.count))
+
+pub walk_along-requires-clause-outer : goal.walk_along-requires-clause-outer
+walk_along-requires-clause-outer g c = let axis = (facts g (goal.at.walk_along-requires-clause-outer g c).After-axis).3 in rw axis.outer_is axis.outer_some
+
+pub walk_along-requires-clause-inner : goal.walk_along-requires-clause-inner
+walk_along-requires-clause-inner g c = (facts g (goal.at.walk_along-requires-clause-inner g c).After-axis).3.inner_some
+
+pub gather-requires-clause-extent : goal.gather-requires-clause-extent
+gather-requires-clause-extent g c = λ lifetimes outlive.
+    let known = facts g (goal.at.gather-requires-clause-extent g c).After-axis in
+    let extent : map_extent c.map-map.result ≡ c.axis.result = c.map-map.ensures.extent ∙ sym known.1 in
+    (rw (extent, known.3.outer_is) at c.in_ok-walk.ensures.extent) ∙ sym known.3.count_is ∙ c.count-2.ensures.count
+
+pub returns : goal.returns
+returns g c = λ element same.
+    let known = facts g (goal.at.returns g c).After-axis in
+    let law = c.places_match_index_lists.ensures in
+    let line = c.changed_axis_has_place.ensures in
+    let b = c.args.b.now in
+    let n = c.args.length in
+    let k = c.args.k in
+    let taken = taking_index n c.args.taking in
+    let m = taking_extent n c.args.taking in
+    let vector = as_vector n b in
+    let inner = count_of (drop (k + 1) vector.shape) in
+    let outer = count_of (take k vector.shape) in
+    let map = c.map-map.result in
+    let apart = c.inner-inner.result in
+    let blocks = c.count-2.result / (c.axis.result * apart) in
+    let shape_is : c.args.shape ≡ slice_set vector.shape k m = c.requires.shape in
+    let extent : map_extent map ≡ m = c.map-map.ensures.extent in
+    let block_is : c.count-3.result / blocks ≡ count_of b.shape / outer =
+    ap (λ o. c.count-3.result / o) known.3.outer_is ∙ ap (λ p. p / outer) (c.count-3.ensures.count ∙ ap count_of c.shape-2.ensures.shape) in
+    c.gather.ensures element (λ place inside.
+    let here : place < count_of (slice_set vector.shape k m) = rw shape_is at inside in
+    let reached : place < blocks * (map_extent map * apart) =
+    rw (extent, sym known.1, known.3.outer_is) (omega (arith, known.3.count_is, c.count-2.ensures.count, inside)) in
+    let placed = rw (block_is, extent, known.2) at (c.in_ok-walk.ensures.place place reached) in
+    let i = place / inner % m in
+    let i_below : i < m = mod-lt (place / inner) (rw known.1 at known.3.length_some) in
+    let step : map_step map i ≡ option_map (λ j. j * stride_of b inner) (taken i) =
+    c.map-map.ensures.step i ∙ ap (λ s. option_map (λ j. j * s) (taken i)) (c.stride_of.ensures ∙ ap (stride_of b) known.2) in
+    let index = index_at (slice_set vector.shape k m) place in
+    ap (filled_at b) placed
+    ∙ along_element law.below law.lawful c.replaced_index_has_place.ensures.count line.lawful line.place b n k m place (map_step map i) (taken i)
+    c.shape-2.ensures.lawful c.requires.axis c.requires.length known.3.outer_some here (taking_below n c.args.taking i c.requires.taking i_below) step
+    ∙ ap (λ i. element_or_fill vector (option_map (slice_set index k) (taken i))) (sym (line.index vector.shape k m place known.0))
+    ∙ ap (λ s. element_or_fill vector (along_axis_or_none k taken (index_at s place))) (sym shape_is)
+    ∙ same (index_at c.args.shape place) (law.lawful c.args.shape place inside))
