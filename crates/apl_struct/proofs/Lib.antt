@@ -19,7 +19,6 @@ pub mod LawfulShapes
 pub mod NamedAxes
 pub mod Ranges
 pub mod CappedAxes
-pub mod RowLimits
 pub mod Repeated
 pub mod Bits
 pub mod Naturals
