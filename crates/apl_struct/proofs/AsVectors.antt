@@ -3,7 +3,7 @@ use Rattle.std.proofs.Common.{◌≡◌, pos, ℕ, ◌+◌, ◌*◌, ◌%◌, �
 use Rattle.std.specs.Prelude.{nat_lt, slice_set, Option, Some, None, option_map, IfSome, max, All, replicate, if◌then◌else◌}
 use Rattle.std.proofs.Math.Nat.{div-one, mod-eq_of_lt}
 use Rattle.std.proofs.lemmas.Bool.{cases_Bool, lt-ltb, ltb-true}
-use Rattle.std.proofs.lemmas.List.{get_or-replicate, nil_from_length}
+use Rattle.std.proofs.lemmas.List.{get_or-replicate, get_or_default, nil_from_length}
 use Rattle.std.proofs.lemmas.List.Elements.{All-replicate}
 use Rattle.apl_array.specs.declared.array.Elem.{Elem}
 use Rattle.apl_array.specs.declared.array.Elem.TheVariants.{Int}
@@ -16,7 +16,6 @@ use Rattle.apl_walk.specs.Gathered.{filled_at}
 use Rattle.apl_walk.specs.Steps.{and_step, entry_step}
 use Rattle.apl_struct.specs.Scalars.{entry_index}
 use Rattle.apl_struct.specs.Gathering.{element_or_fill}
-use Rattle.apl_struct.proofs.Filled.{get_or-within}
 use Rattle.apl_struct.proofs.Ranges.{element_in_in}
 
 -- the shape of a scalar that serves as a vector of n
@@ -48,7 +47,7 @@ vector_filled b n m place None array none within = refl
 vector_filled b n m place (Some i) array none within =
     let scalar : is_scalar b ≡ true = eq-eqb (length b.shape) 0 none in
     let one : count_of b.shape ≡ 1 = ap count_of (nil_from_length b.shape none) in
-    let first = get_or-within b.ravel 0 (fill_of b.kind) (Int (pos 0)) (omega (arith, array.len, one)) in
+    let first = get_or_default b.ravel 0 (fill_of b.kind) (Int (pos 0)) (omega (arith, array.len, one)) in
     rw scalar (first ∙ sym (get_or-replicate n (i * 1 + 0) (only_element b) (Int (pos 0)) (omega (arith, within))))
 
 -- no step leads away from a scalar's only element

@@ -3,15 +3,12 @@ pub mod Filled
 pub mod Elements
 pub mod Joints
 pub mod Passing
-pub mod Numbers
 pub mod Vectors
 pub mod Wrapping
 pub mod Numbering
 pub mod Without
 pub mod Rotations
-pub mod Picks
 pub mod Sources
-pub mod Selections
 pub mod Replacement
 pub mod Taken
 pub mod Permuted

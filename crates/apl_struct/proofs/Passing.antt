@@ -1,17 +1,12 @@
 -- The answer of a row whose checks all hold.
-use Rattle.std.proofs.Common.{◌≡◌, true, List, [], ◌∷◌, Result, Err, sym, subst}
+use Rattle.std.proofs.Common.{List, [], ◌∷◌, Result, Err, sym, subst}
 use Rattle.std.specs.Prelude.{Bool, if◌then◌else◌}
 use Rattle.apl_array.specs.Array.{ArrayValue}
 use Rattle.apl_answer.specs.declared.fault.OpFault.{OpFault}
 use Rattle.apl_answer.specs.Pointwise.{IsAnswerOf}
-use Rattle.apl_answer.specs.Rows.{Check, first_failure_or}
+use Rattle.apl_answer.specs.Rows.{Check, HavePassed, first_failure_or}
 
--- all the tests hold
-abbrev pub AllHold : List Check → Type 0
-AllHold [] = Unit {0}
-AllHold (check ∷ checks) = (check.0 ≡ true) × AllHold checks
-
-pub answered : (checks : List Check) (answer result : Result ArrayValue OpFault) → AllHold checks → IsAnswerOf answer result
+pub answered : (checks : List Check) (answer result : Result ArrayValue OpFault) → HavePassed checks → IsAnswerOf answer result
     → IsAnswerOf (first_failure_or checks answer) result
 answered [] answer result hold is = is
 answered (check ∷ checks) answer result hold is =

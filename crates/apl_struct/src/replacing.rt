@@ -220,7 +220,7 @@ fn replace_selected<W: Crew>(
     }
     places_match_index_lists();
     let shape = a.shape().copy(workers.alloc())?;
-    let walk = selected_walk(workers.alloc(), a, slots, origin)?;
+    let walk = selected_walk(workers.alloc(), a, slots, origin, &selected)?;
     let maps = walk.into_maps()?;
     let step = value_step(b);
     match maps.as_slice() {
