@@ -2,6 +2,7 @@
 use Rattle.std.proofs.Common.{◌≡◌, pos, ℕ, ◌+◌, ◌*◌, ◌%◌, ◌<◌, true, false, Bool, List, [], ◌∷◌, length, slice_index, refl, ap, sym, ◌∙◌, ⊎_elim, eq-eqb, arith}
 use Rattle.std.specs.Prelude.{nat_lt, slice_set, Option, Some, None, option_map, IfSome, max, All, replicate, if◌then◌else◌}
 use Rattle.std.proofs.Math.Nat.{div-one, mod-eq_of_lt}
+use Rattle.std.proofs.lemmas.Bool.Decides.{nat_tests}
 use Rattle.std.proofs.lemmas.Bool.{cases_Bool, lt-ltb, ltb-true}
 use Rattle.std.proofs.lemmas.List.{get_or-replicate, get_or_default, nil_from_length}
 use Rattle.std.proofs.lemmas.List.Elements.{All-replicate}
@@ -18,28 +19,12 @@ use Rattle.apl_struct.specs.Scalars.{entry_index}
 use Rattle.apl_struct.specs.Gathering.{element_or_fill}
 use Rattle.apl_struct.proofs.Ranges.{element_in_in}
 
--- the shape of a scalar that serves as a vector of n
-abbrev pub vector_shape : ℕ → List ℕ → List ℕ
-vector_shape n [] = n ∷ []
-vector_shape n (m ∷ shape) = m ∷ shape
-
-shape_of_vector : (n : ℕ) (b : ArrayValue) (shape : List ℕ) → b.shape ≡ shape → (as_vector n b).shape ≡ vector_shape n shape
-shape_of_vector n b [] is =
-    let scalar : is_scalar b ≡ true = grind (arith, ap length is) in
-    rw scalar refl
-shape_of_vector n b (m ∷ shape) is =
-    let vector : is_scalar b ≡ false = grind (arith, ap length is) in
-    rw vector is
-
-pub vector_shape_is : (n : ℕ) (b : ArrayValue) → (as_vector n b).shape ≡ vector_shape n b.shape
-vector_shape_is n b = shape_of_vector n b b.shape refl
-
-pub vector_axis : (n k : ℕ) (shape : List ℕ) → k < max 1 (length shape) → k < length (vector_shape n shape)
-vector_axis n k [] axis = axis
-vector_axis n k (m ∷ shape) axis = grind (arith, axis)
-
 pub axis_of_vector : (n k : ℕ) (b : ArrayValue) → k < max 1 (length b.shape) → k < length (as_vector n b).shape
-axis_of_vector n k b axis = rw (vector_shape_is n b) (vector_axis n k b.shape axis)
+axis_of_vector n k b axis = by_test (is_scalar b) refl
+  where
+    by_test : (scalar : Bool) → is_scalar b ≡ scalar → k < length (if scalar then n ∷ [] else b.shape)
+    by_test true is = grind (arith, nat_tests)
+    by_test false is = grind (arith, nat_tests)
 
 pub vector_filled : (b : ArrayValue) (n m place : ℕ) (j : Option ℕ) → IsArray b → length b.shape ≡ 0 → IfSome j (λ i. i < n)
     → filled_at b (option_map (λ i. 0) j) ≡ element_or_fill (as_vector n b) (option_map (slice_set (index_at (m ∷ []) place) 0) j)

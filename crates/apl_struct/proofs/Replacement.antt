@@ -8,7 +8,7 @@ use Rattle.std.proofs.lemmas.Grind.{get_or-set_at}
 use Rattle.std.proofs.lemmas.List.{get_or-set_other, get_or_default, take_rest}
 use Rattle.std.proofs.lemmas.Nat.{mod-mul-add, div-mul-add}
 use Rattle.std.proofs.Math.ListN.{set, get_or-map}
-use Rattle.std.proofs.Math.Nat.{mul-le-mul_right, mod-eq_of_lt}
+use Rattle.std.proofs.Math.Nat.{mod-eq_of_lt}
 use Rattle.apl_array.specs.declared.array.Elem.TheVariants.{Int}
 use Rattle.apl_array.specs.declared.array.Elem.{Elem}
 use Rattle.apl_array.specs.declared.axis.Origin.{Origin}
@@ -58,11 +58,6 @@ pub walked_parts : (maps : List Map) (last : Map) (place : ℕ) → 0 < length m
 walked_parts [] last place some is = absurd (omega arith)
 walked_parts (m ∷ ms) last place some is =
     ap (λ l. walked (l ∷ take (length (m ∷ ms) - 1) ms) place) is ∙ ap (λ os. walked (m ∷ os) place) (take_rest (m ∷ ms) 1)
-
-pub line_within : (line i lines e : ℕ) → line < lines → i < e → line * e + i < e * lines
-line_within line i lines e below inside =
-    let next : line + 1 ≤ lines = omega arith in
-    omega (arith, mul-le-mul_right e next)
 
 pub not_reached : (n : ℕ) (step : Option ℕ) → IsReached n (and_step step None) → ⊥
 not_reached n (Some m) is = is

@@ -113,29 +113,18 @@ fn selected_axes<'a>(
     ensures count { IfOk result (λ s. s.count ≡ count_of lengths.now) }
 {
     let [axis_length, lengths @ ..] = lengths else {
-        return Ok(no_axes(alloc));
+        return Ok(Selected {
+            walk: Walk::new(alloc),
+            start: 0,
+            count: 1,
+        });
     };
     let [slot, slots @ ..] = slots else {
-        return Ok(no_axes(alloc));
+        unreachable!()
     };
     let inner = selected_axes(alloc, lengths, slots, origin)?;
     let map = slot_map(slot, origin, *axis_length, inner.count);
     inner.with(map, *axis_length)
-}
-
-/// What is chosen of no axes.
-fn no_axes<'a>(alloc: Global) -> Selected<'a>
-    ensures extent { extent_of (maps_of result.walk) ≡ 1 }
-    ensures place { (place : ℕ) → reached_from result.start (maps_of result.walk) place ≡ Some 0 }
-    ensures few { vec_len result.walk.inner ≡ 0 }
-    ensures start { result.start ≡ 0 }
-    ensures count { result.count ≡ 1 }
-{
-    Selected {
-        walk: Walk::new(alloc),
-        start: 0,
-        count: 1,
-    }
 }
 
 /// The walk over an array of which the slots choose an array of this shape.

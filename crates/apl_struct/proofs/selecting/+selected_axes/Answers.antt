@@ -20,11 +20,6 @@ with-requires-clause-extent t c =
     let parts = parts_of c.args.origin c.args.lengths.now c.args.slots.now c.slot-item.result (omega arith) (omega arith) c.slot-item.is c.requires in
     rw (c.slot_map-map.ensures.extent, c.in_ok-inner.ensures.extent) parts.slot.both
 
-pub with-requires-clause-count : goal.with-requires-clause-count
-with-requires-clause-count t c =
-    let parts = parts_of c.args.origin c.args.lengths.now c.args.slots.now c.slot-item.result (omega arith) (omega arith) c.slot-item.is c.requires in
-    rw c.in_ok-inner.ensures.count parts.axis.both
-
 pub returns-clause-extent : goal.returns-clause-extent
 returns-clause-extent t c =
     let parts = parts_of c.args.origin c.args.lengths.now c.args.slots.now c.slot-item.result (omega arith) (omega arith) c.slot-item.is c.requires in

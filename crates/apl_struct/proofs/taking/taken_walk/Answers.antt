@@ -60,8 +60,3 @@ loop-k-preserved c =
           (c.in_ok-walk.ensures.place place
           ∙ taken_step m (drop k numbers) n (drop k argument) w (walked (maps_of before) place) (extent_of (maps_of before)) place extent all steps (c.loop-k.invariant.place place));
     }
-
-pub returns-clause-place : goal.returns-clause-place
-returns-clause-place c = λ place.
-    let none : c.loop-k.k ≡ 0 = omega arith in
-    rw none at (c.loop-k.invariant.place place)
