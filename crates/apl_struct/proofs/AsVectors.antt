@@ -1,9 +1,8 @@
 -- Scalars that serve as vectors.
-use Rattle.std.proofs.Common.{◌≡◌, pos, ℕ, ◌+◌, ◌*◌, ◌%◌, ◌<◌, true, false, Bool, List, [], ◌∷◌, length, slice_index, refl, ap, sym, ◌∙◌, ⊎_elim, eq-eqb, arith}
-use Rattle.std.specs.Prelude.{nat_lt, slice_set, Option, Some, None, option_map, IfSome, max, All, replicate, if◌then◌else◌}
+use Rattle.std.proofs.Common.{◌≡◌, pos, ℕ, ◌+◌, ◌*◌, ◌%◌, ◌<◌, true, false, Bool, List, [], ◌∷◌, length, slice_index, refl, ap, sym, ◌∙◌, eq-eqb, arith}
+use Rattle.std.specs.Prelude.{slice_set, Option, Some, None, option_map, IfSome, max, All, replicate, if◌then◌else◌}
 use Rattle.std.proofs.Math.Nat.{div-one, mod-eq_of_lt}
 use Rattle.std.proofs.lemmas.Bool.Decides.{nat_tests}
-use Rattle.std.proofs.lemmas.Bool.{cases_Bool, lt-ltb, ltb-true}
 use Rattle.std.proofs.lemmas.List.{get_or-replicate, get_or_default, nil_from_length}
 use Rattle.std.proofs.lemmas.List.Elements.{All-replicate}
 use Rattle.apl_array.specs.declared.array.Elem.{Elem}
@@ -42,21 +41,13 @@ scalar_step step (Some i) is = ap (and_step (Some 0)) is ∙ ap Some (omega arit
 
 -- an entry's step, as that of an index
 pub entry_steps : (n stride entry : ℕ) → entry_step n stride entry ≡ option_map (λ j. j * stride) (entry_index n entry)
-entry_steps n stride entry =
-    ⊎_elim
-    (λ below. rw below refl)
-    (λ past. rw past refl)
-    (cases_Bool (nat_lt entry n))
+entry_steps n stride entry = grind (arith, nat_tests)
 
 pub entry_below : (n entry : ℕ) → IfSome (entry_index n entry) (λ j. j < n)
-entry_below n entry =
-    ⊎_elim
-    (λ (below : nat_lt entry n ≡ true). rw below (ltb-true entry n below))
-    (λ (past : nat_lt entry n ≡ false). rw past tt)
-    (cases_Bool (nat_lt entry n))
+entry_below n entry = grind (arith, nat_tests)
 
 pub entry_there : (n entry : ℕ) → entry < n → entry_index n entry ≡ Some entry
-entry_there n entry below = rw (lt-ltb entry n below) refl
+entry_there n entry below = grind (arith, nat_tests)
 
 pub vector_index : (m place : ℕ) → place < m → slice_index (index_at (m ∷ []) place) 0 ≡ place
 vector_index m place inside = ap (λ p. p % m) (div-one place) ∙ mod-eq_of_lt inside

@@ -28,3 +28,9 @@ loop-i-preserved g c = record {
       ∙ ap (λ m. value_numbered elements values fill (last_number choice c.args.step p m) p) next;
   len = search rules;
 }
+
+pub returns-clause-values : goal.returns-clause-values
+returns-clause-values g c = λ choice elements steps before p inside.
+    let all : c.args.from + c.loop-i.i ≡ c.args.from + map_extent c.args.last = omega arith in
+    c.loop-i.invariant.values choice elements steps before p inside
+    ∙ ap (λ m. value_numbered elements c.args.values.now c.args.fill (last_number choice c.args.step p m) p) all
