@@ -1,4 +1,4 @@
-use Rattle.std.proofs.Common.{◌≡◌, ◌-◌, ◌<◌, ℕ, List, ◌∷◌, length, take, drop, Option, Some, Ok, rules, refl, ap, subst, sym, ◌∙◌, arith}
+use Rattle.std.proofs.Common.{◌≡◌, ◌-◌, ◌<◌, ℕ, List, ◌∷◌, length, take, drop, Option, Some, Ok, refl, ap, subst, sym, ◌∙◌, arith}
 use Rattle.apl_array.specs.declared.array.Elem.{Elem}
 use Rattle.apl_array.specs.Shape.{count_of, index_at}
 use Rattle.apl_answer.specs.Pointwise.{answer_of, IsAnswerOf}
@@ -20,7 +20,7 @@ returns-then-count-eq0 g c =
 pub replace_walk-requires-clause-some : goal.replace_walk-requires-clause-some
 replace_walk-requires-clause-some g c κs lives =
     let slots : Slots = c.args.slots.now in
-    let copied : c.in_ok-shape.shape ≡ c.args.a.now.shape = search rules in
+    let copied : c.in_ok-shape.shape ≡ c.args.a.now.shape = c.in_ok-shape.ensures.copy ∙ c.shape.ensures.shape in
     let below = c.places_match_index_lists.ensures.below c.args.a.now.shape (chosen_index c.args.origin c.args.selected slots 0) (c.in_ok-walk.ensures.lawful 0) in
     omega (arith, below, ap count_of copied)
 
@@ -32,7 +32,7 @@ replace_walk-requires-clause-within g c κs lives = λ place inside.
     let below = c.places_match_index_lists.ensures.below shape (chosen_index c.args.origin c.args.selected slots place) (c.in_ok-walk.ensures.lawful place) in
     let reaches : walked (c.last-item.result ∷ take (length maps - 1) (drop 1 maps)) place ≡ Some (chosen_place c.args.origin shape c.args.selected slots place) =
     walked_parts maps c.last-item.result place (omega arith) c.last-item.is ∙ ap (λ ms. walked ms place) (c.as_slice.ensures.value ∙ c.in_ok-maps.ensures.maps) ∙ c.in_ok-walk.ensures.place place in
-    let copied : c.in_ok-shape.shape ≡ shape = search rules in
+    let copied : c.in_ok-shape.shape ≡ shape = c.in_ok-shape.ensures.copy ∙ c.shape.ensures.shape in
     let Below : Option ℕ → Type 0 = IsReached (count_of c.in_ok-shape.shape) in
     subst Below (sym reaches) (omega (arith, below, ap count_of copied))
 
@@ -49,7 +49,7 @@ returns g c =
     let chosen = chosen_place c.args.origin a.shape selected slots in
     let reaches : (p : ℕ) → walked (last ∷ others) p ≡ Some (chosen p) = λ p.
     walked_parts maps last p (omega arith) c.last-item.is ∙ ap (λ ms. walked ms p) (c.as_slice.ensures.value ∙ c.in_ok-maps.ensures.maps) ∙ c.in_ok-walk.ensures.place p in
-    let copied : c.in_ok-shape.shape ≡ a.shape = search rules in
+    let copied : c.in_ok-shape.shape ≡ a.shape = c.in_ok-shape.ensures.copy ∙ c.shape.ensures.shape in
     let element : List ℕ → Elem = λ index. replaced_element a b index (last_choice c.args.origin slots selected index (count_of selected)) in
     let P : List ℕ → Type 0 = λ s. IsAnswerOf (answer_of s (λ index. Ok (element index)) a.kind) c.replace_walk.result in
     subst P copied (c.replace_walk.ensures element (λ place inside.

@@ -1,4 +1,4 @@
-use Rattle.std.proofs.Common.{◌≡◌, ℕ, ◌+◌, ◌≤◌, rules, ap, ◌∙◌, arith}
+use Rattle.std.proofs.Common.{◌≡◌, ℕ, ◌+◌, ◌≤◌, ap, ◌∙◌, arith}
 use Rattle.std.specs.Prelude.{Option, Some, None}
 use Rattle.std.proofs.lemmas.Result.{IfOk-weaker}
 use Rattle.apl_walk.specs.Steps.{and_step}
@@ -12,7 +12,7 @@ use Rattle.apl_struct.proofs.selecting.selected_walk.Goals as goal
 pub selected_axes-requires : goal.selected_axes-requires
 selected_axes-requires c =
     let slots : Slots = c.args.slots.now in
-    let same : c.lengths.result.now ≡ c.args.a.now.shape = search rules in
+    let same : c.lengths.result.now ≡ c.args.a.now.shape = c.lengths.ensures.lengths ∙ c.shape.ensures.shape in
     rw same (selectable c.args.origin c.args.a.now slots c.args.selected.now c.requires.selection c.requires.some c.places_match_index_lists.ensures.below
     c.shape.ensures.lawful.shape c.count-count.ensures.lawful.count)
 
@@ -26,7 +26,7 @@ into_walk-requires-clause-start c =
     let slots : Slots = c.args.slots.now in
     let shape = c.args.a.now.shape in
     let axes = c.in_ok-axes.axes in
-    let same : c.lengths.result.now ≡ shape = search rules in
+    let same : c.lengths.result.now ≡ shape = c.lengths.ensures.lengths ∙ c.shape.ensures.shape in
     let chosen = lawful_chosen c.args.origin c.args.a.now slots c.args.selected.now c.requires.selection c.requires.some 0 in
     let here = c.places_match_index_lists.ensures.below shape (chosen_index c.args.origin c.args.selected.now slots 0) chosen in
     let most = start_most axes.start _ (walked (maps_of axes.walk) 0) (c.in_ok-axes.ensures.place 0) in
@@ -42,7 +42,7 @@ into_walk-requires-clause-start c =
 pub returns : goal.returns
 returns c =
     let slots : Slots = c.args.slots.now in
-    let same : c.lengths.result.now ≡ c.args.a.now.shape = search rules in
+    let same : c.lengths.result.now ≡ c.args.a.now.shape = c.lengths.ensures.lengths ∙ c.shape.ensures.shape in
     let from = c.requires.selection.shape_is in
     record {
       extent = IfOk-weaker c.into_walk.result _ _ (λ walk is. rw (from, ← same) (is ∙ c.in_ok-axes.ensures.extent)) c.into_walk.ensures.extent;
