@@ -47,11 +47,9 @@ value_more elements values room fill v choice step n q within is value before p 
 
 -- ---- lines of a walk
 
-pub line_reached : (last : Map) (outer : List Map) (line i : ℕ) → i < map_extent last → walked (last ∷ outer) (line * map_extent last + i) ≡ and_step (map_step last i) (walked outer line)
-line_reached last outer line i inside =
-    let e = map_extent last in
-    ap (λ j. and_step (map_step last j) (walked outer ((line * e + i) / e))) (mod-mul-add line e i inside)
-    ∙ ap (λ l. and_step (map_step last i) (walked outer l)) (div-mul-add line e i inside)
+pub line_reached : (last : Map) (outer : List Map) (line i : ℕ) (base : Option ℕ) → walked outer line ≡ base → i < map_extent last
+    → walked (last ∷ outer) (line * map_extent last + i) ≡ and_step (map_step last i) base
+line_reached last outer line i base is inside = rw (mod-mul-add line (map_extent last) i inside, div-mul-add line (map_extent last) i inside, is) refl
 
 -- the map of the last axis and the others, as a slice pattern gives them
 pub walked_parts : (maps : List Map) (last : Map) (place : ℕ) → 0 < length maps → last ≡ slice_index_or maps 0 last → walked (last ∷ take (length maps - 1) (drop 1 maps)) place ≡ walked maps place
