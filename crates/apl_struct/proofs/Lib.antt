@@ -4,15 +4,12 @@ pub mod Takings
 pub mod Elements
 pub mod Joints
 pub mod Passing
-pub mod Numbers
 pub mod Vectors
 pub mod Wrapping
 pub mod Numbering
 pub mod Without
 pub mod Rotations
-pub mod Picks
 pub mod Sources
-pub mod Selections
 pub mod Replacement
 pub mod Taken
 pub mod Permuted
@@ -20,7 +17,6 @@ pub mod LawfulShapes
 pub mod NamedAxes
 pub mod Ranges
 pub mod CappedAxes
-pub mod RowLimits
 pub mod Repeated
 pub mod Bits
 pub mod Naturals

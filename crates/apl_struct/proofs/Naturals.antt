@@ -1,5 +1,5 @@
 -- Lists of numbers from 0 up, as counts.
-use Rattle.std.proofs.Common.{◌≡◌, ℕ, ℤ, pos, negsuc, ◌+◌, ◌<◌, int_lt, nat_abs, Bool, true, false, ◌&&◌, List, [], ◌∷◌, ◌++◌, map, take, length, slice_index_or, replicate, to_z, of_z, w64, refl, ap, sym, ◌∙◌, arith}
+use Rattle.std.proofs.Common.{◌≡◌, ℕ, ℤ, pos, negsuc, zero, suc, ◌+◌, ◌<◌, int_lt, nat_abs, Bool, true, false, ◌&&◌, List, [], ◌∷◌, ◌++◌, map, take, length, slice_index_or, replicate, to_z, of_z, w64, refl, ap, sym, ◌∙◌, arith}
 use Rattle.std.specs.Prelude.{sum}
 use Rattle.std.specs.List.{list_all}
 use Rattle.std.proofs.lemmas.Bool.{true≢false, and_parts}
@@ -22,6 +22,12 @@ same_number (negsuc n) natural = absurd (true≢false (sym natural))
 -- a count is what its cast is
 pub cast_is : (z : ℤ) → is_natural z ≡ true → to_z w64 (of_z w64 z) ≡ z → nat_abs (to_z w64 (of_z w64 z)) ≡ place_number z
 cast_is z natural turned = ap nat_abs turned ∙ same_number z natural
+
+pub natural_at : (numbers : List ℤ) (i : ℕ) → list_all is_natural numbers ≡ true → is_natural (slice_index_or numbers i (pos 0)) ≡ true
+natural_at [] i all = refl
+natural_at (pos n ∷ zs) zero all = refl
+natural_at (pos n ∷ zs) (suc i) all = natural_at zs i all
+natural_at (negsuc n ∷ zs) i all = absurd (true≢false (sym all))
 
 pub natural_sum : (numbers : List ℤ) (i : ℕ) → i < length numbers → sum (take (i + 1) (map place_number numbers)) ≡ sum (take i (map place_number numbers)) + place_number (slice_index_or numbers i (pos 0))
 natural_sum numbers i inside =

@@ -2,6 +2,7 @@
 use Rattle.std.proofs.Common.{◌≡◌, ℕ, zero, suc, ◌+◌, ◌*◌, ◌/◌, ◌%◌, ◌<◌, List, [], ◌∷◌, length, drop, slice_index, refl, sym, ap, ◌∙◌, arith}
 use Rattle.std.specs.Prelude.{insert, remove, ◌≤◌}
 use Rattle.std.proofs.Math.Nat.{mod-lt, div-div-eq-div-mul, div-lt_iff_lt-mul, mul-le-mul_right}
+use Rattle.std.proofs.lemmas.List.Edits.{length-remove}
 use Rattle.std.proofs.lemmas.Nat.{div-add-mod', div-mul-add, mod-mul-add}
 use Rattle.apl_array.specs.Shape.{IsIndexOf, count_of, place_of, index_at}
 use Rattle.apl_struct.specs.Along.{line_index, line_number}
@@ -11,11 +12,6 @@ remove-insert : (xs : List ℕ) (k i : ℕ) → k ≤ length xs → remove (inse
 remove-insert xs zero i inside = refl
 remove-insert [] (suc k) i inside = absurd (omega (arith, inside))
 remove-insert (x ∷ xs) (suc k) i inside = ap (λ ys. x ∷ ys) (remove-insert xs k i (omega (arith, inside)))
-
-length-remove : (xs : List ℕ) (k : ℕ) → k < length xs → k ≤ length (remove xs k)
-length-remove [] k inside = absurd (omega (arith, inside))
-length-remove (x ∷ xs) zero inside = omega arith
-length-remove (x ∷ xs) (suc k) inside = omega (arith, length-remove xs k (omega (arith, inside)))
 
 -- a place is that of its line, of its index along it, and of what is left
 module _ (m inner place : ℕ) (m_some : 0 < m) (inner_some : 0 < inner) where
@@ -67,6 +63,6 @@ module _ (below : (shape index : List ℕ) → IsIndexOf shape index → place_o
       ∙ ap (λ x. (outer * m + i) * inner + x) (line_inner m inner place m_some inner_some)
       ∙ line_parts m inner place m_some inner_some in
       let is : index_at shape place ≡ index = ap (index_at shape) (sym at_place) ∙ same_index shape index (inserted shape base k i axis base_lawful i_below) in
-      let long : k ≤ length base = omega (arith, base_lawful.len, length-remove shape k axis) in
+      let long : k ≤ length base = omega (arith, base_lawful.len, length-remove shape k axis, axis) in
       let back : remove (index_at shape place) k ≡ base = ap (λ x. remove x k) is ∙ remove-insert base k i long in
       sym (ap (place_of (remove shape k)) back ∙ same_place (remove shape k) p p_below)

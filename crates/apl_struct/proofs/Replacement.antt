@@ -1,20 +1,21 @@
 -- The number at each place is that of the last choice of its index list.
 use Rattle.std.proofs.Common.{◌≡◌, ℕ, pos, zero, suc, ◌+◌, ◌-◌, ◌*◌, ◌/◌, ◌%◌, ◌<◌, ◌≤◌, Bool, true, false, List, [], ◌∷◌, length, take, drop, map, Option, Some, None, Result, Ok, slice_index_or, refl, ap, sym, ◌∙◌, arith}
 use Rattle.std.specs.Prelude.{nat_eq, ◌||◌, if◌then◌else◌}
-use Rattle.std.specs.Cmp.Lexicographic.{same_text}
-use Rattle.std.proofs.lemmas.Bool.{eq-eqb, eqb-true, and_from}
+use Rattle.std.proofs.lemmas.Bool.{eq-eqb, eqb-true}
+use Rattle.std.proofs.lemmas.Bool.Decides.{same_from_decides}
+use Rattle.std.proofs.lemmas.Slice.Eq.{bytes_eq-Decides}
 use Rattle.std.proofs.lemmas.Grind.{get_or-set_at}
-use Rattle.std.proofs.lemmas.List.{get_or-set_other}
+use Rattle.std.proofs.lemmas.List.{get_or-set_other, get_or_default, take_rest}
 use Rattle.std.proofs.lemmas.Nat.{mod-mul-add, div-mul-add}
 use Rattle.std.proofs.Math.ListN.{set, get_or-map}
-use Rattle.std.proofs.Math.Nat.{mul-le-mul_right, mod-eq_of_lt}
+use Rattle.std.proofs.Math.Nat.{mod-eq_of_lt}
 use Rattle.apl_array.specs.declared.array.Elem.TheVariants.{Int}
 use Rattle.apl_array.specs.declared.array.Elem.{Elem}
 use Rattle.apl_array.specs.declared.axis.Origin.{Origin}
 use Rattle.apl_array.specs.Shape.{IsIndexOf, count_of, place_of, index_at}
 use Rattle.apl_array.specs.Array.{ArrayValue, IsArray, element_at, element_in}
 use Rattle.apl_answer.specs.Arguments.{fill_of, has_one_element, is_same_shape}
-use Rattle.apl_struct.specs.Indexing.{Slots, selected_shape, select_source, last_choice, replaced_element}
+use Rattle.apl_struct.specs.Indexing.{Slots, last_choice, replaced_element}
 use Rattle.apl_walk.specs.declared.maps.Map.{Map}
 use Rattle.apl_walk.specs.declared.window.Window.{Window as WindowMap}
 use Rattle.apl_walk.specs.Gathered.{value_or}
@@ -23,9 +24,7 @@ use Rattle.apl_walk.specs.Maps.{map_extent, map_step, step_of, walked}
 use Rattle.apl_pool.specs.declared.kernel.Fault.{Fault}
 use Rattle.apl_pool.specs.Pool.{AreValues}
 use Rattle.apl_struct.specs.Numbering.{IsReached, last_number, value_numbered, element_numbered, value_step, IsReplacement}
-use Rattle.apl_struct.specs.Selecting.{chosen_place, IsSelection}
-use Rattle.apl_struct.proofs.Filled.{get_or-within}
-use Rattle.apl_struct.proofs.Sources.{place_chosen, lawful_index, rest_of}
+use Rattle.apl_struct.specs.Selecting.{chosen_index, chosen_place}
 
 pub same_numbers : (f g : ℕ → ℕ) (step p n : ℕ) → ((m : ℕ) → m < n → f m ≡ g m) → last_number f step p n ≡ last_number g step p n
 same_numbers f g step p zero same = refl
@@ -48,22 +47,15 @@ value_more elements values room fill v choice step n q within is value before p 
 
 -- ---- lines of a walk
 
-pub line_reached : (last : Map) (outer : List Map) (line i : ℕ) → i < map_extent last → walked (last ∷ outer) (line * map_extent last + i) ≡ and_step (map_step last i) (walked outer line)
-line_reached last outer line i inside =
-    let e = map_extent last in
-    ap (λ j. and_step (map_step last j) (walked outer ((line * e + i) / e))) (mod-mul-add line e i inside)
-    ∙ ap (λ l. and_step (map_step last i) (walked outer l)) (div-mul-add line e i inside)
+pub line_reached : (last : Map) (outer : List Map) (line i : ℕ) (base : Option ℕ) → walked outer line ≡ base → i < map_extent last
+    → walked (last ∷ outer) (line * map_extent last + i) ≡ and_step (map_step last i) base
+line_reached last outer line i base is inside = rw (mod-mul-add line (map_extent last) i inside, div-mul-add line (map_extent last) i inside, is) refl
 
 -- the map of the last axis and the others, as a slice pattern gives them
 pub walked_parts : (maps : List Map) (last : Map) (place : ℕ) → 0 < length maps → last ≡ slice_index_or maps 0 last → walked (last ∷ take (length maps - 1) (drop 1 maps)) place ≡ walked maps place
 walked_parts [] last place some is = absurd (omega arith)
 walked_parts (m ∷ ms) last place some is =
-    ap (λ l. walked (l ∷ take (length (m ∷ ms) - 1) ms) place) is ∙ ap (λ os. walked (m ∷ os) place) (rest_of (m ∷ ms))
-
-pub line_within : (line i lines e : ℕ) → line < lines → i < e → line * e + i < e * lines
-line_within line i lines e below inside =
-    let next : line + 1 ≤ lines = omega arith in
-    omega (arith, mul-le-mul_right e next)
+    ap (λ l. walked (l ∷ take (length (m ∷ ms) - 1) ms) place) is ∙ ap (λ os. walked (m ∷ os) place) (take_rest (m ∷ ms) 1)
 
 pub not_reached : (n : ℕ) (step : Option ℕ) → IsReached n (and_step step None) → ⊥
 not_reached n (Some m) is = is
@@ -87,7 +79,7 @@ copied_each elements fill all wide step values source outer last count same alon
     ap (λ i. Ok (value_or elements fill (and_step (step_of all i) (Some 0)))) own ∙ ap (λ s. Ok (value_or elements fill (and_step s (Some 0)))) (step p inside) ∙ ap (λ q. Ok (slice_index_or elements q fill)) there in
     let below : p < count = omega (arith, long, wide, inside) in
     let given = rw (same, along, across) at are in
-    same_value _ _ (reached p) (given.each p d below) is ∙ get_or-within elements p fill d inside
+    same_value _ _ (reached p) (given.each p d below) is ∙ get_or_default elements p fill d inside
 
 pub numbered_element : {T : Type 0} (elem_of : T → Elem) (elements first values : List T) (fill : T) (blank : Elem) (number place : ℕ) → elem_of fill ≡ blank
     → slice_index_or first place fill ≡ slice_index_or elements place fill → elem_of (value_numbered first values fill number place) ≡ value_numbered (map elem_of elements) (map elem_of values) blank number place
@@ -100,25 +92,14 @@ one_of_two : {X Y : Type 0} (f : X → Elem) (g : Y → Elem) (t : Bool) (x y : 
 one_of_two f g true x y u v here there = here
 one_of_two f g false x y u v here there = there
 
-equal_tests : (a b : Bool) → (a ≡ true → b ≡ true) → (b ≡ true → a ≡ true) → a ≡ b
-equal_tests true b there back = sym (there refl)
-equal_tests false true there back = back refl
-equal_tests false false there back = refl
-
 -- two index lists of a shape are the same where their places are
 same_test : ((shape index : List ℕ) → IsIndexOf shape index → index_at shape (place_of shape index) ≡ index)
     → (shape x y : List ℕ) → IsIndexOf shape x → IsIndexOf shape y → is_same_shape x y ≡ nat_eq (place_of shape x) (place_of shape y)
 same_test inverse shape x y is and =
-    equal_tests (is_same_shape x y) (nat_eq (place_of shape x) (place_of shape y))
-    (λ same. eq-eqb (place_of shape x) (place_of shape y) (ap (place_of shape) (same_text x y (sym same))))
-    (λ same. same_lists x y (sym (inverse shape x is) ∙ ap (index_at shape) (eqb-true (place_of shape x) (place_of shape y) same) ∙ inverse shape y and))
-  where
-    same_itself : (x : List ℕ) → is_same_shape x x ≡ true
-    same_itself [] = refl
-    same_itself (n ∷ ns) = and_from (nat_eq n n) (is_same_shape ns ns) (eq-eqb n n refl) (same_itself ns)
-
-    same_lists : (x y : List ℕ) → x ≡ y → is_same_shape x y ≡ true
-    same_lists x y same = ap (is_same_shape x) (sym same) ∙ same_itself x
+    same_from_decides (is_same_shape x y) (nat_eq (place_of shape x) (place_of shape y)) (bytes_eq-Decides x y) (
+      λ test. sym (inverse shape x is) ∙ ap (index_at shape) (eqb-true (place_of shape x) (place_of shape y) test) ∙ inverse shape y and,
+      λ same. eq-eqb (place_of shape x) (place_of shape y) (ap (place_of shape) same),
+    )
 
 -- the value of a choice
 value_of_choice : (a b : ArrayValue) (selected : List ℕ) (p m : ℕ) (index : List ℕ) → IsArray b → IsReplacement a b selected → m < count_of selected
@@ -129,35 +110,32 @@ value_of_choice a b selected p m index array fits inside = by_test (has_one_elem
     by_test true one =
         let len : length b.ravel ≡ 1 = array.len ∙ eqb-true (count_of b.shape) 1 one in
         let first : m * 0 + 1 ≡ 1 = omega arith in
-        rw (one, first) (get_or-within b.ravel 0 (fill_of a.kind) (Int (pos 0)) (omega arith))
+        rw (one, first) (get_or_default b.ravel 0 (fill_of a.kind) (Int (pos 0)) (omega arith))
     by_test false one =
-        let same : b.shape ≡ selected = same_text b.shape selected (sym (ap (λ t. t || is_same_shape b.shape selected) (sym one) ∙ fits.each)) in
+        let same : b.shape ≡ selected = (bytes_eq-Decides b.shape selected).0 (ap (λ t. t || is_same_shape b.shape selected) (sym one) ∙ fits.each) in
         let number : m * 1 + 1 ≡ suc m = omega arith in
         let below : m < length b.ravel = omega (arith, array.len, ap count_of same) in
-        rw (one, number) (get_or-within b.ravel m (fill_of a.kind) (Int (pos 0)) below)
+        rw (one, number) (get_or_default b.ravel m (fill_of a.kind) (Int (pos 0)) below)
 
 pub own_element : ((shape : List ℕ) (place : ℕ) → place < count_of shape → place_of shape (index_at shape place) ≡ place)
     → (a : ArrayValue) (p : ℕ) → IsArray a → p < count_of a.shape → slice_index_or a.ravel p (fill_of a.kind) ≡ element_at a (index_at a.shape p)
 own_element back a p array inside =
-    get_or-within a.ravel p (fill_of a.kind) (Int (pos 0)) (omega (arith, array.len, inside)) ∙ ap (element_in a) (sym (back a.shape p inside))
+    get_or_default a.ravel p (fill_of a.kind) (Int (pos 0)) (omega (arith, array.len, inside)) ∙ ap (element_in a) (sym (back a.shape p inside))
 
-module _ (law : (shape index : List ℕ) → IsIndexOf shape index → place_of shape index < count_of shape)
-    (inverse : (shape index : List ℕ) → IsIndexOf shape index → index_at shape (place_of shape index) ≡ index)
+module _ (inverse : (shape index : List ℕ) → IsIndexOf shape index → index_at shape (place_of shape index) ≡ index)
     (lawful : (shape : List ℕ) (place : ℕ) → place < count_of shape → IsIndexOf shape (index_at shape place))
     (back : (shape : List ℕ) (place : ℕ) → place < count_of shape → place_of shape (index_at shape place) ≡ place)
-    (origin : Origin) (a b : ArrayValue) (slots : Slots) (selected : IsSelection a slots origin (selected_shape a.shape slots))
-    (some : 0 < count_of (selected_shape a.shape slots)) (fits : IsReplacement a b (selected_shape a.shape slots)) (a_array : IsArray a) (b_array : IsArray b) where
-  pub last_chosen : (p n : ℕ) → p < count_of a.shape → n ≤ count_of (selected_shape a.shape slots)
-      → element_numbered a b (last_number (chosen_place origin a.shape slots) (value_step b) p n) p
-      ≡ replaced_element a b (index_at a.shape p) (last_choice origin slots (selected_shape a.shape slots) (index_at a.shape p) n)
+    (origin : Origin) (a b : ArrayValue) (slots : Slots) (selected : List ℕ) (chosen : (p : ℕ) → IsIndexOf a.shape (chosen_index origin selected slots p))
+    (fits : IsReplacement a b selected) (a_array : IsArray a) (b_array : IsArray b) where
+  pub last_chosen : (p n : ℕ) → p < count_of a.shape → n ≤ count_of selected
+      → element_numbered a b (last_number (chosen_place origin a.shape selected slots) (value_step b) p n) p
+      ≡ replaced_element a b (index_at a.shape p) (last_choice origin slots selected (index_at a.shape p) n)
   last_chosen p zero inside most = own_element back a p a_array inside
   last_chosen p (suc n) inside most =
-      let shape = selected_shape a.shape slots in
       let index = index_at a.shape p in
-      let chosen = select_source origin slots (index_at shape n) in
-      let test : is_same_shape chosen index ≡ nat_eq (chosen_place origin a.shape slots n) p =
-      same_test inverse a.shape chosen index (lawful_index origin law a slots selected some n) (lawful a.shape p inside)
-      ∙ ap (λ q. nat_eq q (place_of a.shape index)) (place_chosen origin a.shape slots n selected.each some) ∙ ap (nat_eq (chosen_place origin a.shape slots n)) (back a.shape p inside) in
-      rw test (one_of_two (λ number. element_numbered a b number p) (replaced_element a b index) (nat_eq (chosen_place origin a.shape slots n) p)
-      (n * value_step b + 1) (last_number (chosen_place origin a.shape slots) (value_step b) p n) (Some n) (last_choice origin slots shape index n)
-      (value_of_choice a b shape p n index b_array fits (omega arith)) (last_chosen p n inside (omega arith)))
+      let place = chosen_place origin a.shape selected slots n in
+      let test : is_same_shape (chosen_index origin selected slots n) index ≡ nat_eq place p =
+      same_test inverse a.shape (chosen_index origin selected slots n) index (chosen n) (lawful a.shape p inside) ∙ ap (nat_eq place) (back a.shape p inside) in
+      rw test (one_of_two (λ number. element_numbered a b number p) (replaced_element a b index) (nat_eq place p)
+      (n * value_step b + 1) (last_number (chosen_place origin a.shape selected slots) (value_step b) p n) (Some n) (last_choice origin slots selected index n)
+      (value_of_choice a b selected p n index b_array fits (omega arith)) (last_chosen p n inside (omega arith)))

@@ -1,30 +1,28 @@
--- The place that the slots choose is that of the index list that they choose.
-use Rattle.std.proofs.Common.{◌≡◌, ℕ, pos, zero, suc, ◌+◌, ◌-◌, ◌*◌, ◌/◌, ◌%◌, ◌<◌, true, List, [], ◌∷◌, ◌++◌, length, take, drop, Option, Some, None, slice_index, slice_index_or, refl, ap, subst, sym, ◌∙◌, arith}
-use Rattle.std.specs.Prelude.{All, ◌≤◌}
-use Rattle.std.proofs.Math.Nat.{div-div-eq-div-mul, mod-one, mod-lt, add_comm, le-mul_of_pos_right}
+-- The index list that the slots choose, axis by axis.
+use Rattle.std.proofs.Common.{◌≡◌, ℕ, ℤ, pos, negsuc, suc, ◌+◌, ◌-◌, ◌*◌, ◌/◌, ◌%◌, ◌<◌, ◌≤◌, true, List, [], ◌∷◌, ◌++◌, length, take, drop, Option, Some, None, slice_index, slice_index_or, refl, ap, sym, ◌∙◌, arith}
+use Rattle.std.proofs.Math.Nat.{div-div-eq-div-mul, mod-one, mod-lt, add_comm}
 use Rattle.std.proofs.Math.Arith.{mod-mul}
-use Rattle.std.proofs.Math.Seq.{take-append_seam, drop-append_seam, take-length}
-use Rattle.std.proofs.Math.ListN.{get_or-map, length-map}
-use Rattle.std.proofs.lemmas.Bool.{and_parts}
+use Rattle.std.proofs.Math.Seq.{take-append_seam, drop-append_seam}
+use Rattle.std.proofs.Math.ListN.{get_or-map}
+use Rattle.std.proofs.lemmas.Bool.{and_parts, ltb-true}
+use Rattle.std.proofs.lemmas.List.{length-map, take_rest}
+use Rattle.std.proofs.lemmas.List.Sums.{AllPass-from_list_all}
 use Rattle.apl_array.specs.declared.array.Elem.TheVariants.{Int}
 use Rattle.apl_array.specs.declared.axis.Origin.{Origin}
 use Rattle.apl_array.specs.Axes.{from_origin, place_number, is_below}
-use Rattle.apl_array.specs.Shape.{IsIndexOf, count_of, place_of, index_at}
-use Rattle.apl_array.specs.Array.{ArrayValue, IsArray, element_at, element_in}
+use Rattle.apl_array.specs.Shape.{most_elements, IsShape, IsIndexOf, count_of, place_of, index_at}
+use Rattle.apl_array.specs.Array.{ArrayValue, element_at, element_in}
 use Rattle.apl_answer.specs.Arguments.{rank_of, number_of, numbers_of}
-use Rattle.apl_struct.specs.Indexing.{Slots, are_slots_within, is_slot_within, slot_shape, selected_shape, select_source}
-use Rattle.apl_struct.specs.Selecting.{slot_count, slot_index, chosen_place, AreArrays, IsSelection}
+use Rattle.apl_struct.specs.Indexing.{Slots, are_slots_within, is_slot_within, slot_shape, selected_shape}
+use Rattle.apl_struct.specs.Selecting.{slot_count, slot_index, chosen_index, chosen_place, AreArrays, AreSelectable, IsSelection}
 use Rattle.apl_walk.specs.declared.maps.Map.{Map}
-use Rattle.apl_walk.specs.Gathered.{filled_at}
 use Rattle.apl_walk.specs.Steps.{and_step}
 use Rattle.apl_walk.specs.Maps.{map_extent, map_step}
-use Rattle.apl_struct.proofs.Filled.{filled_within}
-use Rattle.apl_struct.proofs.Taken.{pos_left, pos_right}
-use Rattle.apl_struct.proofs.Picks.{all_at, place_below}
+use Rattle.apl_struct.proofs.Taken.{AreFactors, are_factors, IsIndexOf-cons}
 
 -- ---- places and index lists, whatever the place
 
-pub count_joined : (a b : List ℕ) → count_of (a ++ b) ≡ count_of a * count_of b
+count_joined : (a b : List ℕ) → count_of (a ++ b) ≡ count_of a * count_of b
 count_joined [] b = omega arith
 count_joined (n ∷ ns) b = omega (arith, ap (λ m. n * m) (count_joined ns b))
 
@@ -42,10 +40,10 @@ index_joined (n ∷ ns) b p =
 place_of_index : (shape : List ℕ) (p : ℕ) → 0 < count_of shape → place_of shape (index_at shape p) ≡ p % count_of shape
 place_of_index [] p some = sym (mod-one p)
 place_of_index (n ∷ ns) p some =
-    ap (λ r. p / count_of ns % n * count_of ns + r) (place_of_index ns p (pos_right n (count_of ns) some))
-    ∙ sym (mod-mul p (pos_left n (count_of ns) some) (pos_right n (count_of ns) some))
+    let both = are_factors n (count_of ns) (n * count_of ns) some (omega arith) in
+    ap (λ r. p / count_of ns % n * count_of ns + r) (place_of_index ns p both.rest_some) ∙ sym (mod-mul p both.some both.rest_some)
 
--- ---- slots
+-- ---- one more slot
 
 -- the number that a slot has at its part of an index list
 chosen_number : (s : ArrayValue) (rest : List ℕ) (p : ℕ) → 0 < count_of s.shape
@@ -64,144 +62,113 @@ other_indexes s rest p =
     ap (drop (rank_of s)) (index_joined s.shape rest p) ∙ ap (λ n. drop n (index_at s.shape q ++ index_at rest p)) (sym (index_length s.shape q))
     ∙ drop-append_seam (index_at s.shape q) (index_at rest p)
 
--- what is behind the first element, as a slice pattern gives it
-pub rest_of : {T : Type 0} (xs : List T) → take (length xs - 1) (drop 1 xs) ≡ drop 1 xs
-rest_of [] = refl
-rest_of (x ∷ xs) =
-    let fewer : length (x ∷ xs) - 1 ≡ length xs = omega arith in
-    ap (λ n. take n xs) fewer ∙ take-length xs
+count_more : (n : ℕ) (s : Option ArrayValue) (rest : List ℕ) → count_of (slot_shape n s ++ rest) ≡ slot_count n s * count_of rest
+count_more n (Some s) rest = count_joined s.shape rest
+count_more n None rest = refl
 
--- ---- axes
+chosen_more : (origin : Origin) (n : ℕ) (s : Option ArrayValue) (slots : Slots) (rest : List ℕ) (p : ℕ) → 0 < slot_count n s
+    → chosen_index origin (slot_shape n s ++ rest) (s ∷ slots) p ≡ slot_index origin s (p / count_of rest % slot_count n s) ∷ chosen_index origin rest slots p
+chosen_more origin n None slots rest p some = refl
+chosen_more origin n (Some s) slots rest p some = rw (chosen_number s rest p some, other_indexes s rest p) refl
 
-count_shape : (n : ℕ) (s : Option ArrayValue) → count_of (slot_shape n s) ≡ slot_count n s
-count_shape n (Some s) = refl
-count_shape n None = omega arith
+place_below : (n : ℕ) (z : ℤ) → is_below n z ≡ true → place_number z < n
+place_below n (pos p) below = ltb-true p n below
+place_below n (negsuc p) below = absurd cc
 
-count_more : (n : ℕ) (s : Option ArrayValue) (ns : List ℕ) (slots : Slots) → count_of (selected_shape (n ∷ ns) (s ∷ slots)) ≡ slot_count n s * count_of (selected_shape ns slots)
-count_more n s ns slots = count_joined (slot_shape n s) (selected_shape ns slots) ∙ ap (λ t. t * count_of (selected_shape ns slots)) (count_shape n s)
+slot_below : (origin : Origin) (n : ℕ) (s : Option ArrayValue) (slots : Slots) (i : ℕ) → AreArrays (s ∷ slots) → is_slot_within origin n s ≡ true → i < slot_count n s
+    → (slot_index origin s i < n) × AreArrays slots
+slot_below origin n None slots i arrays within inside = (inside, arrays)
+slot_below origin n (Some s) slots i arrays within inside =
+    let long : i < length (numbers_of s) = omega (arith, inside, length-map s.ravel number_of, arrays.0.len) in
+    (place_below n _ (AllPass-from_list_all (λ z. is_below n (from_origin origin z)) (numbers_of s) within i (pos 0) long), arrays.1)
 
--- how many index lists the slots choose along the first axis and along the others
-pub count_first : (slot : Option ArrayValue) (shape : List ℕ) (slots : Slots) → 0 < length shape → 0 < length slots → slot ≡ slice_index_or slots 0 slot
-    → count_of (selected_shape shape slots) ≡ slot_count (slice_index shape 0) slot * count_of (selected_shape (drop 1 shape) (drop 1 slots))
-count_first slot [] slots axis some is = absurd (omega arith)
-count_first slot (n ∷ ns) [] axis some is = absurd (omega arith)
-count_first slot (n ∷ ns) (s ∷ slots) axis some is =
-    count_more n s ns slots ∙ ap (λ t. slot_count n t * count_of (selected_shape ns slots)) (sym is)
+index_chosen : (origin : Origin) (shape : List ℕ) (slots : Slots) (p : ℕ) → length slots ≡ length shape → 0 < count_of (selected_shape shape slots)
+    → AreArrays slots → are_slots_within origin shape slots ≡ true → IsIndexOf shape (chosen_index origin (selected_shape shape slots) slots p)
+index_chosen origin [] [] p len some arrays within = record { len = refl; below = λ k inside. absurd (omega arith) }
+index_chosen origin [] (s ∷ slots) p len some arrays within = absurd (omega arith)
+index_chosen origin (n ∷ ns) [] p len some arrays within = absurd (omega arith)
+index_chosen origin (n ∷ ns) (s ∷ slots) p len some arrays within =
+    let rest = selected_shape ns slots in
+    let count : count_of (slot_shape n s ++ rest) ≡ slot_count n s * count_of rest = count_more n s rest in
+    let both = are_factors (slot_count n s) (count_of rest) (slot_count n s * count_of rest) (omega (arith, some, count)) (omega arith) in
+    let tests = and_parts (is_slot_within origin n s) (are_slots_within origin ns slots) within in
+    let i = p / count_of rest % slot_count n s in
+    let first = slot_below origin n s slots i arrays tests.0 (mod-lt (p / count_of rest) both.some) in
+    rw (chosen_more origin n s slots rest p both.some)
+    (IsIndexOf-cons n (slot_index origin s i) ns (chosen_index origin rest slots p) first.0 (index_chosen origin ns slots p (omega arith) both.rest_some first.1 tests.1))
 
--- ---- what holds of the axes behind the first one
+-- ---- the first axis and the others
 
-pub length_rest : {X Y : Type 0} (xs : List X) (ys : List Y) → 0 < length xs → 0 < length ys → length ys ≡ length xs → length (drop 1 ys) ≡ length (drop 1 xs)
-length_rest [] ys some other same = absurd (omega arith)
-length_rest (x ∷ xs) [] some other same = absurd (omega arith)
-length_rest (x ∷ xs) (y ∷ ys) some other same = omega (arith, same)
+-- lists by their first elements, as slice patterns give them, and what is known of both parts
+pub record AreParts (origin : Origin) (lengths : List ℕ) (slots : Slots) (n : ℕ) (s : Option ArrayValue) (ns : List ℕ) (ss : Slots) : Type 0 where
+  pub lengths_are : lengths ≡ n ∷ ns
+  pub slots_are : slots ≡ s ∷ ss
+  pub count : count_of (selected_shape lengths slots) ≡ slot_count n s * count_of (selected_shape ns ss)
+  pub slot : AreFactors (slot_count n s) (count_of (selected_shape ns ss)) most_elements
+  pub axis : AreFactors n (count_of ns) most_elements
+  pub within : is_slot_within origin n s ≡ true
+  pub rest : AreSelectable origin ns ss
 
-pub length_fewer : {X : Type 0} (xs : List X) → length (drop 1 xs) ≤ length xs
-length_fewer [] = omega arith
-length_fewer (x ∷ xs) = omega arith
+pub parts_of : (origin : Origin) (lengths : List ℕ) (slots : Slots) (s : Option ArrayValue) → 0 < length lengths → 0 < length slots → s ≡ slice_index_or slots 0 s
+    → AreSelectable origin lengths slots
+    → AreParts origin lengths slots (slice_index lengths 0) s (take (length lengths - 1) (drop 1 lengths)) (take (length slots - 1) (drop 1 slots))
+parts_of origin [] slots s axis some is all = absurd (omega arith)
+parts_of origin (n ∷ ns) [] s axis some is all = absurd (omega arith)
+parts_of origin (n ∷ ns) (t ∷ ss) s axis some is all =
+    let others : take (length (n ∷ ns) - 1) ns ≡ ns = take_rest (n ∷ ns) 1 in
+    let other_slots : take (length (t ∷ ss) - 1) ss ≡ ss = take_rest (t ∷ ss) 1 in
+    let count : count_of (slot_shape n t ++ selected_shape ns ss) ≡ slot_count n t * count_of (selected_shape ns ss) = count_more n t (selected_shape ns ss) in
+    let slot = are_factors (slot_count n t) (count_of (selected_shape ns ss)) most_elements (omega (arith, count, all.selected_some)) (omega (arith, count, all.selected_most)) in
+    let own = are_factors n (count_of ns) most_elements all.some all.most in
+    let tests = and_parts (is_slot_within origin n t) (are_slots_within origin ns ss) all.within in
+    rw (others, other_slots, is)
+    record {
+      lengths_are = refl;
+      slots_are = refl;
+      count = count;
+      slot = slot;
+      axis = own;
+      within = tests.0;
+      rest = record {
+        each = omega (arith, all.each);
+        within = tests.1;
+        few = omega (arith, all.few);
+        some = own.rest_some;
+        most = own.rest_less;
+        selected_some = slot.rest_some;
+        selected_most = slot.rest_less;
+      };
+    }
 
-pub within_rest : (origin : Origin) (ns : List ℕ) (slots : Slots) → 0 < length ns → 0 < length slots
-    → are_slots_within origin ns slots ≡ true → are_slots_within origin (drop 1 ns) (drop 1 slots) ≡ true
-within_rest origin [] slots axis some all = absurd (omega arith)
-within_rest origin (n ∷ ns) [] axis some all = absurd (omega arith)
-within_rest origin (n ∷ ns) (s ∷ slots) axis some all = (and_parts (is_slot_within origin n s) (are_slots_within origin ns slots) all).1
+-- the place with one more axis before the others
+pub place_first : (origin : Origin) (n : ℕ) (s : Option ArrayValue) (ns : List ℕ) (slots : Slots) (m : Map) (rest : Option ℕ) (e place : ℕ) → 0 < slot_count n s
+    → e ≡ count_of (selected_shape ns slots) → rest ≡ Some (chosen_place origin ns (selected_shape ns slots) slots place)
+    → map_extent m ≡ slot_count n s → ((i : ℕ) → i < slot_count n s → map_step m i ≡ Some (slot_index origin s i * count_of ns))
+    → and_step rest (map_step m (place / e % map_extent m)) ≡ Some (chosen_place origin (n ∷ ns) (selected_shape (n ∷ ns) (s ∷ slots)) (s ∷ slots) place)
+place_first origin n s ns slots m rest e place some count chosen extent steps =
+    let i = place / count_of (selected_shape ns slots) % slot_count n s in
+    let first = steps i (mod-lt (place / count_of (selected_shape ns slots)) some) in
+    rw (chosen, count, extent, first, chosen_more origin n s slots (selected_shape ns slots) place some)
+    (ap Some (add_comm (chosen_place origin ns (selected_shape ns slots) slots place) (slot_index origin s i * count_of ns)))
 
-pub most_rest : (ns : List ℕ) (most : ℕ) → All (λ n. n ≤ most) ns → All (λ n. n ≤ most) (drop 1 ns)
-most_rest [] most all = all
-most_rest (n ∷ ns) most all = λ k d inside. all (suc k) d (omega arith)
+-- ---- all axes
 
-pub count_rest : (ns : List ℕ) (most : ℕ) → 0 < count_of ns → count_of ns ≤ most → (0 < count_of (drop 1 ns)) × (count_of (drop 1 ns) ≤ most)
-count_rest [] most some below = (some, below)
-count_rest (n ∷ ns) most some below =
-    let fewer : count_of ns ≤ count_of ns * n = le-mul_of_pos_right (count_of ns) (pos_left n (count_of ns) some) in
-    (pos_right n (count_of ns) some, omega (arith, fewer, below))
+module _ (origin : Origin) (a : ArrayValue) (slots : Slots) (selected : List ℕ) (chosen : IsSelection a slots origin selected) (some : 0 < count_of selected) where
+  pub lawful_chosen : (place : ℕ) → IsIndexOf a.shape (chosen_index origin selected slots place)
+  lawful_chosen place =
+      let some_selected : 0 < count_of (selected_shape a.shape slots) = omega (arith, some, ap count_of chosen.shape_is) in
+      rw chosen.shape_is (index_chosen origin a.shape slots place chosen.each some_selected chosen.arrays chosen.within)
 
-module _ (origin : Origin) where
-  -- the index list that the slots choose at a place of the selected shape
-  abbrev pub chosen_index : List ℕ → Slots → ℕ → List ℕ
-  chosen_index shape slots p = select_source origin slots (index_at (selected_shape shape slots) p)
-
-  some_part : (s : ArrayValue) (rest : List ℕ) → 0 < count_of (s.shape ++ rest) → (0 < count_of s.shape) × (0 < count_of rest)
-  some_part s rest some =
-      let both : 0 < count_of s.shape * count_of rest = omega (arith, some, count_joined s.shape rest) in
-      (pos_left (count_of s.shape) (count_of rest) both, pos_right (count_of s.shape) (count_of rest) both)
-
-  chosen_by_array : (n : ℕ) (ns : List ℕ) (s : ArrayValue) (slots : Slots) (p : ℕ) → 0 < count_of s.shape
-      → chosen_index (n ∷ ns) (Some s ∷ slots) p ≡ slot_index origin (Some s) (p / count_of (selected_shape ns slots) % count_of s.shape) ∷ chosen_index ns slots p
-  chosen_by_array n ns s slots p some =
-      let rest = selected_shape ns slots in
-      ap (λ z. place_number (from_origin origin z) ∷ select_source origin slots (drop (rank_of s) (index_at (s.shape ++ rest) p))) (chosen_number s rest p some)
-      ∙ ap (λ index. slot_index origin (Some s) (p / count_of rest % count_of s.shape) ∷ select_source origin slots index) (other_indexes s rest p)
-
-  pub place_chosen : (shape : List ℕ) (slots : Slots) (p : ℕ) → length slots ≡ length shape → 0 < count_of (selected_shape shape slots)
-      → place_of shape (chosen_index shape slots p) ≡ chosen_place origin shape slots p
-  place_chosen [] slots p len some = refl
-  place_chosen (n ∷ ns) [] p len some = absurd (omega arith)
-  place_chosen (n ∷ ns) (None ∷ slots) p len some =
-      ap (λ r. p / count_of (selected_shape ns slots) % n * count_of ns + r) (place_chosen ns slots p (omega arith) (pos_right n (count_of (selected_shape ns slots)) some))
-  place_chosen (n ∷ ns) (Some s ∷ slots) p len some =
-      let parts = some_part s (selected_shape ns slots) some in
-      ap (place_of (n ∷ ns)) (chosen_by_array n ns s slots p parts.0)
-      ∙ ap (λ r. slot_index origin (Some s) (p / count_of (selected_shape ns slots) % count_of s.shape) * count_of ns + r) (place_chosen ns slots p (omega arith) parts.1)
-
-  one_more_index : (n i : ℕ) (ns is : List ℕ) → i < n → IsIndexOf ns is → IsIndexOf (n ∷ ns) (i ∷ is)
-  one_more_index n i ns is here others = record { len = ap suc others.len; below = below }
-    where
-      below : (k : ℕ) → k < length (n ∷ ns) → slice_index (i ∷ is) k < slice_index (n ∷ ns) k
-      below zero inside = here
-      below (suc k) inside = others.below k (omega arith)
-
-  pub index_chosen : (shape : List ℕ) (slots : Slots) (p : ℕ) → length slots ≡ length shape → 0 < count_of (selected_shape shape slots)
-      → AreArrays slots → are_slots_within origin shape slots ≡ true → IsIndexOf shape (chosen_index shape slots p)
-  index_chosen [] [] p len some arrays within = record { len = refl; below = λ k inside. absurd (omega arith) }
-  index_chosen [] (s ∷ slots) p len some arrays within = absurd (omega arith)
-  index_chosen (n ∷ ns) [] p len some arrays within = absurd (omega arith)
-  index_chosen (n ∷ ns) (None ∷ slots) p len some arrays within =
-      let axis = pos_left n (count_of (selected_shape ns slots)) some in
-      one_more_index n (p / count_of (selected_shape ns slots) % n) ns (chosen_index ns slots p) (mod-lt (p / count_of (selected_shape ns slots)) axis)
-      (index_chosen ns slots p (omega arith) (pos_right n (count_of (selected_shape ns slots)) some) arrays within)
-  index_chosen (n ∷ ns) (Some s ∷ slots) p len some arrays within =
-      let parts = some_part s (selected_shape ns slots) some in
-      let i = p / count_of (selected_shape ns slots) % count_of s.shape in
-      let tests = and_parts (is_slot_within origin n (Some s)) (are_slots_within origin ns slots) within in
-      let inside : i < count_of s.shape = mod-lt (p / count_of (selected_shape ns slots)) parts.0 in
-      let long : length (numbers_of s) ≡ count_of s.shape = length-map s.ravel number_of ∙ arrays.0.len in
-      let number = slice_index_or (numbers_of s) i (pos 0) in
-      let below : is_below n (from_origin origin number) ≡ true =
-      all_at (λ z. is_below n (from_origin origin z)) (numbers_of s) i (pos 0) tests.0 (omega arith) in
-      let P : List ℕ → Type 0 = IsIndexOf (n ∷ ns) in
-      subst P (sym (chosen_by_array n ns s slots p parts.0))
-      (one_more_index n (slot_index origin (Some s) i) ns (chosen_index ns slots p) (place_below n (from_origin origin number) below)
-      (index_chosen ns slots p (omega arith) parts.1 arrays.1 tests.1))
-
-  -- the place with one more axis before the others
-  pub place_first : (slot : Option ArrayValue) (shape : List ℕ) (slots : Slots) (m : Map) (rest : Option ℕ) (e place : ℕ) → 0 < length shape → 0 < length slots
-      → slot ≡ slice_index_or slots 0 slot → e ≡ count_of (selected_shape (drop 1 shape) (drop 1 slots)) → rest ≡ Some (chosen_place origin (drop 1 shape) (drop 1 slots) place)
-      → 0 < slot_count (slice_index shape 0) slot → map_extent m ≡ slot_count (slice_index shape 0) slot
-      → ((i : ℕ) → i < slot_count (slice_index shape 0) slot → map_step m i ≡ Some (slot_index origin slot i * count_of (drop 1 shape)))
-      → and_step rest (map_step m (place / e % map_extent m)) ≡ Some (chosen_place origin shape slots place)
-  place_first slot [] slots m rest e place axis some is count chosen inside extent steps = absurd (omega arith)
-  place_first slot (n ∷ ns) [] m rest e place axis some is count chosen inside extent steps = absurd (omega arith)
-  place_first slot (n ∷ ns) (s ∷ slots) m rest e place axis some is count chosen inside extent steps =
-      let others = chosen_place origin ns slots place in
-      let i = place / count_of (selected_shape ns slots) % slot_count n slot in
-      let index : place / e % map_extent m ≡ i = ap (λ c. place / c % map_extent m) count ∙ ap (λ c. place / count_of (selected_shape ns slots) % c) extent in
-      let below : i < slot_count n slot = mod-lt (place / count_of (selected_shape ns slots)) inside in
-      ap (λ r. and_step r (map_step m (place / e % map_extent m))) chosen
-      ∙ ap (λ j. and_step (Some others) (map_step m j)) index
-      ∙ ap (and_step (Some others)) (steps i below)
-      ∙ ap Some (add_comm others (slot_index origin slot i * count_of ns))
-      ∙ ap (λ t. Some (slot_index origin t (place / count_of (selected_shape ns slots) % slot_count n t) * count_of ns + others)) is
-
-  module _ (below : (shape index : List ℕ) → IsIndexOf shape index → place_of shape index < count_of shape) where
-    module _ (a : ArrayValue) (slots : Slots) (selected : IsSelection a slots origin (selected_shape a.shape slots))
-        (some : 0 < count_of (selected_shape a.shape slots)) where
-      pub lawful_index : (p : ℕ) → IsIndexOf a.shape (chosen_index a.shape slots p)
-      lawful_index p = index_chosen a.shape slots p selected.each some selected.arrays selected.within
-
-      pub place_within : (p : ℕ) → chosen_place origin a.shape slots p < count_of a.shape
-      place_within p = rw (sym (place_chosen a.shape slots p selected.each some)) (below a.shape (chosen_index a.shape slots p) (lawful_index p))
-
-      -- the element at a chosen place
-      pub filled_chosen : (p : ℕ) → IsArray a → filled_at a (Some (chosen_place origin a.shape slots p)) ≡ element_at a (chosen_index a.shape slots p)
-      filled_chosen p array = ap (λ q. filled_at a (Some q)) (sym (place_chosen a.shape slots p selected.each some))
-          ∙ filled_within below a (chosen_index a.shape slots p) array (lawful_index p)
+  pub selectable : ((shape index : List ℕ) → IsIndexOf shape index → place_of shape index < count_of shape) → IsShape a.shape → count_of selected ≤ most_elements
+      → AreSelectable origin a.shape slots
+  selectable below lawful most =
+      let same = ap count_of chosen.shape_is in
+      record {
+        each = chosen.each;
+        within = chosen.within;
+        few = lawful.rank;
+        some = omega (arith, below a.shape (chosen_index origin selected slots 0) (lawful_chosen 0));
+        most = lawful.count;
+        selected_some = omega (arith, some, same);
+        selected_most = omega (arith, most, same);
+      }

@@ -1,8 +1,8 @@
 -- The places of an argument that the slots of an index choose. No contract of a public function cites this file.
-use Rattle.std.specs.Prelude.{◌≡◌, ℕ, pos, ◌+◌, ◌*◌, ◌/◌, ◌%◌, ◌⊎◌, true, List, [], ◌∷◌, length, Option, Some, None, Result, Ok, Err, slice_index_or}
+use Rattle.std.specs.Prelude.{◌≡◌, ℕ, pos, ◌/◌, ◌%◌, ◌<◌, ◌≤◌, ◌⊎◌, true, List, [], ◌∷◌, length, Option, Some, None, Result, Ok, Err, slice_index_or}
 use Rattle.apl_array.specs.declared.axis.Origin.{Origin}
 use Rattle.apl_array.specs.Axes.{from_origin, place_number}
-use Rattle.apl_array.specs.Shape.{count_of}
+use Rattle.apl_array.specs.Shape.{most_axes, most_elements, count_of, place_of, index_at}
 use Rattle.apl_array.specs.Array.{ArrayValue, IsArray}
 use Rattle.apl_answer.specs.declared.fault.OpFault.{OpFault}
 use Rattle.apl_answer.specs.declared.fault.OpFault.TheVariants.{Memory}
@@ -11,7 +11,7 @@ use Rattle.apl_answer.specs.Rows.{Check, first_failure_or}
 use Rattle.apl_walk.specs.declared.maps.Map.{Map}
 use Rattle.apl_walk.specs.Maps.{extent_of, map_extent, map_step, walked}
 use Rattle.apl_walk.specs.Steps.{and_step}
-use Rattle.apl_struct.specs.Indexing.{Slots, are_slots_within, selected_shape}
+use Rattle.apl_struct.specs.Indexing.{Slots, are_slots_within, selected_shape, select_source}
 
 -- ---- walks
 
@@ -33,17 +33,28 @@ abbrev pub slot_index : Origin → Option ArrayValue → ℕ → ℕ
 slot_index origin (Some s) i = place_number (from_origin origin (slice_index_or (numbers_of s) i (pos 0)))
 slot_index origin None i = i
 
--- the place of A that the slots choose at a place of the selected shape
-abbrev pub chosen_place : Origin → List ℕ → Slots → ℕ → ℕ
-chosen_place origin (n ∷ ns) (s ∷ slots) place =
-    slot_index origin s (place / count_of (selected_shape ns slots) % slot_count n s) * count_of ns + chosen_place origin ns slots place
-chosen_place origin _ _ place = 0
+-- the index list that the slots choose at a place of the selected shape, and its place
+abbrev pub chosen_index : Origin → List ℕ → Slots → ℕ → List ℕ
+chosen_index origin selected slots place = select_source origin slots (index_at selected place)
+
+abbrev pub chosen_place : Origin → (shape selected : List ℕ) → Slots → ℕ → ℕ
+chosen_place origin shape selected slots place = place_of shape (chosen_index origin selected slots place)
 
 -- each slot is an array or empty
 abbrev pub AreArrays : Slots → Type 0
 AreArrays [] = Unit {0}
 AreArrays (Some s ∷ slots) = IsArray s × AreArrays slots
 AreArrays (None ∷ slots) = AreArrays slots
+
+-- the slots choose indexes of these axes, and some of each
+pub record AreSelectable (origin : Origin) (lengths : List ℕ) (slots : Slots) : Type 0 where
+  pub each : length slots ≡ length lengths
+  pub within : are_slots_within origin lengths slots ≡ true
+  pub few : length lengths ≤ most_axes
+  pub some : 0 < count_of lengths
+  pub most : count_of lengths ≤ most_elements
+  pub selected_some : 0 < count_of (selected_shape lengths slots)
+  pub selected_most : count_of (selected_shape lengths slots) ≤ most_elements
 
 -- ---- judging
 

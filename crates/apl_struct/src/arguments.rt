@@ -32,5 +32,12 @@ pub(crate) fn is_without_axis(a: &[usize], b: &[usize], k: usize) -> bool
     requires rank { length a.now + 1 ≡ length b.now }
     ensures { result ≡ is_same_shape a.now (remove b.now k) }
 {
-    is_same_shape(&a[..k], &b[..k]) && is_same_shape(&a[k..], &b[k + 1..])
+    let [length, lengths @ ..] = b else {
+        return false;
+    };
+    match a {
+        [first, others @ ..] if k > 0 => *first == *length
+            && is_without_axis(others, lengths, k - 1),
+        _ => is_same_shape(a, lengths),
+    }
 }

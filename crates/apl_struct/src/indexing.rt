@@ -118,7 +118,7 @@ fn gather_selected<W: Crew>(
     places_match_index_lists();
     // An array that was asked something is known to be lawful.
     let _kind = a.kind();
-    let walk = selected_walk(workers.alloc(), a, slots, origin)?;
+    let walk = selected_walk(workers.alloc(), a, slots, origin, &shape)?;
     gather(workers, shape, a, walk)
 }
 

@@ -1,13 +1,11 @@
 //! Permuted axes, and diagonals.
-ghost use Rattle.std.specs.Prelude.{◌≡◌, ℕ, ◌+◌, ◌*◌, ◌^◌, ◌<◌, ◌≤◌, [], All, Ok, Some, IfOk, MatchOption, true, length, sum, reverse};
+ghost use Rattle.std.specs.Prelude.{◌≡◌, ℕ, ◌+◌, ◌*◌, ◌^◌, ◌<◌, [], All, Ok, Some, IfOk, MatchOption, true, length, sum, reverse};
 ghost use Rattle.std.specs.List.{range_with_len};
 ghost use Rattle.apl_array.specs.Array.{element_at};
 ghost use Rattle.apl_array.specs.Shape.{IsShape, count_of, index_at};
 ghost use Rattle.apl_array.specs.Transposition.{AreAxesInto, strides, items_onto, least, inner_product, source_index, transposed_shape, source_strides};
-ghost use Rattle.apl_pool.specs.declared.kernel.TheConstants.{MOST_PLACES};
 ghost use Rattle.apl_answer.specs.Pointwise.{IsArrayBy};
 ghost use Rattle.apl_answer.specs.Rows.{Answers};
-ghost use Rattle.apl_walk.specs.declared.map.TheConstants.{MOST_STEP};
 ghost use Rattle.apl_struct.specs.Rearranging.{are_all_named, named_axes, transpose_row, transpose_by_row};
 ghost use Rattle.apl_walk.specs.Maps.{extent_of, walked};
 ghost use Rattle.apl_walk.specs.Walks.{maps_of};
@@ -22,7 +20,7 @@ use apl_array::{
     transposed_index_has_place,
 };
 use apl_pool::{Crew, Cut, Gate, Pool, Workers};
-use apl_walk::{MOST_STEP, Map, Walk, Window, gather};
+use apl_walk::{Map, Walk, Window, gather};
 use std::alloc::{AllocError, Global};
 use std::thread::Threads;
 

@@ -188,7 +188,10 @@ fn value_step(b: &Array) -> usize
     ensures most { result ≤ 1 }
     ensures lawful { IsArray b.now }
 {
-    if b.shape().count() == 1 { 0 } else { 1 }
+    if b.shape().count() == 1 {
+        return 0;
+    }
+    1
 }
 
 /// The same array again.
@@ -220,7 +223,7 @@ fn replace_selected<W: Crew>(
     }
     places_match_index_lists();
     let shape = a.shape().copy(workers.alloc())?;
-    let walk = selected_walk(workers.alloc(), a, slots, origin)?;
+    let walk = selected_walk(workers.alloc(), a, slots, origin, &selected)?;
     let maps = walk.into_maps()?;
     let step = value_step(b);
     match maps.as_slice() {

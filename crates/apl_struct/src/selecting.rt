@@ -1,18 +1,17 @@
 //! The walk over an array of which the slots of an index choose.
-ghost use Rattle.std.specs.Prelude.{◌≡◌, ℕ, ◌+◌, ◌*◌, ◌/◌, ◌<◌, ◌≤◌, true, All, Some, IfOk, length, vec_len};
+ghost use Rattle.std.specs.Prelude.{◌≡◌, ℕ, ◌+◌, ◌*◌, ◌<◌, ◌≤◌, true, Some, IfOk, length, vec_len};
 ghost use Rattle.apl_array.specs.declared.shape.TheConstants.{MOST_AXES};
-ghost use Rattle.apl_array.specs.Shape.{count_of};
+ghost use Rattle.apl_array.specs.Shape.{IsIndexOf, count_of};
 ghost use Rattle.apl_pool.specs.declared.kernel.TheConstants.{MOST_PLACES};
 ghost use Rattle.apl_walk.specs.declared.map.TheConstants.{MOST_STEP};
 ghost use Rattle.apl_walk.specs.declared.maps.TheConstants.{MOST_MAPS};
-ghost use Rattle.apl_walk.specs.Steps.{and_step};
 ghost use Rattle.apl_walk.specs.Maps.{extent_of, map_extent, map_step, walked};
 ghost use Rattle.apl_walk.specs.Walks.{maps_of};
-ghost use Rattle.apl_struct.specs.Indexing.{is_slot_within, are_slots_within, selected_shape};
-ghost use Rattle.apl_struct.specs.Selecting.{reached_from, reached_with, slot_count, slot_index, chosen_place, IsSelection};
+ghost use Rattle.apl_struct.specs.Indexing.{is_slot_within, selected_shape};
+ghost use Rattle.apl_struct.specs.Selecting.{reached_from, reached_with, slot_count, slot_index, chosen_index, chosen_place, AreSelectable, IsSelection};
 
 use crate::slots::NumberArray;
-use apl_array::{Array, Origin, places_match_index_lists};
+use apl_array::{Array, Origin, Shape, places_match_index_lists};
 use apl_walk::{AxisMap, Listed, Map, Walk, Window};
 use std::alloc::{AllocError, Global};
 
@@ -83,7 +82,7 @@ impl<'a> Selected<'a> {
         requires start { self.start < MOST_STEP }
         requires extent { extent_of (maps_of self.walk) ≤ MOST_PLACES }
         ensures extent { IfOk result (λ walk. extent_of (maps_of walk) ≡ extent_of (maps_of self.entry.walk)) }
-        ensures place { IfOk result (λ walk. (place : ℕ) → walked (maps_of walk) place ≡ and_step (Some self.entry.start) (walked (maps_of self.entry.walk) place)) }
+        ensures place { IfOk result (λ walk. (place : ℕ) → walked (maps_of walk) place ≡ reached_from self.entry.start (maps_of self.entry.walk) place) }
     {
         let Selected { walk, start, .. } = self;
         if start == 0 {
@@ -106,60 +105,45 @@ fn selected_axes<'a>(
     slots: &[Option<NumberArray<'a>>],
     origin: Origin,
 ) -> Result<Selected<'a>, AllocError>
-    requires slots { length slots.now ≡ length lengths.now }
-    requires within { are_slots_within origin lengths.now slots.now ≡ true }
-    requires axes { All (λ n. n ≤ MOST_PLACES) lengths.now }
-    requires few { length lengths.now ≤ MOST_AXES }
-    requires some { 0 < count_of lengths.now }
-    requires most { count_of lengths.now ≤ MOST_PLACES }
-    requires selected_some { 0 < count_of (selected_shape lengths.now slots.now) }
-    requires selected_most { count_of (selected_shape lengths.now slots.now) ≤ MOST_PLACES }
+    requires { AreSelectable origin lengths.now slots.now }
     ensures extent { IfOk result (λ s. extent_of (maps_of s.walk) ≡ count_of (selected_shape lengths.now slots.now)) }
-    ensures place { IfOk result (λ s. (place : ℕ) → and_step (Some s.start) (walked (maps_of s.walk) place) ≡ Some (chosen_place origin lengths.now slots.now place)) }
+    ensures place { IfOk result (λ s. (place : ℕ) → reached_from s.start (maps_of s.walk) place ≡ Some (chosen_place origin lengths.now (selected_shape lengths.now slots.now) slots.now place)) }
     ensures few { IfOk result (λ s. vec_len s.walk.inner ≤ length lengths.now) }
     ensures start { IfOk result (λ s. s.start ≤ length lengths.now * MOST_STEP) }
     ensures count { IfOk result (λ s. s.count ≡ count_of lengths.now) }
 {
     let [axis_length, lengths @ ..] = lengths else {
-        return Ok(no_axes(alloc));
+        return Ok(Selected {
+            walk: Walk::new(alloc),
+            start: 0,
+            count: 1,
+        });
     };
     let [slot, slots @ ..] = slots else {
-        return Ok(no_axes(alloc));
+        unreachable!()
     };
     let inner = selected_axes(alloc, lengths, slots, origin)?;
     let map = slot_map(slot, origin, *axis_length, inner.count);
     inner.with(map, *axis_length)
 }
 
-/// What is chosen of no axes.
-fn no_axes<'a>(alloc: Global) -> Selected<'a>
-    ensures extent { extent_of (maps_of result.walk) ≡ 1 }
-    ensures place { (place : ℕ) → and_step (Some result.start) (walked (maps_of result.walk) place) ≡ Some 0 }
-    ensures few { vec_len result.walk.inner ≡ 0 }
-    ensures start { result.start ≡ 0 }
-    ensures count { result.count ≡ 1 }
-{
-    Selected {
-        walk: Walk::new(alloc),
-        start: 0,
-        count: 1,
-    }
-}
-
-/// The walk over an array of which the slots choose.
+/// The walk over an array of which the slots choose an array of this shape.
 pub(crate) fn selected_walk<'a>(
     alloc: Global,
     a: &Array,
     slots: &[Option<NumberArray<'a>>],
     origin: Origin,
+    selected: &Shape,
 ) -> Result<Walk<'a>, AllocError>
-    requires selection { IsSelection a.now slots.now origin (selected_shape a.now.shape slots.now) }
-    requires some { 0 < count_of (selected_shape a.now.shape slots.now) }
-    requires most { count_of (selected_shape a.now.shape slots.now) ≤ MOST_PLACES }
-    ensures extent { IfOk result (λ walk. extent_of (maps_of walk) ≡ count_of (selected_shape a.now.shape slots.now)) }
-    ensures place { IfOk result (λ walk. (place : ℕ) → walked (maps_of walk) place ≡ Some (chosen_place origin a.now.shape slots.now place)) }
+    requires selection { IsSelection a.now slots.now origin selected.now }
+    requires some { 0 < count_of selected.now }
+    ensures extent { IfOk result (λ walk. extent_of (maps_of walk) ≡ count_of selected.now) }
+    ensures place { IfOk result (λ walk. (place : ℕ) → walked (maps_of walk) place ≡ Some (chosen_place origin a.now.shape selected.now slots.now place)) }
+    ensures lawful { IfOk result (λ walk. (place : ℕ) → IsIndexOf a.now.shape (chosen_index origin selected.now slots.now place)) }
 {
     places_match_index_lists();
-    let selected = selected_axes(alloc, a.shape().lengths(), slots, origin)?;
-    selected.into_walk()
+    // A shape that was asked something is known to be lawful.
+    let _count = selected.count();
+    let axes = selected_axes(alloc, a.shape().lengths(), slots, origin)?;
+    axes.into_walk()
 }

@@ -1,10 +1,9 @@
 //! Elements taken from the ends of the axes, or left away there.
-ghost use Rattle.std.specs.Prelude.{◌≡◌, ℕ, ◌+◌, ◌*◌, ◌<◌, ◌≤◌, length, map, nat_abs, List, All, Ok, Err, Result, IfOk, IfErr, option_map};
+ghost use Rattle.std.specs.Prelude.{◌≡◌, ℕ, ◌*◌, ◌++◌, ◌<◌, ◌≤◌, length, map, nat_abs, List, All, Ok, Err, Result, IfOk, IfErr, option_map};
 ghost use Rattle.apl_array.specs.Array.{ArrayValue};
 ghost use Rattle.apl_array.specs.Shape.{IsShape, count_of, place_of, index_at};
 ghost use Rattle.apl_pool.specs.declared.kernel.TheConstants.{MOST_PLACES};
 ghost use Rattle.apl_answer.specs.Arguments.{rank_of, size_of, numbers_of};
-ghost use Rattle.apl_answer.specs.Pointwise.{IsArrayBy};
 ghost use Rattle.apl_answer.specs.Rows.{Answers, first_failure_or};
 ghost use Rattle.apl_struct.specs.Gathering.{element_or_fill};
 ghost use Rattle.apl_struct.specs.Taking.{with_axes, taking_checks, taken_index, take_source, take_row, drop_row};
@@ -79,28 +78,29 @@ fn left_number(number: i64, length: usize) -> i64
     if number < 0 { left } else { -left }
 }
 
-/// What is left of each axis.
-fn left_numbers(alloc: Global, numbers: &[i64], lengths: &[usize]) -> Result<Vec<i64>, AllocError>
-    requires len { length numbers.now ≡ length lengths.now }
-    requires lengths { All (λ n. n ≤ MOST_PLACES) lengths.now }
-    ensures { IfOk result (λ left. left.items ≡ left_numbers numbers.now lengths.now) }
+/// Adds what is left of each axis.
+fn push_left(numbers: &[i64], lengths: &[usize], left: &mut Vec<i64>) -> Result<(), AllocError>
+    requires { All (λ n. n ≤ MOST_PLACES) lengths.now }
+    ensures { IfOk result (λ u. left.new.items ≡ left.old.items ++ left_numbers numbers.now lengths.now) }
 {
-    let mut left = Vec::with_capacity(alloc, numbers.len())?;
-    for k in 0..numbers.len() {
-        left.push(left_number(numbers[k], lengths[k]))?;
-    }
-    Ok(left)
+    let [number, numbers @ ..] = numbers else {
+        return Ok(());
+    };
+    let [length, lengths @ ..] = lengths else {
+        return Ok(());
+    };
+    left.push(left_number(*number, *length))?;
+    push_left(numbers, lengths, left)
 }
 
 /// How far each number is from 0.
 fn magnitudes(alloc: Global, numbers: &[i64]) -> Result<Vec<usize>, AllocError>
     ensures { IfOk result (λ lengths. lengths.items ≡ map nat_abs numbers.now) }
 {
-    let mut lengths = Vec::with_capacity(alloc, numbers.len())?;
-    for number in numbers {
-        lengths.push(number.unsigned_abs() as usize)?;
-    }
-    Ok(lengths)
+    numbers
+        .iter()
+        .map(|number| number.unsigned_abs() as usize)
+        .collect(alloc)
 }
 
 /// The numbers by which an array is taken or dropped: `Rank`, `Length`, `Limit` or `Domain` where the
@@ -140,31 +140,6 @@ fn shape_with_axes(alloc: Global, b: &Array, rank: usize) -> Result<Shape, Alloc
     lawful_shape(alloc, &[1; MOST_AXES][..rank])
 }
 
-/// The array of this shape with the elements that are taken from an argument, which serves as
-/// one of the shape `argument`.
-fn take_from<W: Crew>(
-    workers: &W,
-    numbers: &[i64],
-    shape: Shape,
-    b: &Array,
-    argument: &Shape,
-) -> Result<Array, OpFault>
-    requires count { count_of argument.now ≡ count_of b.now.shape }
-    requires len { length numbers.now ≡ length argument.now }
-    requires shape { shape ≡ map nat_abs numbers.now }
-    ensures { IsArrayBy shape b.now.kind (λ index. element_or_fill (with_shape argument.now b.now) (take_source numbers.now argument.now index)) result }
-{
-    places_match_index_lists();
-    // An array that was asked something is known to be lawful.
-    let _kind = b.kind();
-    let count = shape.count();
-    if count == 0 || argument.count() == 0 {
-        return repeat(workers, shape, b);
-    }
-    let walk = taken_walk(workers.alloc(), numbers, argument)?;
-    gather(workers, shape, b, walk)
-}
-
 /// The array with the elements that are taken from an argument, which serves as one of the shape
 /// `argument`; `Limit` where it passes a limit.
 fn taken<W: Crew>(
@@ -177,9 +152,17 @@ fn taken<W: Crew>(
     requires len { length numbers.now ≡ length argument.now }
     ensures { IsArrayOrLimit (map nat_abs numbers.now) b.now.kind (λ index. element_or_fill (with_shape argument.now b.now) (take_source numbers.now argument.now index)) result }
 {
+    places_match_index_lists();
+    // An array that was asked something is known to be lawful.
+    let _kind = b.kind();
     let lengths = magnitudes(workers.alloc(), numbers)?;
     let shape = Shape::new(workers.alloc(), lengths.as_slice())?;
-    take_from(workers, numbers, shape, b, argument)
+    let count = shape.count();
+    if count == 0 || argument.count() == 0 {
+        return repeat(workers, shape, b);
+    }
+    let walk = taken_walk(workers.alloc(), numbers, argument)?;
+    gather(workers, shape, b, walk)
 }
 
 /// `A↑B`, take: the first elements of each axis, or the last ones for a negative number, and fills where there are not as many.
@@ -216,7 +199,8 @@ pub fn drop<R: Threads + Sync, C: Cut + Sync, G: Gate + Sync>(
 {
     let numbers = taking_numbers(a, b)?;
     let argument = shape_with_axes(alloc, b, numbers.len())?;
-    let left = left_numbers(alloc, numbers, argument.lengths())?;
+    let mut left = Vec::with_capacity(alloc, numbers.len())?;
+    push_left(numbers, argument.lengths(), &mut left)?;
     let workers = Workers { rt, alloc, pool };
     taken(&workers, left.as_slice(), b, &argument)
 }

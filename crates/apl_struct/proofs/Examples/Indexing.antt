@@ -4,13 +4,9 @@ use Rattle.apl_array.specs.declared.axis.Origin.TheVariants.{Zero, One}
 use Rattle.apl_answer.specs.declared.fault.OpFault.TheVariants.{Rank, Length, Index, Domain, Limit}
 use Rattle.apl_answer.specs.Rows.{result_of}
 use Rattle.apl_struct.specs.Indexing.{select_row, replace_row}
-use Rattle.apl_struct.proofs.Examples.{scalar, minus, vector, numbers, letter, text, two_by_two}
+use Rattle.apl_struct.proofs.Examples.{scalar, vector, numbers, letter, text, two_by_two}
 
 -- ---- select
-
--- 'ABC'[3 1]
-select_letters : result_of (select_row (text (65 ∷ 66 ∷ 67 ∷ [])) (Some (vector (3 ∷ 1 ∷ [])) ∷ []) One) ≡ Ok (text (67 ∷ 65 ∷ []))
-select_letters = refl
 
 -- 1 2 3 4 5[2 3⍴1]
 select_by_table : result_of (select_row (vector (1 ∷ 2 ∷ 3 ∷ 4 ∷ 5 ∷ [])) (Some (numbers (2 ∷ 3 ∷ []) (1 ∷ 1 ∷ 1 ∷ 1 ∷ 1 ∷ 1 ∷ [])) ∷ []) One)
@@ -20,10 +16,6 @@ select_by_table = refl
 -- (2 2⍴⍳4)[2;]
 select_row_of_table : result_of (select_row two_by_two (Some (scalar 2) ∷ None ∷ []) One) ≡ Ok (vector (3 ∷ 4 ∷ []))
 select_row_of_table = refl
-
--- (2 2⍴⍳4)['A';9]
-letter_before_index : result_of (select_row two_by_two (Some (letter 65) ∷ Some (scalar 9) ∷ []) One) ≡ Err Domain
-letter_before_index = refl
 
 -- (2 2⍴⍳4)[9;'A']
 letter_behind_index : result_of (select_row two_by_two (Some (scalar 9) ∷ Some (letter 65) ∷ []) One) ≡ Err Domain
@@ -40,22 +32,6 @@ empty_text_selects_no_row = refl
 -- (2 2⍴⍳4)[0;]
 index_below_origin : result_of (select_row two_by_two (Some (scalar 0) ∷ None ∷ []) One) ≡ Err Index
 index_below_origin = refl
-
--- (2 2⍴⍳4)[⍳0;1]
-no_row_of_column : result_of (select_row two_by_two (Some (vector []) ∷ Some (scalar 1) ∷ []) One) ≡ Ok (vector [])
-no_row_of_column = refl
-
--- 5[]
-scalar_has_no_slot : result_of (select_row (scalar 5) (None ∷ []) One) ≡ Err Rank
-scalar_has_no_slot = refl
-
--- 1 2 3[]
-empty_slot_selects_all : result_of (select_row (vector (1 ∷ 2 ∷ 3 ∷ [])) (None ∷ []) One) ≡ Ok (vector (1 ∷ 2 ∷ 3 ∷ []))
-empty_slot_selects_all = refl
-
--- 1 2 3[¯9223372036854775808]
-least_index : result_of (select_row (vector (1 ∷ 2 ∷ 3 ∷ [])) (Some (minus 9223372036854775808) ∷ []) One) ≡ Err Index
-least_index = refl
 
 -- (2 2⍴⍳4)[1 1 1 1 1 1 1 1⍴1;1 1 1 1 1 1 1 1⍴1]
 selected_rank_past_limit : result_of (select_row two_by_two (Some (numbers (1 ∷ 1 ∷ 1 ∷ 1 ∷ 1 ∷ 1 ∷ 1 ∷ 1 ∷ []) (1 ∷ [])) ∷ Some (numbers (1 ∷ 1 ∷ 1 ∷ 1 ∷ 1 ∷ 1 ∷ 1 ∷ 1 ∷ []) (1 ∷ [])) ∷ []) One)
@@ -74,10 +50,6 @@ element_by_scalars = refl
 -- (2 2⍴⍳4)[3;1]
 index_past_end : result_of (select_row two_by_two (Some (scalar 3) ∷ Some (scalar 1) ∷ []) One) ≡ Err Index
 index_past_end = refl
-
--- 1 2 3[1;1]
-two_slots_for_one_axis : result_of (select_row (vector (1 ∷ 2 ∷ 3 ∷ [])) (Some (scalar 1) ∷ Some (scalar 1) ∷ []) One) ≡ Err Rank
-two_slots_for_one_axis = refl
 
 -- 'ABC'[2 0], in origin 0
 select_from_zero : result_of (select_row (text (65 ∷ 66 ∷ 67 ∷ [])) (Some (vector (2 ∷ 0 ∷ [])) ∷ []) Zero) ≡ Ok (text (67 ∷ 65 ∷ []))
@@ -105,15 +77,6 @@ element_of_any_rank_serves : result_of (replace_row two_by_two (Some (scalar 1) 
     ≡ Ok (numbers (2 ∷ 2 ∷ []) (5 ∷ 5 ∷ 3 ∷ 4 ∷ []))
 element_of_any_rank_serves = refl
 
--- A[1;1]←5 6, where A is 2 2⍴⍳4
-vector_for_one_element : result_of (replace_row two_by_two (Some (scalar 1) ∷ Some (scalar 1) ∷ []) (vector (5 ∷ 6 ∷ [])) One) ≡ Err Rank
-vector_for_one_element = refl
-
--- A[1 2;1]←5 6 7, where A is 2 2⍴⍳4
-three_for_two : result_of (replace_row two_by_two (Some (vector (1 ∷ 2 ∷ [])) ∷ Some (scalar 1) ∷ []) (vector (5 ∷ 6 ∷ 7 ∷ [])) One)
-    ≡ Err Length
-three_for_two = refl
-
 -- A[1 2;1]←'ABC', where A is 2 2⍴⍳4
 lengths_before_kinds : result_of (replace_row two_by_two (Some (vector (1 ∷ 2 ∷ [])) ∷ Some (scalar 1) ∷ []) (text (65 ∷ 66 ∷ 67 ∷ [])) One)
     ≡ Err Length
@@ -131,26 +94,9 @@ empty_text_for_no_element = refl
 no_element_for_vector_of_one : result_of (replace_row two_by_two (Some (scalar 1) ∷ Some (vector (1 ∷ [])) ∷ []) (vector []) One) ≡ Err Length
 no_element_for_vector_of_one = refl
 
--- A[1;1]←⍳0, where A is 2 2⍴⍳4
-no_element_for_one : result_of (replace_row two_by_two (Some (scalar 1) ∷ Some (scalar 1) ∷ []) (vector []) One) ≡ Err Rank
-no_element_for_one = refl
-
--- A[1 1;2]←8 9, where A is 2 2⍴⍳4
-later_choice_stays_in_table : result_of (replace_row two_by_two (Some (vector (1 ∷ 1 ∷ [])) ∷ Some (scalar 2) ∷ []) (vector (8 ∷ 9 ∷ [])) One)
-    ≡ Ok (numbers (2 ∷ 2 ∷ []) (1 ∷ 9 ∷ 3 ∷ 4 ∷ []))
-later_choice_stays_in_table = refl
-
 -- A[4]←1, where A is 1 2 3
 replace_index_past_end : result_of (replace_row (vector (1 ∷ 2 ∷ 3 ∷ [])) (Some (scalar 4) ∷ []) (scalar 1) One) ≡ Err Index
 replace_index_past_end = refl
-
--- A[1]←'X', where A is 1 2 3
-letter_among_numbers : result_of (replace_row (vector (1 ∷ 2 ∷ 3 ∷ [])) (Some (scalar 1) ∷ []) (letter 88) One) ≡ Err Domain
-letter_among_numbers = refl
-
--- A[3]←5 6, where A is 7 7 3
-two_for_one_element : result_of (replace_row (vector (7 ∷ 7 ∷ 3 ∷ [])) (Some (scalar 3) ∷ []) (vector (5 ∷ 6 ∷ [])) One) ≡ Err Rank
-two_for_one_element = refl
 
 -- A[1 3]←8 9, where A is 7 7 3
 replace_two : result_of (replace_row (vector (7 ∷ 7 ∷ 3 ∷ [])) (Some (vector (1 ∷ 3 ∷ [])) ∷ []) (vector (8 ∷ 9 ∷ [])) One)

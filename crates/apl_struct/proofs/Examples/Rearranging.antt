@@ -1,5 +1,5 @@
 -- Worked examples of ⌽B, A⌽B, ⍉B and A⍉B, in origin 1 where nothing else is said.
-use Rattle.std.proofs.Common.{◌≡◌, pos, neg_ℤ, [], ◌∷◌, Ok, Err, refl}
+use Rattle.std.proofs.Common.{◌≡◌, pos, [], ◌∷◌, Ok, Err, refl}
 use Rattle.apl_array.specs.declared.axis.Axis.TheVariants.{First, Last, At}
 use Rattle.apl_array.specs.declared.axis.Origin.TheVariants.{Zero, One}
 use Rattle.apl_answer.specs.declared.fault.OpFault.TheVariants.{Rank, Length, Index, Domain}
@@ -29,18 +29,10 @@ scalar_has_no_axis = refl
 axis_past_last : result_of (reverse_row (zeros (2 ∷ 2 ∷ [])) (At (pos 3) One)) ≡ Err Index
 axis_past_last = refl
 
--- ⌽[¯9223372036854775808]1 2 3
-least_axis : result_of (reverse_row (vector (1 ∷ 2 ∷ 3 ∷ [])) (At (neg_ℤ (pos 9223372036854775808)) One)) ≡ Err Index
-least_axis = refl
-
 -- ⌽[0]2 2⍴0 1 2 3, in origin 0
 reverse_axis_zero : result_of (reverse_row (numbers (2 ∷ 2 ∷ []) (0 ∷ 1 ∷ 2 ∷ 3 ∷ [])) (At (pos 0) Zero))
     ≡ Ok (numbers (2 ∷ 2 ∷ []) (2 ∷ 3 ∷ 0 ∷ 1 ∷ []))
 reverse_axis_zero = refl
-
--- ⌽[2]2 3⍴⍳6
-reverse_last_axis_by_number : result_of (reverse_row two_by_three (At (pos 2) One)) ≡ Ok (numbers (2 ∷ 3 ∷ []) (3 ∷ 2 ∷ 1 ∷ 6 ∷ 5 ∷ 4 ∷ []))
-reverse_last_axis_by_number = refl
 
 -- ---- rotate
 
@@ -61,29 +53,13 @@ element_of_any_rank_rotates = refl
 two_rotations_of_vector : result_of (rotate_row (vector (1 ∷ 2 ∷ [])) (vector (1 ∷ 2 ∷ 3 ∷ [])) Last) ≡ Err Rank
 two_rotations_of_vector = refl
 
--- 1 2⌽5
-two_rotations_of_scalar : result_of (rotate_row (vector (1 ∷ 2 ∷ [])) (scalar 5) Last) ≡ Err Rank
-two_rotations_of_scalar = refl
-
 -- 'A'⌽5
 letter_rotates_no_scalar : result_of (rotate_row (letter 65) (scalar 5) Last) ≡ Err Domain
 letter_rotates_no_scalar = refl
 
--- 'A'⌽⍳0
-letter_rotates_no_empty_vector : result_of (rotate_row (letter 65) (vector []) Last) ≡ Err Domain
-letter_rotates_no_empty_vector = refl
-
--- (⍳0)⌽1 2 3
-no_rotation_of_vector : result_of (rotate_row (vector []) (vector (1 ∷ 2 ∷ 3 ∷ [])) Last) ≡ Err Rank
-no_rotation_of_vector = refl
-
 -- ''⌽0 3⍴0
 empty_text_rotates_no_line : result_of (rotate_row (text []) (numbers (0 ∷ 3 ∷ []) []) Last) ≡ Ok (numbers (0 ∷ 3 ∷ []) [])
 empty_text_rotates_no_line = refl
-
--- 1 2 3⌽2 3⍴⍳6
-three_rotations_of_two_lines : result_of (rotate_row (vector (1 ∷ 2 ∷ 3 ∷ [])) two_by_three Last) ≡ Err Length
-three_rotations_of_two_lines = refl
 
 -- 'ABC'⌽2 3⍴⍳6
 lengths_before_letters : result_of (rotate_row (text (65 ∷ 66 ∷ 67 ∷ [])) two_by_three Last) ≡ Err Length
@@ -98,22 +74,9 @@ rotation_of_each_line = refl
 rotate_by_least_number : result_of (rotate_row (minus 9223372036854775808) (vector (1 ∷ 2 ∷ 3 ∷ [])) Last) ≡ Ok (vector (2 ∷ 3 ∷ 1 ∷ []))
 rotate_by_least_number = refl
 
--- (,1)⌽5
-one_rotation_of_scalar : result_of (rotate_row (vector (1 ∷ [])) (scalar 5) Last) ≡ Ok (scalar 5)
-one_rotation_of_scalar = refl
-
--- 1⌽[2]2 3⍴⍳6
-rotate_last_axis_by_number : result_of (rotate_row (scalar 1) two_by_three (At (pos 2) One))
-    ≡ Ok (numbers (2 ∷ 3 ∷ []) (2 ∷ 3 ∷ 1 ∷ 5 ∷ 6 ∷ 4 ∷ []))
-rotate_last_axis_by_number = refl
-
 -- 1 2⌽[2]1 2 3
 axis_before_rank_of_rotation : result_of (rotate_row (vector (1 ∷ 2 ∷ [])) (vector (1 ∷ 2 ∷ 3 ∷ [])) (At (pos 2) One)) ≡ Err Index
 axis_before_rank_of_rotation = refl
-
--- (⍳0)⌽0 3⍴0
-no_number_rotates_no_line : result_of (rotate_row (vector []) (numbers (0 ∷ 3 ∷ []) []) Last) ≡ Ok (numbers (0 ∷ 3 ∷ []) [])
-no_number_rotates_no_line = refl
 
 -- ---- transpose
 
@@ -133,10 +96,6 @@ diagonal_of_two_axes_in_three : result_of (transpose_by_row (vector (1 ∷ 2 ∷
     ≡ Ok (numbers (2 ∷ 3 ∷ []) (1 ∷ 3 ∷ 5 ∷ 8 ∷ 10 ∷ 12 ∷ []))
 diagonal_of_two_axes_in_three = refl
 
--- (⍳0)⍉5
-no_axes_of_scalar : result_of (transpose_by_row (vector []) (scalar 5) One) ≡ Ok (scalar 5)
-no_axes_of_scalar = refl
-
 -- ''⍉5
 no_letters_for_scalar : result_of (transpose_by_row (text []) (scalar 5) One) ≡ Ok (scalar 5)
 no_letters_for_scalar = refl
@@ -144,10 +103,6 @@ no_letters_for_scalar = refl
 -- 1⍉5
 one_axis_of_scalar : result_of (transpose_by_row (scalar 1) (scalar 5) One) ≡ Err Length
 one_axis_of_scalar = refl
-
--- 2⍉1 2 3
-axes_begin_at_origin : result_of (transpose_by_row (scalar 2) (vector (1 ∷ 2 ∷ 3 ∷ [])) One) ≡ Err Domain
-axes_begin_at_origin = refl
 
 -- 1 3⍉2 2⍴⍳4
 axis_left_out : result_of (transpose_by_row (vector (1 ∷ 3 ∷ [])) two_by_two One) ≡ Err Domain
@@ -160,11 +115,3 @@ axis_below_origin = refl
 -- 'AB'⍉2 2⍴⍳4
 letters_are_no_axes : result_of (transpose_by_row (text (65 ∷ 66 ∷ [])) two_by_two One) ≡ Err Domain
 letters_are_no_axes = refl
-
--- 1⍉1 2 3
-vector_keeps_its_axis : result_of (transpose_by_row (scalar 1) (vector (1 ∷ 2 ∷ 3 ∷ [])) One) ≡ Ok (vector (1 ∷ 2 ∷ 3 ∷ []))
-vector_keeps_its_axis = refl
-
--- 2 1 1⍉2 3 4⍴0
-two_axes_become_first : result_of (transpose_by_row (vector (2 ∷ 1 ∷ 1 ∷ [])) (zeros (2 ∷ 3 ∷ 4 ∷ [])) One) ≡ Ok (zeros (3 ∷ 2 ∷ []))
-two_axes_become_first = refl

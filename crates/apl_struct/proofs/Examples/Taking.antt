@@ -3,7 +3,7 @@ use Rattle.std.proofs.Common.{◌≡◌, pos, neg_ℤ, [], ◌∷◌, Ok, Err, r
 use Rattle.apl_answer.specs.declared.fault.OpFault.TheVariants.{Rank, Length, Domain, Limit}
 use Rattle.apl_answer.specs.Rows.{result_of}
 use Rattle.apl_struct.specs.Taking.{take_row, drop_row}
-use Rattle.apl_struct.proofs.Examples.{scalar, minus, vector, integers, numbers, zeros, letter, text, two_by_three}
+use Rattle.apl_struct.proofs.Examples.{scalar, minus, vector, integers, numbers, zeros, text, two_by_three}
 
 -- ---- take
 
@@ -23,17 +23,9 @@ take_of_scalar = refl
 take_of_scalar_by_nothing : result_of (take_row (vector []) (scalar 5)) ≡ Ok (scalar 5)
 take_of_scalar_by_nothing = refl
 
--- 2↑3 3⍴0
-one_number_for_two_axes : result_of (take_row (scalar 2) (zeros (3 ∷ 3 ∷ []))) ≡ Err Length
-one_number_for_two_axes = refl
-
 -- 'AAAAAAAAAAAAAAAA'↑5
 sixteen_letters_for_scalar : result_of (take_row (text (65 ∷ 65 ∷ 65 ∷ 65 ∷ 65 ∷ 65 ∷ 65 ∷ 65 ∷ 65 ∷ 65 ∷ 65 ∷ 65 ∷ 65 ∷ 65 ∷ 65 ∷ 65 ∷ [])) (scalar 5)) ≡ Err Limit
 sixteen_letters_for_scalar = refl
-
--- 'AAAAAAAA'↑5
-eight_letters_for_scalar : result_of (take_row (text (65 ∷ 65 ∷ 65 ∷ 65 ∷ 65 ∷ 65 ∷ 65 ∷ 65 ∷ [])) (scalar 5)) ≡ Err Domain
-eight_letters_for_scalar = refl
 
 -- 'AAAAAAAAAAAAAAAA'↑1 2
 sixteen_letters_for_vector : result_of (take_row (text (65 ∷ 65 ∷ 65 ∷ 65 ∷ 65 ∷ 65 ∷ 65 ∷ 65 ∷ 65 ∷ 65 ∷ 65 ∷ 65 ∷ 65 ∷ 65 ∷ 65 ∷ 65 ∷ [])) (vector (1 ∷ 2 ∷ []))) ≡ Err Length
@@ -64,18 +56,6 @@ take_first_row_and_last_columns = refl
 take_from_empty_text : result_of (take_row (scalar 3) (text [])) ≡ Ok (text (32 ∷ 32 ∷ 32 ∷ []))
 take_from_empty_text = refl
 
--- 2↑⍳0
-take_from_no_numbers : result_of (take_row (scalar 2) (vector [])) ≡ Ok (vector (0 ∷ 0 ∷ []))
-take_from_no_numbers = refl
-
--- 3↑5
-take_vector_of_scalar : result_of (take_row (scalar 3) (scalar 5)) ≡ Ok (vector (5 ∷ 0 ∷ 0 ∷ []))
-take_vector_of_scalar = refl
-
--- 'AB'↑1 2 3
-lengths_before_letters : result_of (take_row (text (65 ∷ 66 ∷ [])) (vector (1 ∷ 2 ∷ 3 ∷ []))) ≡ Err Length
-lengths_before_letters = refl
-
 -- 0 1073741824↑0 0⍴0
 take_to_greatest_empty_axis : result_of (take_row (vector (0 ∷ 1073741824 ∷ [])) (numbers (0 ∷ 0 ∷ []) []))
     ≡ Ok (numbers (0 ∷ 1073741824 ∷ []) [])
@@ -87,33 +67,13 @@ take_to_greatest_empty_axis = refl
 drop_more_than_all : result_of (drop_row (minus 5) (vector (1 ∷ 2 ∷ 3 ∷ []))) ≡ Ok (vector [])
 drop_more_than_all = refl
 
--- 1↓1 2 3
-drop_first : result_of (drop_row (scalar 1) (vector (1 ∷ 2 ∷ 3 ∷ []))) ≡ Ok (vector (2 ∷ 3 ∷ []))
-drop_first = refl
-
--- ¯1↓1 2 3
-drop_last : result_of (drop_row (minus 1) (vector (1 ∷ 2 ∷ 3 ∷ []))) ≡ Ok (vector (1 ∷ 2 ∷ []))
-drop_last = refl
-
 -- 0 0↓5
 drop_none_of_scalar : result_of (drop_row (vector (0 ∷ 0 ∷ [])) (scalar 5)) ≡ Ok (numbers (1 ∷ 1 ∷ []) (5 ∷ []))
 drop_none_of_scalar = refl
 
--- ''↓'A'
-drop_of_scalar_by_nothing : result_of (drop_row (text []) (letter 65)) ≡ Ok (letter 65)
-drop_of_scalar_by_nothing = refl
-
--- ¯9223372036854775808↓1 2 3
-drop_least_number : result_of (drop_row (minus 9223372036854775808) (vector (1 ∷ 2 ∷ 3 ∷ []))) ≡ Ok (vector [])
-drop_least_number = refl
-
 -- 1↓5
 drop_scalar : result_of (drop_row (scalar 1) (scalar 5)) ≡ Ok (vector [])
 drop_scalar = refl
-
--- ¯5↓1 2 3
-drop_last_five : result_of (drop_row (minus 5) (vector (1 ∷ 2 ∷ 3 ∷ []))) ≡ Ok (vector [])
-drop_last_five = refl
 
 -- 1 ¯1↓2 3⍴⍳6
 drop_first_row_and_last_column : result_of (drop_row (integers (pos 1 ∷ neg_ℤ (pos 1) ∷ [])) two_by_three)

@@ -1,7 +1,6 @@
-use Rattle.std.proofs.Common.{◌<◌, length, Some, ap, sym, ◌∙◌, arith}
+use Rattle.std.proofs.Common.{◌<◌, ap, ◌∙◌, arith}
 use Rattle.apl_array.specs.Shape.{count_of, index_at}
-use Rattle.apl_array.specs.Transposition.{source_index, source_strides, inner_product}
-use Rattle.apl_walk.specs.Gathered.{filled_at}
+use Rattle.apl_array.specs.Transposition.{source_index}
 use Rattle.apl_struct.proofs.Filled.{filled_within}
 use Rattle.apl_struct.proofs.Permuted.{axes_below}
 use Rattle.apl_struct.proofs.permuting.transposed.Goals as goal
@@ -32,9 +31,5 @@ returns g c = λ element same.
     let lawful = c.places_match_index_lists.ensures.lawful shape place inside in
     let source = c.transposed_index_has_place.ensures.lawful b.shape axes shape index into lawful in
     let counted = c.transposed_index_has_place.ensures.place b.shape axes index (axes_below b.shape axes shape index into lawful.len) in
-    let reached = c.in_ok-walk.ensures.place place in
-    ap (filled_at b)
-    (reached ∙ ap (λ s. Some (inner_product index (source_strides (length shape) axes s))) c.shape-2.ensures.shape
-    ∙ ap (λ n. Some (inner_product index (source_strides n axes b.shape))) (sym lawful.len) ∙ ap Some (sym counted))
-    ∙ filled_within c.places_match_index_lists.ensures.below b (source_index axes index) c.kind-kind.ensures.lawful source
-    ∙ same index lawful)
+    rw (c.in_ok-walk.ensures.place place, c.shape-2.ensures.shape, ← lawful.len, ← counted)
+    (filled_within c.places_match_index_lists.ensures.below b (source_index axes index) c.kind-kind.ensures.lawful source ∙ same index lawful))

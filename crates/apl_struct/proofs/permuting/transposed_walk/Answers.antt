@@ -1,12 +1,11 @@
-use Rattle.std.proofs.Common.{◌≡◌, ℕ, ◌-◌, ◌*◌, ◌/◌, ◌%◌, ◌<◌, ◌≤◌, ◌∷◌, drop, length, slice_index, Some, ap, subst, ◌∙◌, arith}
+use Rattle.std.proofs.Common.{◌≡◌, ℕ, ◌-◌, ◌*◌, ◌<◌, ◌≤◌, ◌∷◌, drop, length, slice_index, Some, ap, subst, ◌∙◌, arith}
 use Rattle.std.specs.Prelude.{sum}
 use Rattle.std.proofs.lemmas.List.FromFn.{length-map-range_with_len, get_or-map-range_with_len}
 use Rattle.apl_array.specs.Shape.{count_of}
 use Rattle.apl_array.specs.Transposition.{strides, items_onto, source_strides}
-use Rattle.apl_walk.specs.Steps.{and_step}
 use Rattle.apl_walk.specs.Maps.{step_of, extent_of, walked}
 use Rattle.apl_walk.specs.Walks.{maps_of}
-use Rattle.apl_struct.proofs.Taken.{from_axis, length_before}
+use Rattle.apl_struct.proofs.Taken.{from_axis, axis_before}
 use Rattle.apl_struct.proofs.Permuted.{stride_near, permuted_step}
 use Rattle.apl_struct.proofs.permuting.transposed_walk.Goals as goal
 
@@ -17,12 +16,12 @@ whole-requires c =
     let axes = c.args.axes.now in
     let into = c.requires.into in
     let inside : c.loop-j.j ≤ length shape = omega arith in
-    let before = length_before shape c.loop-j.j c.loop-j-test.true inside c.requires.some c.axis.ensures.lawful.count in
+    let before = axis_before shape c.loop-j.j _ c.loop-j-test.true inside c.requires.some c.axis.ensures.lawful.count in
     let near = stride_near (c.loop-j.j - 1) (slice_index shape (c.loop-j.j - 1)) axes argument into.len (λ k here is. omega (arith, into.fits k here, ap (slice_index shape) is))
     c.requires.argument_some c.stride_along-stride.ensures.lawful.count in
     record {
       some = rw c.axis.ensures.length before.some;
-      most = rw c.axis.ensures.length before.most;
+      most = rw c.axis.ensures.length before.less;
       near = rw (c.axis.ensures.length, c.stride_along-stride.ensures.sum) (omega (arith, near, c.stride_along-stride.ensures.lawful.rank));
     }
 
@@ -30,7 +29,7 @@ pub with-requires-clause-extent : goal.with-requires-clause-extent
 with-requires-clause-extent c =
     let shape = c.args.shape.now in
     let inside : c.loop-j.j ≤ length shape = omega arith in
-    rw (c.whole.ensures.extent, c.axis.ensures.length, c.loop-j.invariant.extent) (length_before shape c.loop-j.j c.loop-j-test.true inside c.requires.some c.axis.ensures.lawful.count).both
+    rw (c.whole.ensures.extent, c.axis.ensures.length, c.loop-j.invariant.extent) (axis_before shape c.loop-j.j _ c.loop-j-test.true inside c.requires.some c.axis.ensures.lawful.count).both
 
 pub loop-j-preserved : goal.loop-j-preserved
 loop-j-preserved c =
@@ -58,6 +57,6 @@ loop-j-preserved c =
       place = λ place.
           rw (shape_is, strides_are)
           (c.in_ok-walk.ensures.place place
-          ∙ ap (λ e. and_step (walked (maps_of before) place) (step_of w (place / e % w.extent))) all
-          ∙ permuted_step m (drop j shape) (f (j - 1)) (drop j all_strides) w (walked (maps_of before) place) place extent steps (c.loop-j.invariant.place place));
+          ∙ permuted_step m (drop j shape) (f (j - 1)) (drop j all_strides) w (walked (maps_of before) place) (extent_of (maps_of before)) place extent all steps
+          (c.loop-j.invariant.place place));
     }

@@ -2,9 +2,7 @@ use Rattle.std.proofs.Common.{◌≡◌, ◌+◌, ◌≤◌, ◌++◌, pos, map,
 use Rattle.std.specs.Prelude.{sum, vec_len}
 use Rattle.std.proofs.lemmas.List.Sums.{sum_by-take-le}
 use Rattle.apl_array.specs.Axes.{place_number}
-use Rattle.apl_answer.specs.Arguments.{is_natural}
-use Rattle.apl_struct.proofs.Picks.{all_at}
-use Rattle.apl_struct.proofs.Naturals.{natural_sum, cast_is, natural_repeats}
+use Rattle.apl_struct.proofs.Naturals.{natural_at, natural_sum, cast_is, natural_repeats}
 use Rattle.apl_struct.proofs.Repeated.{repeated_length}
 use Rattle.apl_struct.proofs.repeating.listed_indexes.Goals as goal
 
@@ -16,7 +14,7 @@ append_times-requires c =
     let inside = c.loop-i-test.true in
     let z = slice_index_or counts i (pos 0) in
     let turned : to_z w64 (of_z w64 z) ≡ z = search rules in
-    let held : nat_abs (to_z w64 (of_z w64 z)) ≡ place_number z = cast_is z (all_at is_natural counts i (pos 0) c.requires.counts c.loop-i-test.true) turned in
+    let held : nat_abs (to_z w64 (of_z w64 z)) ≡ place_number z = cast_is z (natural_at counts i c.requires.counts) turned in
     let numbers = map place_number counts in
     let so_far : length c.loop-i.table.items ≡ sum (take i numbers) = ap length kept.kept ∙ repeated_length (take i numbers) in
     let all : sum (take (i + 1) numbers) ≤ sum numbers = sum_by-take-le (λ n. n) numbers (i + 1) in
@@ -31,7 +29,7 @@ loop-i-preserved c =
     let inside = c.loop-i-test.true in
     let z = slice_index_or counts i (pos 0) in
     let turned : to_z w64 (of_z w64 z) ≡ z = search rules in
-    let held : nat_abs (to_z w64 (of_z w64 z)) ≡ place_number z = cast_is z (all_at is_natural counts i (pos 0) c.requires.counts c.loop-i-test.true) turned in
+    let held : nat_abs (to_z w64 (of_z w64 z)) ≡ place_number z = cast_is z (natural_at counts i c.requires.counts) turned in
     record {
       kept = c.append_times.ensures.items
           ∙ ap (λ n. c.loop-i.table.items ++ replicate n i) held

@@ -3,7 +3,7 @@ use Rattle.std.proofs.Common.{◌≡◌, ◌<◌, ◌++◌, ◌∷◌, ℕ, leng
 use Rattle.apl_array.specs.Shape.{count_of}
 use Rattle.apl_walk.specs.Maps.{walked}
 use Rattle.apl_struct.specs.Numbering.{place_or_zero, last_number, value_numbered}
-use Rattle.apl_struct.proofs.Filled.{get_or-within}
+use Rattle.std.proofs.lemmas.List.{get_or_default}
 use Rattle.apl_struct.proofs.Replacement.{numbered_element}
 use Rattle.apl_struct.proofs.replacing.replace_elements.Goals as goal
 
@@ -32,6 +32,6 @@ returns g c = λ element same.
     ∙ numbered_element f elements first values fill _ number place c.fill.ensures from ∙ same place inside))
     (record {
       len = ap length table ∙ whole;
-      each = λ place d inside. ap Ok (get_or-within written place fill d (omega (arith, whole, inside)) ∙ ap (λ xs. slice_index_or xs place d) (sym table));
+      each = λ place d inside. ap Ok (get_or_default written place fill d (omega (arith, whole, inside)) ∙ ap (λ xs. slice_index_or xs place d) (sym table));
     })
     tt

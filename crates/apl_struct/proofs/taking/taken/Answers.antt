@@ -1,14 +1,48 @@
-use Rattle.std.proofs.Common.{◌≡◌, true, ℕ, List, map, Ok, sym, ap, ◌∙◌, subst}
+use Rattle.std.proofs.Common.{◌≡◌, true, ℕ, List, map, Ok, ap, sym, subst, ◌∙◌, arith}
 use Rattle.std.specs.Prelude.{nat_abs}
-use Rattle.apl_array.specs.Shape.{is_shape, IsIndexOf}
+use Rattle.apl_array.specs.Shape.{IsIndexOf, is_shape, count_of, index_at}
+use Rattle.apl_answer.specs.Arguments.{size_of}
 use Rattle.apl_answer.specs.Pointwise.{answer_of, IsAnswerOf}
+use Rattle.apl_struct.specs.Building.{reshape_source}
+use Rattle.apl_struct.specs.Gathering.{element_or_fill}
+use Rattle.apl_struct.specs.Shaped.{with_shape}
+use Rattle.apl_struct.proofs.Elements.{filled_past}
+use Rattle.apl_struct.proofs.Taken.{taken_none_of_empty, taken_element}
 use Rattle.apl_struct.proofs.taking.taken.Goals as goal
+use Rattle.apl_struct.proofs.taking.taken.Goals.{then-count-eq0-via-then-count-eq0, then-count-eq0-via-else-count-eq0+then-count-eq0-2}
+
+pub returns-then-count-eq0 : goal.returns-then-count-eq0
+returns-then-count-eq0 g c = λ element same.
+    let b = c.args.b.now in
+    let argument = c.args.argument.now in
+    let numbers = c.args.numbers.now in
+    let shape = c.in_ok-shape.shape in
+    let law = c.places_match_index_lists.ensures in
+    let is : shape ≡ map nat_abs numbers = c.in_ok-shape.ensures.value ∙ c.as_slice.ensures.value ∙ c.in_ok-lengths.ensures in
+    let passes : is_shape (map nat_abs numbers) ≡ true = ap is_shape (sym (c.as_slice.ensures.value ∙ c.in_ok-lengths.ensures)) ∙ c.in_ok-shape.ensures.test in
+    let P : List ℕ → Type 0 = λ s. IsAnswerOf (answer_of s (λ index. Ok (element index)) b.kind) c.repeat.result in
+    rw passes (subst P is (c.repeat.ensures element (λ place inside.
+    let none : count_of argument ≡ 0 = elim c.then-count-eq0.branch [
+      | then-count-eq0-via-then-count-eq0 w ↦ absurd (omega (arith, inside, w.if-count-eq0.true, c.count-count.ensures.count))
+      | then-count-eq0-via-else-count-eq0+then-count-eq0-2 w ↦ omega (arith, w.if-count-eq0-2.true, w.count.ensures.count)
+    ] in
+    let index = index_at shape place in
+    let lawful : IsIndexOf (map nat_abs numbers) index = subst (λ s. IsIndexOf s index) is (law.lawful shape place inside) in
+    filled_past b (reshape_source (size_of b) place) c.kind-kind.ensures.lawful (sym c.requires.count ∙ none)
+    ∙ sym (ap (element_or_fill (with_shape argument b)) (taken_none_of_empty law.below argument numbers index c.requires.len lawful none)) ∙ same index lawful)))
 
 pub returns : goal.returns
 returns g c = λ element same.
-    let slice : c.as_slice.result.now ≡ map nat_abs c.args.numbers.now = c.as_slice.ensures.value ∙ c.in_ok-lengths.ensures in
-    let shapes : c.in_ok-shape.shape ≡ map nat_abs c.args.numbers.now = c.in_ok-shape.ensures.value ∙ slice in
-    let passes : is_shape (map nat_abs c.args.numbers.now) ≡ true = ap is_shape (sym slice) ∙ c.in_ok-shape.ensures.test in
-    let P : List ℕ → Type 0 = λ s. IsAnswerOf (answer_of s (λ index. Ok (element index)) c.args.b.now.kind) c.take_from.result in
-    let Lawful : List ℕ → List ℕ → Type 0 = λ index s. IsIndexOf s index in
-    rw passes (subst P shapes (c.take_from.ensures element (λ index lawful. same index (subst (Lawful index) shapes lawful))))
+    let b = c.args.b.now in
+    let argument = c.args.argument.now in
+    let numbers = c.args.numbers.now in
+    let shape = c.in_ok-shape.shape in
+    let law = c.places_match_index_lists.ensures in
+    let is : shape ≡ map nat_abs numbers = c.in_ok-shape.ensures.value ∙ c.as_slice.ensures.value ∙ c.in_ok-lengths.ensures in
+    let passes : is_shape (map nat_abs numbers) ≡ true = ap is_shape (sym (c.as_slice.ensures.value ∙ c.in_ok-lengths.ensures)) ∙ c.in_ok-shape.ensures.test in
+    let P : List ℕ → Type 0 = λ s. IsAnswerOf (answer_of s (λ index. Ok (element index)) b.kind) c.gather.result in
+    rw passes (subst P is (c.gather.ensures element (λ place inside.
+    let index = index_at shape place in
+    let lawful : IsIndexOf (map nat_abs numbers) index = subst (λ s. IsIndexOf s index) is (law.lawful shape place inside) in
+    rw (c.in_ok-walk.ensures.place place, ← is)
+    (taken_element law.below argument numbers index c.requires.len lawful b c.kind-kind.ensures.lawful c.count.ensures.lawful c.requires.count ∙ same index lawful))))

@@ -1,39 +1,37 @@
-use Rattle.std.proofs.Common.{◌≡◌, ℕ, ℤ, pos, ◌+◌, ◌-◌, ◌*◌, ◌/◌, ◌%◌, ◌<◌, ◌∷◌, drop, map, get_or, to_z, of_z, w64, to_z-of_z, slice_index, ap, subst, ◌∙◌, arith}
+use Rattle.std.proofs.Common.{◌≡◌, ℕ, ℤ, pos, ◌+◌, ◌-◌, ◌*◌, ◌<◌, ◌∷◌, drop, get_or, to_z, of_z, w64, to_z-of_z, slice_index, ap, subst, ◌∙◌, arith}
 use Rattle.std.specs.Prelude.{nat_abs, option_map}
 use Rattle.apl_array.specs.Shape.{count_of}
 use Rattle.apl_struct.specs.Taking.{taken_index}
-use Rattle.apl_walk.specs.Steps.{and_step}
 use Rattle.apl_walk.specs.Maps.{step_of, extent_of, walked}
 use Rattle.apl_walk.specs.Walks.{maps_of}
-use Rattle.apl_struct.proofs.Taken.{from_axis, magnitude_before, length_before, taken_step}
+use Rattle.apl_struct.proofs.Taken.{from_axis, magnitude_before, axis_before, taken_step}
 use Rattle.apl_struct.proofs.taking.taken_walk.Goals as goal
 
 pub taken_window-window-requires-clause-some : goal.taken_window-window-requires-clause-some
 taken_window-window-requires-clause-some c =
     let m = get_or c.args.numbers.now (c.loop-k.k - 1) (pos 0) in
     let read : to_z w64 (of_z w64 m) ≡ m = grind (arith, to_z-of_z) in
-    rw read (magnitude_before c.args.numbers.now c.loop-k.k c.loop-k-test.true c.loop-k.auto.k c.requires.some c.requires.lawful.count).some
+    rw read (magnitude_before c.args.numbers.now c.loop-k.k _ c.loop-k-test.true c.loop-k.auto.k c.requires.some c.requires.lawful.count).some
 
 pub taken_window-window-requires-clause-most : goal.taken_window-window-requires-clause-most
 taken_window-window-requires-clause-most c =
     let m = get_or c.args.numbers.now (c.loop-k.k - 1) (pos 0) in
     let read : to_z w64 (of_z w64 m) ≡ m = grind (arith, to_z-of_z) in
-    rw read (magnitude_before c.args.numbers.now c.loop-k.k c.loop-k-test.true c.loop-k.auto.k c.requires.some c.requires.lawful.count).most
+    rw read (magnitude_before c.args.numbers.now c.loop-k.k _ c.loop-k-test.true c.loop-k.auto.k c.requires.some c.requires.lawful.count).less
 
 pub taken_window-window-requires-clause-near : goal.taken_window-window-requires-clause-near
 taken_window-window-requires-clause-near c =
     let argument = c.args.argument.now in
     let back : c.loop-k.k - 1 + 1 ≡ c.loop-k.k = omega arith in
-    let inner : c.inner.result ≡ count_of (drop c.loop-k.k argument) = c.inner.ensures.inner ∙ ap (λ n. count_of (drop n argument)) back in
-    rw (c.axis.ensures.length, inner)
-    (length_before argument c.loop-k.k c.loop-k-test.true (omega (arith, c.loop-k.auto.k, c.requires.len)) c.requires.argument_some c.axis.ensures.lawful.count).both
+    rw (c.axis.ensures.length, c.inner.ensures.inner, back)
+    (axis_before argument c.loop-k.k _ c.loop-k-test.true (omega (arith, c.loop-k.auto.k, c.requires.len)) c.requires.argument_some c.axis.ensures.lawful.count).both
 
 pub with-requires-clause-extent : goal.with-requires-clause-extent
 with-requires-clause-extent c =
     let m = get_or c.args.numbers.now (c.loop-k.k - 1) (pos 0) in
     let read : to_z w64 (of_z w64 m) ≡ m = grind (arith, to_z-of_z) in
-    let extent : c.taken_window-window.result.extent ≡ nat_abs m = c.taken_window-window.ensures.extent ∙ ap nat_abs read in
-    rw (extent, c.loop-k.invariant.extent) (magnitude_before c.args.numbers.now c.loop-k.k c.loop-k-test.true c.loop-k.auto.k c.requires.some c.requires.lawful.count).both
+    rw (c.taken_window-window.ensures.extent, read, c.loop-k.invariant.extent)
+    (magnitude_before c.args.numbers.now c.loop-k.k _ c.loop-k-test.true c.loop-k.auto.k c.requires.some c.requires.lawful.count).both
 
 pub loop-k-preserved : goal.loop-k-preserved
 loop-k-preserved c =
@@ -50,7 +48,7 @@ loop-k-preserved c =
     let numbers_are : drop (k - 1) numbers ≡ m ∷ drop k numbers = from_axis numbers k (pos 0) c.loop-k-test.true c.loop-k.auto.k in
     let argument_is : drop (k - 1) argument ≡ n ∷ drop k argument = from_axis argument k 0 c.loop-k-test.true (omega (arith, c.loop-k.auto.k, c.requires.len)) in
     let extent : w.extent ≡ nat_abs m = c.taken_window-window.ensures.extent ∙ ap nat_abs read in
-    let all : extent_of (maps_of before) ≡ count_of (map nat_abs (drop k numbers)) = c.loop-k.invariant.extent in
+    let all = c.loop-k.invariant.extent in
     let Steps : ℤ → ℕ → ℕ → Type 0 = λ z l s. (i : ℕ) → i < nat_abs z → step_of w i ≡ option_map (λ j. j * s) (taken_index z l i) in
     let steps : Steps m n (count_of (drop k argument)) =
     subst (Steps m n) inner (subst (λ l. Steps m l c.inner.result) c.axis.ensures.length (subst (λ z. Steps z c.axis.result c.inner.result) read c.taken_window-window.ensures.step)) in
@@ -60,11 +58,5 @@ loop-k-preserved c =
       place = λ place.
           rw (numbers_are, argument_is)
           (c.in_ok-walk.ensures.place place
-          ∙ ap (λ e. and_step (walked (maps_of before) place) (step_of w (place / e % w.extent))) all
-          ∙ taken_step m (drop k numbers) n (drop k argument) w (walked (maps_of before) place) place extent steps (c.loop-k.invariant.place place));
+          ∙ taken_step m (drop k numbers) n (drop k argument) w (walked (maps_of before) place) (extent_of (maps_of before)) place extent all steps (c.loop-k.invariant.place place));
     }
-
-pub returns-clause-place : goal.returns-clause-place
-returns-clause-place c = λ place.
-    let none : c.loop-k.k ≡ 0 = omega arith in
-    rw none at (c.loop-k.invariant.place place)
