@@ -5,8 +5,10 @@ ghost use Rattle.apl_walk.specs.declared.map.TheConstants.{MOST_STEP};
 ghost use Rattle.apl_walk.specs.Gathered.{value_or, AreAtEntries};
 ghost use Rattle.apl_walk.specs.Steps.{and_step, entry_step, BeginsWith};
 
-use crate::fronts::FEW;
 use crate::map::{AxisMap, MOST_STEP};
+
+/// So many places are written one by one.
+const FEW: usize = 16;
 
 /// The entries of a list. Those that are below the length of an axis are indexes of it, and at the
 /// others there is no place.
