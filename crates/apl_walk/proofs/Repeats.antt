@@ -1,17 +1,11 @@
 -- Places that come several times.
 use Rattle.std.proofs.Common.{◌≡◌, ℕ, ◌+◌, ◌-◌, ◌*◌, ◌/◌, ◌%◌, ◌<◌, ◌≤◌, List, length, slice_index_or, sym, ap, ◌∙◌, arith}
 use Rattle.std.proofs.Math.Nat.{lt_of_mul-lt-mul_right, mul-le-mul_right, mul-add-div_right}
-use Rattle.std.proofs.lemmas.Nat.{div-mul-add, div-add-mod'}
+use Rattle.std.proofs.lemmas.Nat.{div-add-mod'}
 use Rattle.std.specs.Prelude.{Some}
 use Rattle.apl_walk.specs.Gathered.{value_or}
 use Rattle.apl_walk.specs.Steps.{and_step, repeated_step, BeginsWith}
 use Rattle.apl_walk.proofs.Stepped.{get_or-within}
-
--- the index that has a copy
-pub copy_quotient : (times index n : ℕ) → index * times ≤ n → n < index * times + times → n / times ≡ index
-copy_quotient times index n low high =
-    let split : n ≡ index * times + (n - index * times) = omega (arith, low) in
-    ap (λ m. m / times) split ∙ div-mul-add index times (n - index * times) (omega (arith, low, high))
 
 -- an index further on
 pub further_quotient : (times index n m : ℕ) → 0 < times → m ≡ index * times + n → m / times ≡ index + n / times

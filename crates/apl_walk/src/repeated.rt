@@ -118,7 +118,15 @@ impl AxisMap for Repeated {
         if done < count {
             let skip = skip.saturating_sub(whole * times);
             let rest = &mut room[done..count];
-            self.write_indexes(elements, base, index + whole, skip, count - done, false, rest);
+            self.write_indexes(
+                elements,
+                base,
+                index + whole,
+                skip,
+                count - done,
+                false,
+                rest,
+            );
         }
     }
 }

@@ -105,6 +105,9 @@ impl AxisMap for Window {
         room: &mut [T],
     ) {
         let to = from + count;
+        if self.from <= from && to <= self.to {
+            return self.write_within(elements, base, from, count, fill, room);
+        }
         let first = self.from.max(from).min(to);
         let end = self.to.min(to).max(first);
         write_same(fill, first - from, room);

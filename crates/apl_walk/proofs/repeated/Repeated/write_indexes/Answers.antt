@@ -1,8 +1,8 @@
 use Rattle.std.proofs.Common.{◌≡◌, ℕ, ◌+◌, ◌-◌, ◌*◌, ◌/◌, ◌<◌, ◌≤◌, length, slice_index_or, ap, sym, ◌∙◌, arith, rules}
 use Rattle.std.specs.Prelude.{min}
 use Rattle.std.proofs.lemmas.List.{get_or_read, places}
-use Rattle.apl_walk.proofs.Lines.{more_begun}
-use Rattle.apl_walk.proofs.Repeats.{copy_quotient, index_within}
+use Rattle.apl_walk.proofs.Lines.{more_begun, quotient_there}
+use Rattle.apl_walk.proofs.Repeats.{index_within}
 use Rattle.apl_walk.proofs.repeated.Repeated.write_indexes.Goals as goal
 
 pub overflow_add-value-in-loop-done : goal.overflow_add-value-in-loop-done
@@ -40,7 +40,7 @@ loop-done-preserved g c =
           more_begun (λ k d. slice_index_or c.args.elements.now (place ((c.args.skip + k) / r.times)) d) l.done (min l.left (length l.room - l.done)) (length l.room - l.done) l.room c.write_index.new.room
           (omega (arith, c.loop-done-test.true, c.requires.room, l.invariant.len)) (omega arith) (omega arith) (λ k d before. l.invariant.each k d before (omega (arith, before, c.loop-done-test.true, c.requires.room, l.invariant.len)))
           (λ j d inside.
-          let same : (c.args.skip + (l.done + j)) / r.times ≡ l.whole = copy_quotient r.times l.whole (c.args.skip + (l.done + j)) (omega (arith, l.invariant.turn, l.invariant.most)) (omega (arith, l.invariant.turn, inside)) in
+          let same : (c.args.skip + (l.done + j)) / r.times ≡ l.whole = quotient_there r.times l.whole (c.args.skip + (l.done + j)) (omega (arith, l.invariant.turn, l.invariant.most)) (omega (arith, l.invariant.turn, inside)) in
           c.write_index.ensures.each j d (omega (arith, inside)) (omega (arith, inside)) ∙ read d ∙ ap (λ q. slice_index_or c.args.elements.now (place q) d) (sym same))
           k d (omega (arith, before, inside));
       len = search (rules, places);
