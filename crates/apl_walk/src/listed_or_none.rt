@@ -22,26 +22,6 @@ pub struct ListedOrNone<'a> {
     ghost near: { axis_length * stride ≤ MOST_STEP },
 }
 
-/// The element at an entry's place, or the fill. One is read in any case, so that nothing hangs on a
-/// branch that no processor can foresee.
-#[inline(always)]
-fn element_or<T: Copy>(
-    elements: &[T],
-    base: usize,
-    entry: usize,
-    axis_length: usize,
-    stride: usize,
-    fill: T,
-) -> T
-    requires most { axis_length * stride ≤ MOST_STEP }
-    requires near { base + (axis_length - 1) * stride < length elements.now }
-    ensures { result ≡ value_or elements.now fill (and_step (entry_step axis_length stride entry) (Some base)) }
-{
-    let index = if entry < axis_length { entry } else { 0 };
-    let element = elements[base + index * stride];
-    if entry < axis_length { element } else { fill }
-}
-
 impl ListedOrNone<'_> {
     /// Writes the element at each index, and the fill where there is no place, one by one.
     #[inline(always)]
@@ -62,8 +42,10 @@ impl ListedOrNone<'_> {
         ensures len { length room.new ≡ length room.old }
     {
         for k in 0..count {
-            let entry = self.entries[from + k] as usize;
-            room[k] = element_or(elements, base, entry, self.axis_length, self.stride, fill);
+            room[k] = match self.step(from + k) {
+                Some(step) => elements[base + step],
+                None => fill,
+            };
         }
     }
 
