@@ -106,23 +106,9 @@ pub(crate) fn write_two_stretches<T: Copy>(
     write_stretch(elements, second, stride, more, &mut room[count..]);
 }
 
-/// Neighbours, the last one first.
-#[inline(always)]
-pub(crate) fn write_back<T: Copy>(elements: &[T], first: usize, count: usize, room: &mut [T])
-    requires room { count ≤ length room.old }
-    requires near { first + count ≤ length elements.now }
-    ensures each { (k : ℕ) (d : T) → k < count → slice_index_or room.new k d ≡ slice_index_or elements.now (first + (count - 1 - k)) d }
-    ensures len { length room.new ≡ length room.old }
-{
-    let part = &elements[first..first + count];
-    for k in 0..count {
-        room[k] = part[count - 1 - k];
-    }
-}
-
 /// Those that are `stride` apart, the last one first.
 #[inline(always)]
-pub(crate) fn write_back_apart<T: Copy>(
+pub(crate) fn write_back<T: Copy>(
     elements: &[T],
     first: usize,
     stride: usize,

@@ -1,4 +1,4 @@
-use Rattle.std.proofs.Common.{◌≡◌, ℕ, ◌+◌, ◌-◌, ◌*◌, ◌<◌, ◌≤◌, length}
+use Rattle.std.proofs.Common.{◌≡◌, ◌+◌, ◌-◌, ◌*◌, ◌<◌, ◌≤◌, length}
 use Rattle.std.specs.Prelude.{min, max}
 use Rattle.apl_walk.specs.Columns.{HasColumns}
 use Rattle.apl_walk.proofs.lined.ByLines.write_columns.Given as goal

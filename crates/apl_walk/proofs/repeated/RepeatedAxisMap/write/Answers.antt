@@ -1,4 +1,4 @@
-use Rattle.std.proofs.Common.{◌≡◌, ℕ, ◌+◌, ◌-◌, ◌*◌, ◌/◌, ◌%◌, ◌<◌, ◌≤◌, length, slice_index_or, ap, sym, ◌∙◌, arith}
+use Rattle.std.proofs.Common.{◌≡◌, ℕ, ◌+◌, ◌-◌, ◌*◌, ◌/◌, ◌%◌, slice_index_or, ap, ◌∙◌, arith}
 use Rattle.apl_walk.proofs.Lines.{more_begun}
 use Rattle.apl_walk.proofs.Repeats.{further_quotient, values_repeated}
 use Rattle.apl_walk.proofs.repeated.RepeatedAxisMap.write.Goals as goal
