@@ -106,21 +106,22 @@ pub(crate) fn write_two_stretches<T: Copy>(
     write_stretch(elements, second, stride, more, &mut room[count..]);
 }
 
-/// Those that are `stride` apart, the last one first.
+/// Those that are `stride` apart, back from `last`.
 #[inline(always)]
 pub(crate) fn write_back<T: Copy>(
     elements: &[T],
-    first: usize,
+    last: usize,
     stride: usize,
     count: usize,
     room: &mut [T],
 )
     requires room { count ≤ length room.old }
-    requires near { first + (count - 1) * stride < length elements.now }
-    ensures each { (k : ℕ) (d : T) → k < count → slice_index_or room.new k d ≡ slice_index_or elements.now (first + (count - 1 - k) * stride) d }
+    requires near { last < length elements.now }
+    requires low { (count - 1) * stride ≤ last }
+    ensures each { (k : ℕ) (d : T) → k < count → slice_index_or room.new k d ≡ slice_index_or elements.now (last - k * stride) d }
     ensures len { length room.new ≡ length room.old }
 {
     for k in 0..count {
-        room[k] = elements[first + (count - 1 - k) * stride];
+        room[k] = elements[last - k * stride];
     }
 }

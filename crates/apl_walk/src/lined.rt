@@ -1,7 +1,6 @@
 //! Results that are made line by line.
 ghost use Rattle.std.specs.Prelude.{◌≡◌, ℕ, max, ◌+◌, ◌-◌, ◌*◌, ◌/◌, ◌%◌, ◌<◌, ◌≤◌, Ok, length};
 ghost use Rattle.apl_pool.specs.declared.kernel.TheConstants.{MOST_PLACES};
-ghost use Rattle.apl_pool.specs.Runs.{AreWritten};
 ghost use Rattle.apl_walk.specs.Steps.{BeginsWith};
 ghost use Rattle.apl_walk.specs.Columns.{HasColumns};
 
