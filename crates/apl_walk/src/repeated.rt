@@ -54,8 +54,8 @@ impl Repeated {
         requires room { limit ≤ length room.old }
         requires all { IsTrue several → 0 < limit → limit + self.now.times ≤ length room.old + 1 }
         requires several { IsTrue several → 0 < limit → limit + COPIES ≤ length room.old + 1 }
-        ensures each { (k : ℕ) (d : T) → skip + k < result * self.now.times → k < length room.old
-            → slice_index_or room.new k d ≡ slice_index_or elements.now (base + (index + (skip + k) / self.now.times) * self.now.stride) d }
+        ensures each { let r = self.now in (k : ℕ) (d : T) → skip + k < result * r.times → k < length room.old
+            → slice_index_or room.new k d ≡ slice_index_or elements.now (base + (index + (skip + k) / r.times) * r.stride) d }
         ensures far { 0 < limit → skip + limit ≤ result * self.now.times }
         ensures most { result * self.now.times ≤ skip + limit + self.now.times }
         ensures len { length room.new ≡ length room.old }
