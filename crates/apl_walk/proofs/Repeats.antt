@@ -1,52 +1,32 @@
 -- Places that come several times.
-use Rattle.std.proofs.Common.{◌≡◌, ℕ, ◌+◌, ◌-◌, ◌*◌, ◌/◌, ◌%◌, ◌<◌, ◌≤◌, arith}
-use Rattle.std.proofs.Math.Nat.{mod-lt, lt_of_mul-lt-mul_right, mul-le-mul_right}
-use Rattle.std.proofs.lemmas.Nat.{mod-mul-add, div-mul-add, div-add-mod'}
+use Rattle.std.proofs.Common.{◌≡◌, ℕ, ◌+◌, ◌-◌, ◌*◌, ◌/◌, ◌%◌, ◌<◌, ◌≤◌, List, length, slice_index_or, sym, ap, ◌∙◌, arith}
+use Rattle.std.proofs.Math.Nat.{lt_of_mul-lt-mul_right, mul-le-mul_right, mul-add-div_right}
+use Rattle.std.proofs.lemmas.Nat.{div-add-mod'}
+use Rattle.std.specs.Prelude.{Some}
+use Rattle.apl_walk.specs.Gathered.{value_or}
+use Rattle.apl_walk.specs.Steps.{and_step, repeated_step, BeginsWith}
+use Rattle.apl_walk.proofs.Stepped.{get_or-within}
 
--- after those that are left of an index, whole ones
-module _ (n times left : ℕ) (is : left + n % times ≡ times) where
-  copy_there : (j : ℕ) → n + j ≡ n / times * times + (n % times + j)
-  copy_there j = omega (arith, div-add-mod' n times)
+-- an index further on
+pub further_quotient : (times index n m : ℕ) → 0 < times → m ≡ index * times + n → m / times ≡ index + n / times
+further_quotient times index n m some is = ap (λ k. k / times) is ∙ mul-add-div_right some index n
 
-  pub next_there : (whole : ℕ) → n + left + whole * times ≡ (n / times + 1 + whole) * times + 0
-  next_there whole = omega (arith, div-add-mod' n times, is)
-
-  pub copy_quotient : (j : ℕ) → j < left → (n + j) / times ≡ n / times
-  copy_quotient j inside = rw (copy_there j) (div-mul-add (n / times) times (n % times + j) (omega (arith, is, inside)))
-
-  pub next_quotient : 0 < times → (whole : ℕ) → (n + left + whole * times) / times ≡ n / times + 1 + whole
-  next_quotient some whole = rw (next_there whole) (div-mul-add (n / times + 1 + whole) times 0 some)
-
-  pub next_rest : 0 < times → (whole : ℕ) → times + (n + left + whole * times) % times ≡ times
-  next_rest some whole =
-      let rest : (n + left + whole * times) % times ≡ 0 = rw (next_there whole) (mod-mul-add (n / times + 1 + whole) times 0 some) in
-      omega (arith, rest)
-
-  turned_there : n + left ≡ (n / times + 1) * times + 0
-  turned_there = omega (arith, div-add-mod' n times, is)
-
-  pub turn_quotient : 0 < times → (n + left) / times ≡ n / times + 1
-  turn_quotient some = rw turned_there (div-mul-add (n / times + 1) times 0 some)
-
-  pub turn_rest : 0 < times → times + (n + left) % times ≡ times
-  turn_rest some =
-      let rest : (n + left) % times ≡ 0 = rw turned_there (mod-mul-add (n / times + 1) times 0 some) in
-      omega (arith, rest)
-
-  pub later_quotient : 0 < times → (j : ℕ) → (n + left + j) / times ≡ n / times + 1 + j / times
-  later_quotient some j =
-      let split : n + left + j ≡ (n / times + 1 + j / times) * times + j % times = omega (arith, next_there (j / times), div-add-mod' j times) in
-      rw split (div-mul-add (n / times + 1 + j / times) times (j % times) (mod-lt j some))
-
-pub index_reached : (index times stride axis_length : ℕ) → index * times < axis_length * times → index * stride ≤ (axis_length - 1) * stride
-index_reached index times stride axis_length inside =
+pub index_within : (base index times stride axis_length size : ℕ) → index * times < axis_length * times → base + (axis_length - 1) * stride < size → base + index * stride < size
+index_within base index times stride axis_length size inside near =
     let less : index ≤ axis_length - 1 = omega (arith, lt_of_mul-lt-mul_right times inside) in
-    mul-le-mul_right stride less
+    omega (arith, mul-le-mul_right stride less, near)
 
-pub index_below : (n times axis_length : ℕ) → n < axis_length * times → (n / times + 1) * times ≤ axis_length * times
-index_below n times axis_length inside =
-    let short : n / times * times < axis_length * times = omega (arith, div-add-mod' n times, inside) in
-    mul-le-mul_right times (omega (arith, lt_of_mul-lt-mul_right times short))
-
-pub step_reached : (n times stride axis_length : ℕ) → n < axis_length * times → n / times * stride ≤ (axis_length - 1) * stride
-step_reached n times stride axis_length inside = index_reached (n / times) times stride axis_length (omega (arith, div-add-mod' n times, inside))
+pub values_repeated : {T : Type 0} (elements room : List T) (fill : T) (base times stride axis_length from count : ℕ) → 0 < times → from + count ≤ axis_length * times
+    → base + (axis_length - 1) * stride < length elements
+    → ((k : ℕ) (d : T) → k < count → slice_index_or room k d ≡ slice_index_or elements (base + (from / times + (from % times + k) / times) * stride) d)
+    → BeginsWith (λ k. value_or elements fill (and_step (repeated_step times stride (from + k)) (Some base))) count room
+values_repeated elements room fill base times stride axis_length from count some within near each = record {
+  each = λ k d inside.
+      let q = (from + k) / times in
+      let is : q ≡ from / times + (from % times + k) / times = further_quotient times (from / times) (from % times + k) (from + k) some (omega (arith, div-add-mod' from times)) in
+      let there = index_within base q times stride axis_length (length elements) (omega (arith, div-add-mod' (from + k) times, inside, within)) near in
+      get_or-within elements (q * stride + base) fill d (omega (arith, there))
+      ∙ ap (λ p. slice_index_or elements p d) (omega arith)
+      ∙ ap (λ i. slice_index_or elements (base + i * stride) d) is
+      ∙ sym (each k d inside);
+}

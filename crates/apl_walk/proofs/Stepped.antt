@@ -60,23 +60,20 @@ values_within elements room fill base from to start stride f count low high near
 
 -- ---- the last index first
 
-pub back_near : (extent stride f count : ℕ) → f + count ≤ extent → 0 < count → (extent - f - count) * stride + (count - 1) * stride ≤ (extent - 1) * stride
-back_near extent stride f count inside some =
-    let less : extent - f - count + (count - 1) ≤ extent - 1 = omega arith in
-    omega (arith, mul-le-mul_right stride less)
+pub back_near : (extent stride f count : ℕ) → f + count ≤ extent → 0 < count → (count - 1) * stride ≤ (extent - 1 - f) * stride
+back_near extent stride f count inside some = mul-le-mul_right stride (omega arith)
 
 pub values_back : {T : Type 0} (elements room : List T) (fill : T) (base extent stride f count : ℕ) → f + count ≤ extent
     → base + (extent - 1) * stride < length elements
-    → ((k : ℕ) (d : T) → k < count → slice_index_or room k d ≡ slice_index_or elements (base + (extent - f - count) * stride + (count - 1 - k) * stride) d)
+    → ((k : ℕ) (d : T) → k < count → slice_index_or room k d ≡ slice_index_or elements (base + (extent - 1 - f) * stride - k * stride) d)
     → BeginsWith (λ k. value_or elements fill (and_step (reversed_step extent stride (f + k)) (Some base))) count room
 values_back elements room fill base extent stride f count within near each = record {
   each = λ k d inside.
       let less : (extent - 1 - (f + k)) * stride ≤ (extent - 1) * stride = mul-le-mul_right stride (omega arith) in
-      let whole : extent - 1 - (f + k) ≡ (extent - f - count) + (count - 1 - k) = omega arith in
-      let split : (extent - 1 - (f + k)) * stride ≡ (extent - f - count) * stride + (count - 1 - k) * stride = ap (λ n. n * stride) whole ∙ omega arith in
-      let there : (extent - 1 - (f + k)) * stride + base ≡ base + (extent - f - count) * stride + (count - 1 - k) * stride = omega (arith, split) in
+      let whole : extent - 1 - (f + k) + k ≡ extent - 1 - f = omega arith in
+      let split : (extent - 1 - (f + k)) * stride + k * stride ≡ (extent - 1 - f) * stride = omega arith ∙ ap (λ n. n * stride) whole in
       get_or-within elements ((extent - 1 - (f + k)) * stride + base) fill d (omega (arith, less, near))
-      ∙ ap (λ p. slice_index_or elements p d) there
+      ∙ ap (λ p. slice_index_or elements p d) (omega (arith, split))
       ∙ sym (each k d inside);
 }
 

@@ -16,22 +16,6 @@ pub(crate) fn write_same<T: Copy>(value: T, count: usize, room: &mut [T])
 /// How many copies are written at once.
 pub(crate) const COPIES: usize = 4;
 
-/// So many places are written index by index.
-pub(crate) const FEW: usize = 16;
-
-/// The same at the first places.
-#[inline(always)]
-fn write_several<T: Copy>(value: T, room: &mut [T])
-    requires { COPIES ≤ length room.old }
-    ensures each { (k : ℕ) (d : T) → k < COPIES → slice_index_or room.new k d ≡ value }
-    ensures len { length room.new ≡ length room.old }
-{
-    room[0] = value;
-    room[1] = value;
-    room[2] = value;
-    room[3] = value;
-}
-
 /// The same at each of the first places, and perhaps at some after them. A few copies take no test at each.
 #[inline(always)]
 pub(crate) fn write_copies<T: Copy>(value: T, count: usize, room: &mut [T])
@@ -40,23 +24,9 @@ pub(crate) fn write_copies<T: Copy>(value: T, count: usize, room: &mut [T])
     ensures each { (k : ℕ) (d : T) → k < count → slice_index_or room.new k d ≡ value }
     ensures len { length room.new ≡ length room.old }
 {
-    write_several(value, room);
+    write_same(value, COPIES, room);
     if count > COPIES {
         write_same(value, count - COPIES, &mut room[COPIES..]);
-    }
-}
-
-/// The same at each place, and perhaps at some after them. Without room for several it goes one by one.
-#[inline(always)]
-pub(crate) fn write_few<T: Copy>(value: T, count: usize, room: &mut [T])
-    requires { count ≤ length room.old }
-    ensures each { (k : ℕ) (d : T) → k < count → slice_index_or room.new k d ≡ value }
-    ensures len { length room.new ≡ length room.old }
-{
-    if room.len() < COPIES {
-        write_same(value, count, room);
-    } else {
-        write_copies(value, count, room);
     }
 }
 
@@ -136,35 +106,22 @@ pub(crate) fn write_two_stretches<T: Copy>(
     write_stretch(elements, second, stride, more, &mut room[count..]);
 }
 
-/// Neighbours, the last one first.
+/// Those that are `stride` apart, back from `last`.
 #[inline(always)]
-pub(crate) fn write_back<T: Copy>(elements: &[T], first: usize, count: usize, room: &mut [T])
-    requires room { count ≤ length room.old }
-    requires near { first + count ≤ length elements.now }
-    ensures each { (k : ℕ) (d : T) → k < count → slice_index_or room.new k d ≡ slice_index_or elements.now (first + (count - 1 - k)) d }
-    ensures len { length room.new ≡ length room.old }
-{
-    let part = &elements[first..first + count];
-    for k in 0..count {
-        room[k] = part[count - 1 - k];
-    }
-}
-
-/// Those that are `stride` apart, the last one first.
-#[inline(always)]
-pub(crate) fn write_back_apart<T: Copy>(
+pub(crate) fn write_back<T: Copy>(
     elements: &[T],
-    first: usize,
+    last: usize,
     stride: usize,
     count: usize,
     room: &mut [T],
 )
     requires room { count ≤ length room.old }
-    requires near { first + (count - 1) * stride < length elements.now }
-    ensures each { (k : ℕ) (d : T) → k < count → slice_index_or room.new k d ≡ slice_index_or elements.now (first + (count - 1 - k) * stride) d }
+    requires near { last < length elements.now }
+    requires low { (count - 1) * stride ≤ last }
+    ensures each { (k : ℕ) (d : T) → k < count → slice_index_or room.new k d ≡ slice_index_or elements.now (last - k * stride) d }
     ensures len { length room.new ≡ length room.old }
 {
     for k in 0..count {
-        room[k] = elements[first + (count - 1 - k) * stride];
+        room[k] = elements[last - k * stride];
     }
 }

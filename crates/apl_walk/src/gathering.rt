@@ -11,7 +11,7 @@ ghost use Rattle.apl_walk.specs.Walks.{maps_of};
 use crate::gathered::Gathered;
 use crate::lined::ByLines;
 use crate::map::AxisMap;
-use crate::maps::{MOST_MAPS, Map};
+use crate::maps::{MOST_MAPS, Map, with_kind};
 use crate::walk::Walk;
 use apl_answer::{ElementType, OpFault, fill_array};
 use apl_array::{Array, Shape};
@@ -71,14 +71,7 @@ fn gather_maps<W: Crew>(
     requires extent { extent_of (last.now ∷ outer.now) ≡ count_of shape }
     ensures { IsArrayAt shape b.now.kind (λ place. filled_at b.now (walked (last.now ∷ outer.now) place)) result }
 {
-    match last {
-        Map::Window(last) => gather_runs(workers, shape, b, outer, *last),
-        Map::Reversed(last) => gather_runs(workers, shape, b, outer, *last),
-        Map::Rotated(last) => gather_runs(workers, shape, b, outer, *last),
-        Map::Listed(last) => gather_runs(workers, shape, b, outer, *last),
-        Map::ListedOrNone(last) => gather_runs(workers, shape, b, outer, *last),
-        Map::Repeated(last) => gather_runs(workers, shape, b, outer, *last),
-    }
+    with_kind!(last, last => gather_runs(workers, shape, b, outer, *last))
 }
 
 /// The array of this shape with an argument's elements at the places that a walk reaches, and the

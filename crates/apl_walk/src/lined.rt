@@ -1,7 +1,6 @@
 //! Results that are made line by line.
-ghost use Rattle.std.specs.Prelude.{◌≡◌, ℕ, ◌+◌, ◌-◌, ◌*◌, ◌/◌, ◌%◌, ◌<◌, ◌≤◌, Ok, length};
+ghost use Rattle.std.specs.Prelude.{◌≡◌, ℕ, max, ◌+◌, ◌-◌, ◌*◌, ◌/◌, ◌%◌, ◌<◌, ◌≤◌, Ok, length};
 ghost use Rattle.apl_pool.specs.declared.kernel.TheConstants.{MOST_PLACES};
-ghost use Rattle.apl_pool.specs.Runs.{AreWritten};
 ghost use Rattle.apl_walk.specs.Steps.{BeginsWith};
 ghost use Rattle.apl_walk.specs.Columns.{HasColumns};
 
@@ -82,78 +81,71 @@ impl<L: Lined> ByLines<L> {
         }
     }
 
-    /// Writes the values at some places line by line.
+    /// The first place from `from` on whose index is from `first` up to before `end`, as its line and its index.
     #[inline(always)]
-    fn write_lines(&self, from: usize, to: usize, room: &mut [L::Out])
-        requires order { from ≤ to }
-        requires most { to ≤ MOST_PLACES }
-        requires room { to ≤ from + length room.old }
-        ensures values { AreWritten (λ place. Ok (L.value self.now.lines (place / L.extent self.now.lines) (place % L.extent self.now.lines))) from to room.new }
-        ensures len { length room.new ≡ length room.old }
+    fn begin(&self, from: usize, first: usize, end: usize) -> (usize, usize)
+        requires most { from ≤ MOST_PLACES }
+        requires order { first < end }
+        requires within { end ≤ L.extent self.now.lines }
+        ensures first { first ≤ result.1 }
+        ensures end { result.1 < end }
+        ensures low { from ≤ result.0 * L.extent self.now.lines + result.1 }
+        ensures few { result.0 ≤ from + 1 }
+        ensures most { result.0 * L.extent self.now.lines ≤ from + L.extent self.now.lines }
+        ensures once { result.0 * L.extent self.now.lines + result.1 ≤ max from (result.0 * L.extent self.now.lines + first) }
+        ensures earlier { (place : ℕ) → from ≤ place → place < result.0 * L.extent self.now.lines → end ≤ place % L.extent self.now.lines }
     {
-        let extent = self.extent.number();
-        let mut line = self.extent.quotient(from);
-        let mut index = self.extent.remainder(from);
-        let mut place = from;
-        while place < to {
-            let count = (extent - index).min(to - place);
-            self.lines
-                .write(line, index, count, &mut room[place - from..]);
-            place += count;
-            line += 1;
-            index = 0;
+        let line = self.extent.quotient(from);
+        let index = self.extent.remainder(from);
+        if index < end {
+            (line, index.max(first))
+        } else {
+            (line + 1, first)
         }
     }
 
-    /// Writes the values at `count` indexes from `from` on of the lines of a room.
-    fn write_tile(&self, line: usize, lines: usize, from: usize, count: usize, room: &mut [L::Out])
-        requires lines { line + lines ≤ MOST_PLACES }
-        requires within { from + count ≤ L.extent self.now.lines }
-        requires room { lines * L.extent self.now.lines ≤ length room.old }
-        requires before { HasColumns (λ i j. L.value self.now.lines (line + i) j) (L.extent self.now.lines) lines from room.old }
-        ensures values { HasColumns (λ i j. L.value self.now.lines (line + i) j) (L.extent self.now.lines) lines (from + count) room.new }
-        ensures len { length room.new ≡ length room.old }
-    {
-        let extent = self.extent.number();
-        for i in 0..lines {
-            let place = i * extent + from;
-            self.lines
-                .write(line + i, from, count, &mut room[place..place + count]);
-        }
-    }
-
-    /// Writes whole lines tile by tile.
-    fn write_tiles(&self, line: usize, lines: usize, room: &mut [L::Out])
-        requires lines { line + lines ≤ MOST_PLACES }
-        requires room { lines * L.extent self.now.lines ≤ length room.old }
-        ensures values { HasColumns (λ i j. L.value self.now.lines (line + i) j) (L.extent self.now.lines) lines (L.extent self.now.lines) room.new }
-        ensures len { length room.new ≡ length room.old }
-    {
-        let extent = self.extent.number();
-        let mut from = 0;
-        while from < extent {
-            let count = self.tile.min(extent - from);
-            self.write_tile(line, lines, from, count, room);
-            from += count;
-        }
-    }
-
-    /// Writes the values at some places, those of whole lines tile by tile.
-    fn write_by_tiles(&self, from: usize, to: usize, room: &mut [L::Out])
-        requires line { from + L.extent self.now.lines ≤ to }
+    /// Writes, line by line, the values at those places of a run whose indexes are from `first` up to before `end`.
+    #[inline(always)]
+    fn write_columns(&self, from: usize, to: usize, first: usize, end: usize, room: &mut [L::Out])
         requires most { to ≤ MOST_PLACES }
         requires room { from + length room.old ≡ to }
-        ensures values { AreWritten (λ place. Ok (L.value self.now.lines (place / L.extent self.now.lines) (place % L.extent self.now.lines))) from to room.new }
+        requires order { first < end }
+        requires within { end ≤ L.extent self.now.lines }
+        requires before { HasColumns (L.value self.now.lines) (L.extent self.now.lines) from to first room.old }
+        ensures values { HasColumns (L.value self.now.lines) (L.extent self.now.lines) from to end room.new }
+        ensures len { length room.new ≡ length room.old }
+    {
+        let gap = self.extent.number() - (end - first);
+        let (mut line, mut index) = self.begin(from, first, end);
+        let mut place = line * self.extent.number() + index;
+        while place < to {
+            let count = (end - index).min(to - place);
+            let done = place - from;
+            // The first tiles of lines come before all others, so that they may write past their own places.
+            let end_of_room = if first == 0 { room.len() } else { done + count };
+            self.lines
+                .write(line, index, count, &mut room[done..end_of_room]);
+            place += count + gap;
+            line += 1;
+            index = first;
+        }
+    }
+
+    /// Writes the values at the places of a run tile by tile.
+    fn write_by_tiles(&self, from: usize, to: usize, room: &mut [L::Out])
+        requires order { from ≤ to }
+        requires most { to ≤ MOST_PLACES }
+        requires room { from + length room.old ≡ to }
+        ensures values { HasColumns (L.value self.now.lines) (L.extent self.now.lines) from to (L.extent self.now.lines) room.new }
         ensures len { length room.new ≡ length room.old }
     {
         let extent = self.extent.number();
-        let line = self.extent.quotient(from + extent - 1);
-        let start = line * extent;
-        let lines = self.extent.quotient(to - start);
-        let end = start + lines * extent;
-        self.write_lines(from, start, room);
-        self.write_tiles(line, lines, &mut room[start - from..]);
-        self.write_lines(end, to, &mut room[end - from..]);
+        let mut first = 0;
+        while first < extent {
+            let end = first + self.tile.min(extent - first);
+            self.write_columns(from, to, first, end, room);
+            first = end;
+        }
     }
 }
 
@@ -175,10 +167,10 @@ impl<L: Lined> Kernel for ByLines<L> {
 
     fn write_run(&self, from: usize, to: usize, room: &mut [L::Out]) -> usize {
         let extent = self.extent.number();
-        if self.tile < extent && extent <= to - from {
-            self.write_by_tiles(from, to, room);
+        if self.tile >= extent {
+            self.write_columns(from, to, 0, extent, room);
         } else {
-            self.write_lines(from, to, room);
+            self.write_by_tiles(from, to, room);
         }
         to
     }

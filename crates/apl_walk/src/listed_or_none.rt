@@ -1,12 +1,14 @@
 //! Axes each of whose indexes is listed, or has no place.
-ghost use Rattle.std.specs.Prelude.{◌≡◌, ℕ, ◌+◌, ◌-◌, ◌*◌, ◌<◌, ◌≤◌, Some, IfSome, length, slice_index, slice_index_or, nat_lt, if◌then◌else◌};
+ghost use Rattle.std.specs.Prelude.{◌≡◌, ℕ, ◌+◌, ◌-◌, ◌*◌, ◌<◌, ◌≤◌, Some, length, slice_index, slice_index_or, nat_lt, if◌then◌else◌};
 ghost use Rattle.apl_pool.specs.declared.kernel.TheConstants.{MOST_PLACES};
 ghost use Rattle.apl_walk.specs.declared.map.TheConstants.{MOST_STEP};
 ghost use Rattle.apl_walk.specs.Gathered.{value_or, AreAtEntries};
 ghost use Rattle.apl_walk.specs.Steps.{and_step, entry_step, BeginsWith};
 
-use crate::fronts::FEW;
 use crate::map::{AxisMap, MOST_STEP};
+
+/// So many places are written one by one.
+const FEW: usize = 16;
 
 /// The entries of a list. Those that are below the length of an axis are indexes of it, and at the
 /// others there is no place.
@@ -18,26 +20,6 @@ pub struct ListedOrNone<'a> {
     ghost count_some: { 0 < length entries.now },
     ghost count_most: { length entries.now ≤ MOST_PLACES },
     ghost near: { axis_length * stride ≤ MOST_STEP },
-}
-
-/// The element at an entry's place, or the fill. One is read in any case, so that nothing hangs on a
-/// branch that no processor can foresee.
-#[inline(always)]
-fn element_or<T: Copy>(
-    elements: &[T],
-    base: usize,
-    entry: usize,
-    axis_length: usize,
-    stride: usize,
-    fill: T,
-) -> T
-    requires most { axis_length * stride ≤ MOST_STEP }
-    requires near { base + (axis_length - 1) * stride < length elements.now }
-    ensures { result ≡ value_or elements.now fill (and_step (entry_step axis_length stride entry) (Some base)) }
-{
-    let index = if entry < axis_length { entry } else { 0 };
-    let element = elements[base + index * stride];
-    if entry < axis_length { element } else { fill }
 }
 
 impl ListedOrNone<'_> {
@@ -60,8 +42,10 @@ impl ListedOrNone<'_> {
         ensures len { length room.new ≡ length room.old }
     {
         for k in 0..count {
-            let entry = self.entries[from + k] as usize;
-            room[k] = element_or(elements, base, entry, self.axis_length, self.stride, fill);
+            room[k] = match self.step(from + k) {
+                Some(step) => elements[base + step],
+                None => fill,
+            };
         }
     }
 

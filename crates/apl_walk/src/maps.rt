@@ -1,5 +1,5 @@
 //! An axis of any kind, and what several axes add.
-ghost use Rattle.std.specs.Prelude.{◌≡◌, ℕ, ◌+◌, ◌*◌, ◌/◌, ◌%◌, ◌<◌, ◌≤◌, IfSome, length};
+ghost use Rattle.std.specs.Prelude.{◌≡◌, ◌+◌, ◌*◌, ◌/◌, ◌%◌, ◌<◌, ◌≤◌, IfSome, length};
 ghost use Rattle.apl_pool.specs.declared.kernel.TheConstants.{MOST_PLACES};
 ghost use Rattle.apl_walk.specs.declared.map.TheConstants.{MOST_STEP};
 ghost use Rattle.apl_walk.specs.Maps.{walked};
@@ -24,6 +24,22 @@ pub enum Map<'a> {
     Repeated(Repeated),
 }
 
+/// The same of an axis of any kind.
+macro_rules! with_kind {
+    ($any:expr, $map:ident => $answer:expr) => {
+        match $any {
+            $crate::maps::Map::Window($map) => $answer,
+            $crate::maps::Map::Reversed($map) => $answer,
+            $crate::maps::Map::Rotated($map) => $answer,
+            $crate::maps::Map::Listed($map) => $answer,
+            $crate::maps::Map::ListedOrNone($map) => $answer,
+            $crate::maps::Map::Repeated($map) => $answer,
+        }
+    };
+}
+
+pub(crate) use with_kind;
+
 impl AxisMap for Map<'_> {
     ghost use Rattle.apl_walk.specs.Maps.{map_extent, map_reach, map_step};
 
@@ -35,37 +51,16 @@ impl AxisMap for Map<'_> {
 
     #[inline(always)]
     fn extent(&self) -> usize {
-        match self {
-            Map::Window(map) => map.extent(),
-            Map::Reversed(map) => map.extent(),
-            Map::Rotated(map) => map.extent(),
-            Map::Listed(map) => map.extent(),
-            Map::ListedOrNone(map) => map.extent(),
-            Map::Repeated(map) => map.extent(),
-        }
+        with_kind!(self, map => map.extent())
     }
 
     fn reach(&self) -> usize {
-        match self {
-            Map::Window(map) => map.reach(),
-            Map::Reversed(map) => map.reach(),
-            Map::Rotated(map) => map.reach(),
-            Map::Listed(map) => map.reach(),
-            Map::ListedOrNone(map) => map.reach(),
-            Map::Repeated(map) => map.reach(),
-        }
+        with_kind!(self, map => map.reach())
     }
 
     #[inline(always)]
     fn step(&self, i: usize) -> Option<usize> {
-        match self {
-            Map::Window(map) => map.step(i),
-            Map::Reversed(map) => map.step(i),
-            Map::Rotated(map) => map.step(i),
-            Map::Listed(map) => map.step(i),
-            Map::ListedOrNone(map) => map.step(i),
-            Map::Repeated(map) => map.step(i),
-        }
+        with_kind!(self, map => map.step(i))
     }
 
     fn write<T: Copy>(
@@ -77,14 +72,7 @@ impl AxisMap for Map<'_> {
         fill: T,
         room: &mut [T],
     ) {
-        match self {
-            Map::Window(map) => map.write(elements, base, from, count, fill, room),
-            Map::Reversed(map) => map.write(elements, base, from, count, fill, room),
-            Map::Rotated(map) => map.write(elements, base, from, count, fill, room),
-            Map::Listed(map) => map.write(elements, base, from, count, fill, room),
-            Map::ListedOrNone(map) => map.write(elements, base, from, count, fill, room),
-            Map::Repeated(map) => map.write(elements, base, from, count, fill, room),
-        }
+        with_kind!(self, map => map.write(elements, base, from, count, fill, room))
     }
 }
 

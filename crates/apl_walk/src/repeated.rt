@@ -1,9 +1,10 @@
 //! Axes each of whose indexes comes several times.
-ghost use Rattle.std.specs.Prelude.{◌≡◌, ℕ, ◌+◌, ◌-◌, ◌*◌, ◌/◌, ◌<◌, ◌≤◌, length, slice_index_or};
+ghost use Rattle.std.specs.Prelude.{◌≡◌, ℕ, IsTrue, ◌+◌, ◌-◌, ◌*◌, ◌/◌, ◌<◌, ◌≤◌, length, slice_index_or};
 ghost use Rattle.apl_pool.specs.declared.kernel.TheConstants.{MOST_PLACES};
 ghost use Rattle.apl_walk.specs.declared.map.TheConstants.{MOST_STEP};
+ghost use Rattle.apl_walk.specs.declared.fronts.TheConstants.{COPIES};
 
-use crate::fronts::{COPIES, FEW, write_copies, write_few, write_same};
+use crate::fronts::{COPIES, write_copies, write_same};
 use crate::map::{AxisMap, MOST_STEP};
 
 /// Each index of an axis, several times in a row.
@@ -18,64 +19,56 @@ pub struct Repeated {
     ghost near: { axis_length * stride ≤ MOST_STEP },
 }
 
-impl Repeated {
-    /// Writes a few places, index by index.
-    #[inline(always)]
-    fn write_short<T: Copy>(
-        &self,
-        elements: &[T],
-        base: usize,
-        from: usize,
-        count: usize,
-        room: &mut [T],
-    )
-        requires within { from + count ≤ self.now.axis_length * self.now.times }
-        requires near { base + (self.now.axis_length - 1) * self.now.stride < length elements.now }
-        requires room { count ≤ length room.old }
-        ensures each { (k : ℕ) (d : T) → k < count → slice_index_or room.new k d ≡ slice_index_or elements.now (base + (from + k) / self.now.times * self.now.stride) d }
-        ensures len { length room.new ≡ length room.old }
-    {
-        let times = self.times;
-        let mut step = from / times * self.stride;
-        let mut left = times - from % times;
-        let mut done = 0;
-        while done < count {
-            let copies = left.min(count - done);
-            write_few(elements[base + step], copies, &mut room[done..]);
-            done += copies;
-            step += self.stride;
-            left = times;
-        }
+/// The same at each of the first places, as far as there is room. Several at once may be written past them.
+#[inline(always)]
+fn write_index<T: Copy>(value: T, count: usize, several: bool, room: &mut [T])
+    requires count { IsTrue several → count ≤ length room.old }
+    requires several { IsTrue several → COPIES ≤ length room.old }
+    ensures each { (k : ℕ) (d : T) → k < count → k < length room.old → slice_index_or room.new k d ≡ value }
+    ensures len { length room.new ≡ length room.old }
+{
+    if several {
+        write_copies(value, count, room);
+    } else {
+        write_same(value, count.min(room.len()), room);
     }
+}
 
-    /// Writes all copies of each index from one on, while more than a few places are left.
-    /// Answers how many indexes.
+impl Repeated {
+    /// Writes the copies of an index but the first `skip`, and of those after it, until `limit` places
+    /// are written. Answers how many indexes.
     #[inline(always)]
-    fn write_whole<T: Copy>(
+    fn write_indexes<T: Copy>(
         &self,
         elements: &[T],
         base: usize,
         index: usize,
-        count: usize,
+        skip: usize,
+        limit: usize,
+        several: bool,
         room: &mut [T],
     ) -> usize
-        requires within { index * self.now.times + count ≤ self.now.axis_length * self.now.times }
+        requires skip { skip < self.now.times }
+        requires within { index * self.now.times + skip + limit ≤ self.now.axis_length * self.now.times }
         requires near { base + (self.now.axis_length - 1) * self.now.stride < length elements.now }
-        requires room { count ≤ length room.old }
-        ensures within { result * self.now.times ≤ count }
-        ensures each { (k : ℕ) (d : T) → k < result * self.now.times → slice_index_or room.new k d ≡ slice_index_or elements.now (base + (index + k / self.now.times) * self.now.stride) d }
+        requires room { limit ≤ length room.old }
+        requires all { IsTrue several → 0 < limit → limit + self.now.times ≤ length room.old + 1 }
+        requires several { IsTrue several → 0 < limit → limit + COPIES ≤ length room.old + 1 }
+        ensures each { let r = self.now in (k : ℕ) (d : T) → skip + k < result * r.times → k < length room.old
+            → slice_index_or room.new k d ≡ slice_index_or elements.now (base + (index + (skip + k) / r.times) * r.stride) d }
+        ensures far { 0 < limit → skip + limit ≤ result * self.now.times }
+        ensures most { result * self.now.times ≤ skip + limit + self.now.times }
         ensures len { length room.new ≡ length room.old }
     {
         let times = self.times;
-        let stride = self.stride;
-        let most = times.max(COPIES);
-        let mut step = index * stride;
+        let mut left = times - skip;
         let mut done = 0;
         let mut whole = 0;
-        while done + most <= count {
-            write_copies(elements[base + step], times, &mut room[done..]);
-            done += times;
-            step += stride;
+        while done < limit {
+            let value = elements[base + (index + whole) * self.stride];
+            write_index(value, left, several, &mut room[done..]);
+            done += left;
+            left = times;
             whole += 1;
         }
         whole
@@ -115,23 +108,25 @@ impl AxisMap for Repeated {
         _fill: T,
         room: &mut [T],
     ) {
-        if count < FEW {
-            return self.write_short(elements, base, from, count, room);
-        }
         let times = self.times;
-        let mut index = from / times;
-        let mut left = times - from % times;
-        let mut done = 0;
-        while done < count {
-            let copies = left.min(count - done);
-            let value = elements[base + index * self.stride];
-            write_same(value, copies, &mut room[done..]);
-            done += copies;
-            index += 1;
-            left = times;
-            let whole = self.write_whole(elements, base, index, count - done, &mut room[done..]);
-            done += whole * times;
-            index += whole;
+        let index = from / times;
+        let skip = from % times;
+        let short = times.max(COPIES) - 1;
+        let limit = count.min(room.len().saturating_sub(short));
+        let whole = self.write_indexes(elements, base, index, skip, limit, true, room);
+        let done = (whole * times).saturating_sub(skip);
+        if done < count {
+            let skip = skip.saturating_sub(whole * times);
+            let rest = &mut room[done..count];
+            self.write_indexes(
+                elements,
+                base,
+                index + whole,
+                skip,
+                count - done,
+                false,
+                rest,
+            );
         }
     }
 }

@@ -1,7 +1,7 @@
 //! Lines along an axis that are each rotated by a number of their own.
-ghost use Rattle.std.specs.Prelude.{◌≡◌, ℕ, ◌+◌, ◌<◌, ◌≤◌, slice_index};
+ghost use Rattle.std.specs.Prelude.{◌≡◌, ℕ, ◌+◌, ◌*◌, ◌<◌, ◌≤◌, slice_index, slice_index_or};
 ghost use Rattle.apl_pool.specs.declared.kernel.TheConstants.{MOST_PLACES};
-ghost use Rattle.apl_walk.specs.Steps.{wrapped};
+ghost use Rattle.apl_walk.specs.Steps.{wrapped, rotated_place};
 
 use crate::lined::Lined;
 use crate::stretches::{element_or, write_or};
@@ -104,6 +104,22 @@ pub struct RotatedColumns<'a, T> {
     ghost count_most: { count ≤ MOST_PLACES },
 }
 
+impl<T: Copy> RotatedColumns<'_, T> {
+    /// What there is in a column at index `i` of the lines that begin after `outer` such groups of lines.
+    #[inline(always)]
+    fn at_column(&self, outer: usize, i: usize, column: usize) -> T
+        requires outer { outer * self.now.rotations.length ≤ MOST_PLACES }
+        requires index { i < self.now.rotations.length }
+        requires column { column < self.now.inner }
+        ensures { result ≡ slice_index_or self.now.elements.now
+            (rotated_place self.now.rotations.length self.now.rotations.by.now outer (outer * self.now.inner + column) i * self.now.inner + column) self.now.past }
+    {
+        let line = outer * self.inner + column;
+        let taken = outer * self.rotations.length + self.rotations.index(line, i);
+        element_or(self.elements, taken * self.inner + column, self.past)
+    }
+}
+
 impl<T: Copy> Lined for RotatedColumns<'_, T> {
     ghost use Rattle.std.specs.Prelude.{slice_index_or};
     ghost use Rattle.apl_walk.specs.Steps.{rotated_column};
@@ -126,17 +142,19 @@ impl<T: Copy> Lined for RotatedColumns<'_, T> {
 
     #[inline(always)]
     fn at(&self, row: usize, column: usize) -> T {
-        let outer = self.length.quotient(row);
-        let line = outer * self.inner + column;
-        let index = self.rotations.index(line, self.length.remainder(row));
-        let taken = outer * self.rotations.length + index;
-        element_or(self.elements, taken * self.inner + column, self.past)
+        self.at_column(
+            self.length.quotient(row),
+            self.length.remainder(row),
+            column,
+        )
     }
 
     #[inline(always)]
     fn write(&self, row: usize, from: usize, count: usize, room: &mut [T]) {
+        let outer = self.length.quotient(row);
+        let index = self.length.remainder(row);
         for k in 0..count {
-            room[k] = self.at(row, from + k);
+            room[k] = self.at_column(outer, index, from + k);
         }
     }
 }

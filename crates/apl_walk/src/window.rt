@@ -1,5 +1,5 @@
 //! Axes whose indexes follow one another in the argument as well.
-ghost use Rattle.std.specs.Prelude.{◌≡◌, ℕ, ◌+◌, ◌-◌, ◌*◌, ◌<◌, ◌≤◌, Some, length};
+ghost use Rattle.std.specs.Prelude.{◌≡◌, ◌+◌, ◌-◌, ◌*◌, ◌<◌, ◌≤◌, Some, length};
 ghost use Rattle.apl_pool.specs.declared.kernel.TheConstants.{MOST_PLACES};
 ghost use Rattle.apl_walk.specs.declared.map.TheConstants.{MOST_STEP};
 ghost use Rattle.apl_walk.specs.Gathered.{value_or};
@@ -105,6 +105,9 @@ impl AxisMap for Window {
         room: &mut [T],
     ) {
         let to = from + count;
+        if self.from <= from && to <= self.to {
+            return self.write_within(elements, base, from, count, fill, room);
+        }
         let first = self.from.max(from).min(to);
         let end = self.to.min(to).max(first);
         write_same(fill, first - from, room);

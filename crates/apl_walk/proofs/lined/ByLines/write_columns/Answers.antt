@@ -1,0 +1,46 @@
+use Rattle.std.proofs.Common.{◌≡◌, ◌+◌, ◌-◌, ◌*◌, ◌<◌, ◌≤◌, length, refl, arith, rules, ◌∙◌}
+use Rattle.std.proofs.lemmas.List.{places}
+use Rattle.apl_walk.proofs.Lines.{columns_all, columns_kept, columns_more}
+use Rattle.apl_walk.proofs.lined.ByLines.write_columns.Goals as goal
+use Rattle.apl_walk.proofs.lined.ByLines.write_columns.Goals.{then-first-eq0, else-first-eq0}
+
+pub loop-place-preserved : goal.loop-place-preserved
+loop-place-preserved g c =
+    let l = c.loop-place in
+    let e = g.L.Lined.extent c.args.self.now.lines in
+    let extent : c.number.result ≡ e = c.number.ensures.value ∙ c.args.self.now.line in
+    let there : l.place ≡ l.line * e + l.index = l.invariant.there c.loop-place-test.true in
+    let value = g.L.Lined.value c.args.self.now.lines in
+    let done = l.place - c.args.from in
+    let count = c.min-count.result in
+    let n = c.if-first-eq0.end_of_room - done in
+    let spare : (count ≤ n) × (done + n ≤ length l.room) × (0 < c.args.first → n ≡ count) =
+    elim c.if-first-eq0.branch [
+      | then-first-eq0 w ↦ (omega (arith, w.end_of_room-is, there), omega (arith, w.end_of_room-is, there), λ later. absurd (omega (arith, later, w.if-first-eq0.true)))
+      | else-first-eq0 w ↦ (omega (arith, w.end_of_room-is, there), omega (arith, w.end_of_room-is, there), λ later. omega (arith, w.end_of_room-is))
+    ] in
+    record {
+      there = λ more. omega (arith, there, extent, more);
+      far = omega (arith, there, extent);
+      few = omega arith;
+      high = omega (arith, extent, c.loop-place-test.true);
+      low = omega arith;
+      first = omega arith;
+      index = omega arith;
+      inside = omega arith;
+      all =
+          columns_kept value e c.args.from c.args.to c.args.first c.args.end l.line (l.line * e) l.index l.room refl l.invariant.index l.invariant.all l.invariant.several
+          done n count c.write.new.room (omega (arith, there)) spare.0 spare.1 spare.2 (omega (arith, there)) (omega arith) (omega arith) c.requires.within (omega arith) c.write.ensures.values;
+      several =
+          columns_more value e c.args.from c.args.to c.args.first c.args.end l.line (l.line * e) l.index l.room refl l.invariant.index l.invariant.all l.invariant.several
+          done n count c.write.new.room (omega (arith, there)) spare.0 spare.1 spare.2 (omega (arith, there)) (omega arith) (omega arith) c.requires.within (omega arith) c.write.ensures.values
+          ((l.line + 1) * e) (omega arith);
+      len = search (rules, places);
+    }
+
+pub returns-clause-values : goal.returns-clause-values
+returns-clause-values g c =
+    let l = c.loop-place in
+    let e = g.L.Lined.extent c.args.self.now.lines in
+    columns_all (g.L.Lined.value c.args.self.now.lines) e c.args.from c.args.to c.args.first c.args.end l.line (l.line * e) l.index l.room refl l.invariant.index l.invariant.all l.invariant.several
+    (omega (arith, l.invariant.far, c.loop-place-test.false)) (omega (arith, l.invariant.inside, c.requires.within))
