@@ -1,5 +1,5 @@
 //! The folds of numbers up to each place of lines of neighbours, by summaries.
-ghost use Rattle.std.specs.Prelude.{◌≡◌, ℕ, true, ◌+◌, ◌-◌, ◌*◌, ◌/◌, ◌%◌, ◌<◌, ◌≤◌, IfOk, IfErr, IfSome, MatchOption, length, vec_len};
+ghost use Rattle.std.specs.Prelude.{◌≡◌, ℕ, true, ◌+◌, ◌-◌, ◌*◌, ◌/◌, ◌%◌, ◌<◌, ◌≤◌, IfOk, IfErr, IfSome, MatchOption, length, vec_len, vec_capacity};
 ghost use Rattle.apl_pool.specs.declared.kernel.TheConstants.{MOST_PLACES};
 ghost use Rattle.apl_pool.specs.Pool.{AreValues, IsStopOf};
 ghost use Rattle.apl_pool.specs.Runs.{AreWritten};
@@ -15,9 +15,9 @@ use crate::chunks::{CHUNK, Chunks, summarize};
 use crate::running::{fold_behind, with_next};
 use apl_array::ScalarFunction;
 use apl_divisor::Divisor;
-use apl_pool::{Crew, Fault, Kernel, RowSummaries, Stop, Summary, fill};
+use apl_pool::{Crew, Fault, Kernel, Reused, RowSummaries, Stop, Summary, fill};
 use apl_summary::{Running, with_summary};
-use std::alloc::{AllocError, Global};
+use std::alloc::AllocError;
 
 /// Numbers in lines of neighbours, and the summaries of the beginnings of each line.
 #[derive(Drop)]
@@ -193,12 +193,29 @@ fn summarize_lines<S: Summary<Item = i64> + Copy + Drop + Send, W: Crew>(
     summarize(workers, &chunks)
 }
 
+/// An empty list with room for `count` numbers: the one that the pool keeps, or a new one.
+fn room_for<W: Crew>(workers: &W, count: usize) -> Result<Vec<i64>, AllocError>
+    ensures empty { IfOk result (λ room. vec_len room ≡ 0) }
+    ensures room { IfOk result (λ room. count ≤ vec_capacity room) }
+{
+    match i64::reused(workers.pool().kept(), count) {
+        Some(mut list) => {
+            list.truncate(0);
+            Ok(list)
+        }
+        None => Vec::with_capacity(workers.alloc(), count),
+    }
+}
+
 /// The folds of numbers up to each, in one pass from the left, if the summaries put all of them.
-fn put_line<S: Running>(alloc: Global, numbers: &[i64]) -> Result<Option<Vec<i64>>, AllocError>
+fn put_line<S: Running, W: Crew>(
+    workers: &W,
+    numbers: &[i64],
+) -> Result<Option<Vec<i64>>, AllocError>
     requires some { 0 < length numbers.now }
     ensures { IfOk result (λ line. IfSome line (λ v. AreValues (scan_at S.step numbers.now (length numbers.now) 1) (length numbers.now) v.items)) }
 {
-    let room = Vec::with_capacity(alloc, numbers.len())?;
+    let room = room_for(workers, numbers.len())?;
     let values = S::append_scan(numbers, room);
     if values.len() < numbers.len() {
         return Ok(None);
@@ -237,7 +254,7 @@ fn fill_summarized<S: Running + Copy + Drop + Send + Sync, W: Crew>(
     ensures stop { IfErr result (IsStopOf (scan_at S.step numbers.now items 1) (length numbers.now)) }
 {
     if items == numbers.len() && !workers.pool().is_shared(items) {
-        if let Some(values) = put_line::<S>(workers.alloc(), numbers)? {
+        if let Some(values) = put_line::<S, W>(workers, numbers)? {
             return Ok(values);
         }
     }
