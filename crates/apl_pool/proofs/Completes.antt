@@ -18,11 +18,15 @@ module _ {T : Type 0} (outcome : ℕ → Result T Fault) where
   AreValuesAt-kept from to low high old new kept beside all k d above below =
       all k d above below ∙ ap Ok (sym (kept k d (⊎_elim (λ before. inl (omega arith)) (λ behind. inr (omega arith)) beside)))
 
+  -- values are written behind those of a list that was made longer, and no others are changed
+  pub AreValuesAt-then : (mid next to : ℕ) (old now new : List T) → next ≡ mid → ((k : ℕ) (d : T) → k < mid → get_or now k d ≡ get_or old k d)
+      → ((k : ℕ) (d : T) → (k < next) ⊎ (to ≤ k) → get_or new k d ≡ get_or now k d) → AreValuesAt outcome 0 mid old → AreValuesAt outcome next to new
+      → AreValuesAt outcome 0 to new
+  AreValuesAt-then mid next to old now new here longer kept before piece =
+      AreValuesAt-append 0 next to new (λ k d low below. before k d low (omega arith) ∙ ap Ok (sym (kept k d (inl below) ∙ longer k d (omega arith)))) piece
+
   pub AreWritten-from_at : (to : ℕ) (values : List T) → to ≤ length values → AreValuesAt outcome 0 to values → AreWritten outcome 0 to values
   AreWritten-from_at to values long all = record { room = omega arith; each = λ k d h. let same : 0 + k ≡ k = omega arith in ap outcome same ∙ all k d (omega arith) (omega arith) }
-
-  pub AreValuesFrom-from_at : (count : ℕ) (values : List T) → length values ≡ count → AreValuesAt outcome 0 count values → AreValuesFrom outcome 0 count values
-  AreValuesFrom-from_at count values long all = record { len = omega arith; each = λ k d h. let same : 0 + k ≡ k = omega arith in ap outcome same ∙ all k d (omega arith) (omega arith) }
 
   -- the values of a part stand there in the whole
   pub AreValuesAt-from_range : (from to : ℕ) (values : List T) → from ≤ to → to ≤ length values → AreValuesFrom outcome from to (slice_range values from to) → AreValuesAt outcome from to values

@@ -1,5 +1,5 @@
 -- The right of some workers to the rooms and the board of a pass. No contract of a public function cites this file.
-use Rattle.std.specs.Prelude.{◌≡◌, ℕ, ℤ, ◌+◌, ◌<◌, ◌≤◌, List, Bool, true, false, length, replicate, slice_index_or, slice_range, Option, IfSome}
+use Rattle.std.specs.Prelude.{◌≡◌, ℕ, ◌+◌, ◌<◌, ◌≤◌, List, Bool, true, false, length, slice_index_or, slice_range, Option, IfSome}
 use denote.RattleType.{RattleType}
 use Rattle.apl_board.specs.declared.board.Board.{Board}
 use Rattle.apl_board.specs.declared.seat.BoardSeat.{BoardSeat}
@@ -8,7 +8,7 @@ use Rattle.apl_rooms.specs.declared.rooms.Rooms.{Rooms}
 use Rattle.apl_rooms.specs.Seats.{share_of, task_of, row_of, laid_out, IsSeatOf as IsRoomSeatOf}
 use Rattle.apl_rooms.specs.Layout.{AreRoomsOf}
 use Rattle.apl_pool.specs.declared.crew.Seats.{Seats}
-use Rattle.apl_pool.specs.declared.pass.PassOutput.{PassOutput}
+use Rattle.std.specs.declared.vec.Vec.{Vec}
 
 -- the seats of some workers
 abbrev pub AreSeatsOf : {X F : Type 0} → Rooms X F → Board → Seats X → ℕ → Type 0
@@ -38,10 +38,6 @@ AreMarks is_right start count values marks = (length marks ≡ count) × ((n : �
 abbrev pub AreMarksOf : {X F : Type 0} → (F → ℕ → List X → Type 0) → (F → ℕ → ℕ) → (F → ℕ) → F → List X → List Bool → Type 0
 AreMarksOf is_right start count task = AreMarks (is_right task) (start task) (count task)
 
--- what a pass brings, if anything, has the marks of these values
-abbrev pub HasMarks : {X F : Type 0} → (F → ℕ → List X → Type 0) → (F → ℕ → ℕ) → (F → ℕ) → F → List X → Option PassOutput → Type 0
-HasMarks is_right start count task values brought = IfSome brought (λ b. AreMarksOf is_right start count task values b.marks.items)
-
--- what a pass brings, if anything, has `count` copies of this number
-abbrev pub HasCopies : (count : ℕ) → ℤ → Option PassOutput → Type 0
-HasCopies count number brought = IfSome brought (λ b. b.copies.items ≡ replicate count number)
+-- the marks that a pass brings, if any, are those of these values
+abbrev pub HasMarks : {X F : Type 0} → (F → ℕ → List X → Type 0) → (F → ℕ → ℕ) → (F → ℕ) → {Z : Type 0} → F → List X → Option (Vec Bool Z) → Type 0
+HasMarks is_right start count task values brought = IfSome brought (λ b. AreMarksOf is_right start count task values b.items)

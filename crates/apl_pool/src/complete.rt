@@ -4,7 +4,6 @@ ghost use Rattle.apl_pool.specs.declared.kernel.TheConstants.{MOST_PLACES};
 ghost use Rattle.apl_pool.specs.Parts.{AreValuesFrom, AreValuesOfPiece, AreValuesAt, IsStopFrom};
 ghost use Rattle.apl_pool.specs.Crew.{AreMarks};
 
-use crate::copies::Copies;
 use crate::gate::Gate;
 use crate::kernel::{Kernel, Stop};
 use crate::pass::{Pass, fill_rooms};
@@ -80,6 +79,6 @@ where
 {
     let pieces = pass.shares.pieces();
     let task = Values { kernel, pieces };
-    let brought = fill_rooms(pass, &task, values, Copies::none(pass.alloc))?;
-    complete(kernel, pass.gate, pieces, brought.marks.as_slice(), values)
+    let marks = fill_rooms(pass, &task, values)?;
+    complete(kernel, pass.gate, pieces, marks.as_slice(), values)
 }

@@ -1,11 +1,10 @@
 //! What several workers do at once: the first in this thread, and each other one in a thread of its own. This thread starts all
 //! of them, since a thread that has only just begun tends to share its processor with those that it starts.
 ghost use Rattle.std.specs.Thread.{IsSync};
-ghost use Rattle.std.specs.Prelude.{◌≡◌, ◌+◌, ◌-◌, ◌<◌, ◌≤◌, ◌*◌, replicate};
+ghost use Rattle.std.specs.Prelude.{◌≡◌, ◌+◌, ◌-◌, ◌<◌, ◌≤◌, ◌*◌};
 ghost use Rattle.apl_board.specs.Seats.{view, IsSeatOf};
 ghost use Rattle.apl_pool.specs.Crew.{AreSeatsOf, AreRoomsFor, AreReady, IsCrew};
 
-use crate::copies::Copies;
 use crate::ends::Ends;
 use crate::gate::Gate;
 use crate::shares::Shares;
@@ -13,12 +12,11 @@ use apl_board::{Board, BoardSeat};
 use apl_rooms::{Filled, RoomSeat, Rooms, Task};
 use std::thread::{Threads, join};
 
-/// The seats of some workers, at the rooms of all pieces and at the board, and the copies that they wrote.
+/// The seats of some workers, at the rooms of all pieces and at the board.
 #[derive(Drop)]
 pub(crate) struct Seats<T> {
     pub rooms: RoomSeat<T>,
     pub board: BoardSeat,
-    pub copies: Vec<i64>,
 }
 
 /// The number of the next piece: from the worker's deques if it has some, else from the board.
@@ -92,26 +90,23 @@ fn split_one<T, F: Task<T>>(
     ensures rest { AreSeatsOf rooms.now board.now result.0 (share - 1) }
     ensures one { AreSeatsOf rooms.now board.now result.1 1 }
 {
-    let none = Vec::new(*seats.copies.allocator());
     let (rest, one) = rooms.split(seats.rooms);
     match board.split(seats.board, 1) {
         Ok((others, own)) => (
             Seats {
                 rooms: rest,
                 board: others,
-                copies: seats.copies,
             },
             Seats {
                 rooms: one,
                 board: own,
-                copies: none,
             },
         ),
         Err(_) => unreachable!(),
     }
 }
 
-/// The seats of both, and the copies of the rest.
+/// The seats of both.
 fn join_seats<T, F: Task<T>>(
     rooms: &Rooms<T, F>,
     board: &Board,
@@ -122,17 +117,15 @@ fn join_seats<T, F: Task<T>>(
     requires share { 0 < share }
     requires rest { AreSeatsOf rooms.now board.now rest (share - 1) }
     requires one { AreSeatsOf rooms.now board.now one 1 }
-    ensures seats { AreSeatsOf rooms.now board.now result share }
-    ensures copies { result.copies ≡ rest.copies }
+    ensures { AreSeatsOf rooms.now board.now result share }
 {
     Seats {
         rooms: rooms.join(rest.rooms, one.rooms),
         board: board.join(rest.board, one.board),
-        copies: rest.copies,
     }
 }
 
-/// What the first `workers` workers do, each with its own ends of the deques if there are some. The first worker writes the copies before.
+/// What the first `workers` workers do, each with its own ends of the deques if there are some.
 #[cycle(crew)]
 pub(crate) fn work_together<T: Send, R: Threads + Sync, F: Task<T> + Sync, G: Gate + Sync>(
     rt: &R,
@@ -144,28 +137,20 @@ pub(crate) fn work_together<T: Send, R: Threads + Sync, F: Task<T> + Sync, G: Ga
     workers: u8,
     ends: Vec<Ends>,
     seats: Seats<T>,
-    copies: Copies,
 ) -> Seats<T>
     requires some { 0 < workers }
     requires within { workers ≤ shares.now.tasks }
     requires rooms { AreRoomsFor T.row F.start_of F.piece_count rooms.now task.now }
     requires pieces { F.piece_count task.now ≡ shares.now.rows * shares.now.pieces.count }
     requires seats { AreSeatsOf rooms.now board.now seats workers }
-    ensures seats { AreSeatsOf rooms.now board.now result workers }
-    ensures copies { result.copies.items ≡ replicate copies.count copies.number }
+    ensures { AreSeatsOf rooms.now board.now result workers }
 {
     let mut ends = ends;
     let own = ends.pop();
     let others = workers - 1;
     let worker = shares.share(others as usize).worker;
     if others == 0 {
-        let copies = copies.written();
-        let seats = work(rooms, board, task, gate, shares, worker, own, seats);
-        return Seats {
-            rooms: seats.rooms,
-            board: seats.board,
-            copies,
-        };
+        return work(rooms, board, task, gate, shares, worker, own, seats);
     }
     let (rest, one) = split_one(rooms, board, seats, workers);
     let last = move || -> Seats<T>
@@ -175,12 +160,8 @@ pub(crate) fn work_together<T: Send, R: Threads + Sync, F: Task<T> + Sync, G: Ga
     let before = move || -> Seats<T>
         requires { IsSync R.row × IsSync F.row × IsSync G.row
             × IsCrew T.row F.start_of F.piece_count rooms.now task.now board.now (shares.now.rows * shares.now.pieces.count) rest others shares.now.tasks }
-        ensures { AreSeatsOf rooms.entry.now board.entry.now result others × (result.copies.items ≡ replicate copies.count copies.number) }
-    {
-        work_together(
-            rt, rooms, board, task, gate, shares, others, ends, rest, copies,
-        )
-    };
+        ensures { AreSeatsOf rooms.entry.now board.entry.now result others }
+    { work_together(rt, rooms, board, task, gate, shares, others, ends, rest) };
     let (one, rest) = join(rt, last, before);
     join_seats(rooms, board, rest, one, workers)
 }

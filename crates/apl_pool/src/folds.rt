@@ -1,11 +1,10 @@
 //! What a worker does with its share of a fold: the items at its places are summarized.
-ghost use Rattle.std.specs.Prelude.{◌≡◌, ℕ, ◌+◌, ◌-◌, ◌*◌, ◌<◌, ◌≤◌, true, Result, None, IfOk, length, replicate, slice_index, slice_index_or, slice_set, vec_len, vec_capacity};
+ghost use Rattle.std.specs.Prelude.{◌≡◌, ℕ, ◌+◌, ◌-◌, ◌*◌, ◌<◌, ◌≤◌, true, Result, None, IfOk, length, slice_index, slice_index_or, slice_set, vec_len, vec_capacity};
 ghost use Rattle.apl_pool.specs.declared.kernel.TheConstants.{MOST_PLACES};
 ghost use Rattle.apl_pool.specs.declared.summary.TheConstants.{LONGEST_RUN};
 ghost use Rattle.apl_pool.specs.Folds.{items_in, IsFolded, IsFoldedPart, IsJoined, ArePartsOf, ArePartsOfRow};
 ghost use Rattle.apl_pool.specs.Summaries.{AreFolds};
 
-use crate::copies::Copies;
 use crate::cut::Cut;
 use crate::gate::Gate;
 use crate::kernel::{Kernel, Stop};
@@ -185,7 +184,7 @@ fn join_parts<S: Summary + Drop, K: Kernel<Out = S::Item>, G: Gate>(
     Ok(folded)
 }
 
-/// The summaries of all rows, one after the other, put into the room for them, and the copies beside them.
+/// The summaries of all rows, one after the other, put into the room for them.
 fn join_rows<S: Summary + Drop, K: Rows<Out = S::Item>, G: Gate>(
     rows: &K,
     gate: &G,
@@ -193,7 +192,6 @@ fn join_rows<S: Summary + Drop, K: Rows<Out = S::Item>, G: Gate>(
     marks: &[bool],
     parts: &mut [Option<S>],
     room: Vec<S>,
-    copies: Vec<i64>,
 ) -> RowSummaries<S>
     requires some { 0 < K.place_count rows.now }
     requires places { pieces.now.places ≡ K.place_count rows.now }
@@ -203,8 +201,7 @@ fn join_rows<S: Summary + Drop, K: Rows<Out = S::Item>, G: Gate>(
     requires right { ArePartsOf S.step S.item_count S.outcome (K.outcome rows.now) (K.row_count rows.now) pieces.now.count (slice_index pieces.now.starts.items) marks.now parts.old }
     requires empty { vec_len room ≡ 0 }
     requires room { K.row_count rows.now ≤ vec_capacity room }
-    ensures folds { AreFolds S.step S.item_count S.outcome (K.outcome rows.now) (K.row_count rows.now) (K.place_count rows.now) result.summaries.items result.end }
-    ensures copies { result.copies ≡ copies }
+    ensures { AreFolds S.step S.item_count S.outcome (K.outcome rows.now) (K.row_count rows.now) (K.place_count rows.now) result.summaries.items result.end }
 {
     let mut summaries = room;
     let count = rows.rows();
@@ -216,7 +213,6 @@ fn join_rows<S: Summary + Drop, K: Rows<Out = S::Item>, G: Gate>(
                 return RowSummaries {
                     summaries,
                     end: Err(stop),
-                    copies,
                 };
             }
         }
@@ -224,11 +220,10 @@ fn join_rows<S: Summary + Drop, K: Rows<Out = S::Item>, G: Gate>(
     RowSummaries {
         summaries,
         end: Ok(()),
-        copies,
     }
 }
 
-/// The summaries of all rows, by one worker who has all pieces, and the copies beside them. The first piece of each row ends at `end`.
+/// The summaries of all rows, by one worker who has all pieces. The first piece of each row ends at `end`.
 pub(crate) fn fold_rows_alone<S: Summary + Drop, K: Rows<Out = S::Item>, C: Cut, G: Gate>(
     rows: &K,
     cut: &C,
@@ -236,14 +231,12 @@ pub(crate) fn fold_rows_alone<S: Summary + Drop, K: Rows<Out = S::Item>, C: Cut,
     worker: u8,
     end: usize,
     room: Vec<S>,
-    copies: Vec<i64>,
 ) -> RowSummaries<S>
     requires some { 0 < end }
     requires within { end ≤ K.place_count rows.now }
     requires empty { vec_len room ≡ 0 }
     requires room { K.row_count rows.now ≤ vec_capacity room }
-    ensures folds { AreFolds S.step S.item_count S.outcome (K.outcome rows.now) (K.row_count rows.now) (K.place_count rows.now) result.summaries.items result.end }
-    ensures copies { result.copies ≡ copies }
+    ensures { AreFolds S.step S.item_count S.outcome (K.outcome rows.now) (K.row_count rows.now) (K.place_count rows.now) result.summaries.items result.end }
 {
     let mut summaries = room;
     for row in 0..rows.rows() {
@@ -254,7 +247,6 @@ pub(crate) fn fold_rows_alone<S: Summary + Drop, K: Rows<Out = S::Item>, C: Cut,
                 return RowSummaries {
                     summaries,
                     end: Err(stop),
-                    copies,
                 };
             }
         }
@@ -262,7 +254,6 @@ pub(crate) fn fold_rows_alone<S: Summary + Drop, K: Rows<Out = S::Item>, C: Cut,
     RowSummaries {
         summaries,
         end: Ok(()),
-        copies,
     }
 }
 
@@ -278,7 +269,7 @@ fn no_parts<S: Drop>(alloc: Global, count: usize) -> Result<Vec<Option<S>>, Allo
 }
 
 /// The summaries of all rows, by several workers, who put one of each piece into a list of as many parts. Then those of each row are
-/// joined. The first worker writes the copies before.
+/// joined.
 fn fold_into_parts<
     R: Threads + Sync,
     S: Summary + Drop + Send,
@@ -289,7 +280,6 @@ fn fold_into_parts<
     rows: &K,
     parts: &mut [Option<S>],
     room: Vec<S>,
-    copies: Copies,
 ) -> Result<RowSummaries<S>, AllocError>
     requires some { 0 < K.place_count rows.now }
     requires rows { pass.now.shares.now.rows ≡ K.row_count rows.now }
@@ -297,40 +287,28 @@ fn fold_into_parts<
     requires parts { K.row_count rows.now * pass.now.shares.now.pieces.count ≡ length parts.old }
     requires empty { vec_len room ≡ 0 }
     requires room { K.row_count rows.now ≤ vec_capacity room }
-    ensures folds { IfOk result (λ f. AreFolds S.step S.item_count S.outcome (K.outcome rows.now) (K.row_count rows.now) (K.place_count rows.now) f.summaries.items f.end) }
-    ensures copies { IfOk result (λ f. f.copies.items ≡ replicate copies.count copies.number) }
+    ensures { IfOk result (λ f. AreFolds S.step S.item_count S.outcome (K.outcome rows.now) (K.row_count rows.now) (K.place_count rows.now) f.summaries.items f.end) }
 {
     let pieces = pass.shares.pieces();
     let task = Summaries { rows, pieces };
-    let brought = fill_rooms(pass, &task, parts, copies)?;
-    let marks = brought.marks;
-    let copies = brought.copies;
-    Ok(join_rows(
-        rows,
-        pass.gate,
-        pieces,
-        marks.as_slice(),
-        parts,
-        room,
-        copies,
-    ))
+    let marks = fill_rooms(pass, &task, parts)?;
+    Ok(join_rows(rows, pass.gate, pieces, marks.as_slice(), parts, room))
 }
 
-/// The summaries of all rows, by several workers, of whom the first writes the copies before.
+/// The summaries of all rows, by several workers.
 pub(crate) fn fold_rows_together<
     R: Threads + Sync,
     S: Summary + Drop + Send,
     K: Rows<Out = S::Item> + Sync,
     G: Gate + Sync,
->(pass: &Pass<R, G>, rows: &K, room: Vec<S>, copies: Copies) -> Result<RowSummaries<S>, AllocError>
+>(pass: &Pass<R, G>, rows: &K, room: Vec<S>) -> Result<RowSummaries<S>, AllocError>
     requires some { 0 < K.place_count rows.now }
     requires rows { pass.now.shares.now.rows ≡ K.row_count rows.now }
     requires places { pass.now.shares.now.pieces.places ≡ K.place_count rows.now }
     requires empty { vec_len room ≡ 0 }
     requires room { K.row_count rows.now ≤ vec_capacity room }
-    ensures folds { IfOk result (λ f. AreFolds S.step S.item_count S.outcome (K.outcome rows.now) (K.row_count rows.now) (K.place_count rows.now) f.summaries.items f.end) }
-    ensures copies { IfOk result (λ f. f.copies.items ≡ replicate copies.count copies.number) }
+    ensures { IfOk result (λ f. AreFolds S.step S.item_count S.outcome (K.outcome rows.now) (K.row_count rows.now) (K.place_count rows.now) f.summaries.items f.end) }
 {
     let mut parts = no_parts(pass.alloc, pass.shares.count())?;
-    fold_into_parts(pass, rows, parts.as_mut_slice(), room, copies)
+    fold_into_parts(pass, rows, parts.as_mut_slice(), room)
 }

@@ -2,7 +2,7 @@
 //!
 //! Room that is made anew is written twice, first by one thread and then by those who know the values. What is in a kept list changes
 //! no answer.
-ghost use Rattle.std.specs.Prelude.{◌≡◌, ◌≤◌, true, IfSome, vec_len};
+ghost use Rattle.std.specs.Prelude.{◌≡◌, ◌<◌, ◌≤◌, true, IfSome, vec_len};
 
 use std::cell::Cell;
 
@@ -18,7 +18,8 @@ pub struct KeptList {
 
 /// Whether a list has at least `count` numbers, which are many, and room for few more.
 fn is_for(list: &Vec<i64>, count: usize) -> bool
-    ensures { result ≡ true → count ≤ vec_len list.now }
+    ensures within { result ≡ true → count ≤ vec_len list.now }
+    ensures some { result ≡ true → 0 < count }
 {
     count >= LEAST_KEPT && count <= list.len() && list.capacity() - count <= count / 8
 }
@@ -44,17 +45,10 @@ impl KeptList {
         }
     }
 
-    /// Whether a list is kept that `fill` would write `count` numbers over.
-    pub fn has(&self, count: usize) -> bool {
-        let list = self.list.replace(None);
-        let is_there = matches!(&list, Some(list) if is_for(list, count));
-        self.list.set(list);
-        is_there
-    }
-
     /// The list that is kept, cut to `count` numbers, if it has as many and room for few more.
     fn take(&self, count: usize) -> Option<Vec<i64>>
-        ensures { IfSome result (λ list. vec_len list ≡ count) }
+        ensures len { IfSome result (λ list. vec_len list ≡ count) }
+        ensures some { IfSome result (λ list. 0 < vec_len list) }
     {
         let mut list = self.list.replace(None)?;
         if !is_for(&list, count) {
@@ -80,11 +74,12 @@ impl KeptList {
 
 /// A type of values of which a pool may keep a list.
 pub trait Reused: Copy {
-    ghost use Rattle.std.specs.Prelude.{◌≡◌, IfSome, vec_len};
+    ghost use Rattle.std.specs.Prelude.{◌≡◌, ◌<◌, IfSome, vec_len};
 
     /// A list of `count` values to be written over, if one is kept.
     fn reused(_kept: &KeptList, _count: usize) -> Option<Vec<Self>>
-        ensures { IfSome result (λ list. vec_len list ≡ _count) }
+        ensures len { IfSome result (λ list. vec_len list ≡ _count) }
+        ensures some { IfSome result (λ list. 0 < vec_len list) }
     {
         None
     }

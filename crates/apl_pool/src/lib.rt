@@ -9,7 +9,6 @@
 #![tactic(auto)]
 
 mod complete;
-mod copies;
 mod crew;
 mod cut;
 mod ends;

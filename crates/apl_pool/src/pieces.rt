@@ -1,5 +1,5 @@
 //! The pieces of a pass.
-ghost use Rattle.std.specs.Prelude.{◌≡◌, ℕ, ◌+◌, ◌-◌, ◌<◌, ◌≤◌, IfOk, slice_index, vec_len};
+ghost use Rattle.std.specs.Prelude.{◌≡◌, ℕ, ◌+◌, ◌-◌, ◌<◌, ◌≤◌, max, IfOk, slice_index, vec_len};
 ghost use Rattle.apl_pool.specs.declared.kernel.TheConstants.{MOST_PLACES};
 ghost use Rattle.apl_pool.specs.Parts.{AreBounds};
 
@@ -26,15 +26,15 @@ pub(crate) struct Piece {
 }
 
 impl Piece {
-    /// This piece and those after it, up to before the next one.
-    pub(crate) fn up_to(self, next: Piece) -> Piece
+    /// The places of this piece and of those after it up to before the next one, but the first `done` places.
+    pub(crate) fn between(self, done: usize, next: Piece) -> Piece
         ensures number { result.number ≡ self.number }
-        ensures from { result.from ≡ self.from }
+        ensures from { result.from ≡ max self.from done }
         ensures to { result.to ≡ next.from }
     {
         Piece {
             number: self.number,
-            from: self.from,
+            from: self.from.max(done),
             to: next.from,
         }
     }

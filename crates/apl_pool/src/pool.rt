@@ -1,13 +1,12 @@
 //! The pool: how many workers there are, how the places are cut, and what a worker passes before each piece.
-ghost use Rattle.std.specs.Prelude.{◌≡◌, ℕ, ◌+◌, ◌<◌, ◌≤◌, ◌⊎◌, false, List, [], IfOk, IfSome, OnOk, IfErr, length, replicate, vec_len};
+ghost use Rattle.std.specs.Prelude.{◌≡◌, ℕ, ◌<◌, ◌≤◌, false, List, Ok, IfOk, IfErr, vec_len};
 ghost use Rattle.apl_pool.specs.declared.kernel.TheConstants.{MOST_PLACES};
 ghost use Rattle.apl_pool.specs.declared.pool.TheConstants.{MOST_WORKERS};
 ghost use Rattle.apl_pool.specs.Pool.{AreValues, IsStopOf};
-ghost use Rattle.apl_pool.specs.Parts.{AreValuesFrom, IsStopFrom};
+ghost use Rattle.apl_pool.specs.Parts.{AreValuesAt};
 ghost use Rattle.apl_pool.specs.Summaries.{IsSummaryOf, AreFolds};
 
 use crate::complete::fill_values;
-use crate::copies::Copies;
 use crate::cut::Cut;
 use crate::folds::{fold_rows_alone, fold_rows_together};
 use crate::gate::Gate;
@@ -19,15 +18,12 @@ use crate::rows::{OneRow, RowSummaries, Rows};
 use crate::schedule::Schedule;
 use crate::shares::Shares;
 use crate::summary::Summary;
-use crate::work::{append_all, write_all};
+use crate::work::{extend_to, write_all};
 use std::alloc::{AllocError, Global};
 use std::thread::Threads;
 
 /// The most workers.
 pub const MOST_WORKERS: u8 = 64;
-
-/// The most places for which room is taken before any value is computed.
-const MOST_UNTRIED: usize = 1 << 16;
 
 /// Workers, a cutting and a gate, and the list that was let go last.
 #[derive(Drop)]
@@ -83,8 +79,8 @@ impl<C: Cut + Sync, G: Gate + Sync> Pool<C, G> {
     ///
     /// Let there be p pieces and m workers, counted from 0. Under `Deques` worker w begins with those
     /// from w × p / m up to before (w + 1) × p / m, rounded down. No more workers get a thread than there are
-    /// pieces, and one piece or one worker needs none. A fault at place 0 of more than 65,536 places is found
-    /// before the places are cut and room is taken.
+    /// pieces, and one piece or one worker needs none. A fault at place 0 is found before the places are cut
+    /// and room is taken.
     pub fn fill<R: Threads + Sync, K: Kernel + Sync>(
         &self,
         rt: &R,
@@ -100,63 +96,45 @@ impl<C: Cut + Sync, G: Gate + Sync> Pool<C, G> {
         if count == 0 {
             return Ok(Vec::new(alloc));
         }
-        let end = piece_end(&self.cut, 0, count);
-        if self.workers == 1 || end == count {
-            if count > MOST_UNTRIED {
-                first_value(kernel)?;
-            }
-            let last = self.workers - 1;
-            return append_all(alloc, kernel, &self.cut, &self.gate, last, end);
-        }
-        let value = first_value(kernel)?;
-        let values = vec![in alloc; value; count]?;
-        self.fill_into(rt, alloc, kernel, values)
+        let first = first_value(kernel)?;
+        let mut values = Vec::with_capacity(alloc, count)?;
+        values.push_reserved(first);
+        self.fill_into(rt, alloc, kernel, values, 1)
     }
 
-    /// As `fill`, but the values are written over those of a list of the same length.
-    pub fn fill_into<R: Threads + Sync, K: Kernel + Sync>(
+    /// As `fill`, but the values are written over those of a list, which is made longer if it is too short. The values at the first `done`
+    /// places are there already.
+    pub(crate) fn fill_into<R: Threads + Sync, K: Kernel + Sync>(
         &self,
         rt: &R,
         alloc: Global,
         kernel: &K,
         values: Vec<K::Out>,
+        done: usize,
     ) -> Result<Vec<K::Out>, Stop>
     where
         K::Out: Copy + Send,
-        requires room { vec_len values ≡ K.place_count kernel.now }
+        requires some { 0 < vec_len values }
+        requires most { vec_len values ≤ K.place_count kernel.now }
+        requires few { done ≤ 1 }
+        requires done { AreValuesAt (K.outcome kernel.now) 0 done values.items }
         ensures values { IfOk result (λ v. AreValues (K.outcome kernel.now) (K.place_count kernel.now) v.items) }
         ensures stop { IfErr result (IsStopOf (K.outcome kernel.now) (K.place_count kernel.now)) }
     {
-        let mut values = values;
-        self.write_over(rt, alloc, kernel, values.as_mut_slice())?;
-        Ok(values)
-    }
-
-    /// Writes the values at all places over those of a list.
-    fn write_over<R: Threads + Sync, K: Kernel + Sync>(
-        &self,
-        rt: &R,
-        alloc: Global,
-        kernel: &K,
-        values: &mut [K::Out],
-    ) -> Result<(), Stop>
-    where
-        K::Out: Copy + Send,
-        requires room { length values.old ≡ K.place_count kernel.now }
-        ensures ok { OnOk result (AreValuesFrom (K.outcome kernel.now) 0 (K.place_count kernel.now) values.new) }
-        ensures stop { IfErr result (IsStopFrom (K.outcome kernel.now) 0 (K.place_count kernel.now)) }
-        ensures len { length values.new ≡ length values.old }
-    {
         let count = kernel.count();
-        if count == 0 {
-            return Ok(());
-        }
         let end = piece_end(&self.cut, 0, count);
         if self.workers == 1 || end == count {
-            return write_all(kernel, &self.cut, &self.gate, self.workers - 1, end, values);
+            let last = self.workers - 1;
+            return write_all(kernel, &self.cut, &self.gate, last, end, values, done);
         }
+        let mut values = extend_to(values, count)?;
         let shares = Shares::new(alloc, &self.cut, 1, count, end, self.workers)?;
-        fill_values(&self.pass(rt, alloc, &shares), kernel, values)
+        fill_values(
+            &self.pass(rt, alloc, &shares),
+            kernel,
+            values.as_mut_slice(),
+        )?;
+        Ok(values)
     }
 
     /// The summary of the items at all places, in their order, or the least place that has a fault, and
@@ -196,54 +174,34 @@ impl<C: Cut + Sync, G: Gate + Sync> Pool<C, G> {
         requires some { 0 < K.place_count rows.now }
         ensures { AreFolds S.step S.item_count S.outcome (K.outcome rows.now) (K.row_count rows.now) (K.place_count rows.now) result.summaries.items result.end }
     {
-        self.fold_rows_beside(rt, alloc, rows, 0, 0)
-    }
-
-    /// As `fold_rows`, but if several workers share the pieces there are `count` copies of a number too. The first worker writes them
-    /// before it takes a piece, while the others fold.
-    pub fn fold_rows_beside<
-        R: Threads + Sync,
-        S: Summary + Drop + Send,
-        K: Rows<Out = S::Item> + Sync,
-    >(&self, rt: &R, alloc: Global, rows: &K, number: i64, count: usize) -> RowSummaries<S>
-        requires some { 0 < K.place_count rows.now }
-        ensures folds { AreFolds S.step S.item_count S.outcome (K.outcome rows.now) (K.row_count rows.now) (K.place_count rows.now) result.summaries.items result.end }
-        ensures copies { (result.copies.items ≡ []) ⊎ (result.copies.items ≡ replicate count number) }
-    {
-        match self.fold_pieces(rt, alloc, rows, number, count) {
+        match self.fold_pieces(rt, alloc, rows) {
             Ok(folds) => folds,
             Err(AllocError) => RowSummaries {
                 summaries: Vec::new(alloc),
                 end: Err(Stop::Memory),
-                copies: Vec::new(alloc),
             },
         }
     }
 
-    /// What `fold_rows_beside` answers if there is memory.
+    /// What `fold_rows` answers if there is memory.
     fn fold_pieces<R: Threads + Sync, S: Summary + Drop + Send, K: Rows<Out = S::Item> + Sync>(
         &self,
         rt: &R,
         alloc: Global,
         rows: &K,
-        number: i64,
-        count: usize,
     ) -> Result<RowSummaries<S>, AllocError>
         requires some { 0 < K.place_count rows.now }
-        ensures folds { IfOk result (λ f. AreFolds S.step S.item_count S.outcome (K.outcome rows.now) (K.row_count rows.now) (K.place_count rows.now) f.summaries.items f.end) }
-        ensures copies { IfOk result (λ f. (f.copies.items ≡ []) ⊎ (f.copies.items ≡ replicate count number)) }
+        ensures { IfOk result (λ f. AreFolds S.step S.item_count S.outcome (K.outcome rows.now) (K.row_count rows.now) (K.place_count rows.now) f.summaries.items f.end) }
     {
         let (row_count, places) = (rows.rows(), rows.count());
         let room = Vec::with_capacity(alloc, row_count)?;
         let end = piece_end(&self.cut, 0, places);
         if self.workers == 1 || row_count == 0 || (row_count == 1 && end == places) {
             let last = self.workers - 1;
-            let none = Vec::new(alloc);
-            return Ok(fold_rows_alone(rows, &self.cut, &self.gate, last, end, room, none));
+            return Ok(fold_rows_alone(rows, &self.cut, &self.gate, last, end, room));
         }
         let shares = Shares::new(alloc, &self.cut, row_count, places, end, self.workers)?;
-        let copies = Copies::with_room(alloc, number, count)?;
-        fold_rows_together(&self.pass(rt, alloc, &shares), rows, room, copies)
+        fold_rows_together(&self.pass(rt, alloc, &shares), rows, room)
     }
 
     /// A pass of several workers who have these shares.
@@ -260,10 +218,11 @@ impl<C: Cut + Sync, G: Gate + Sync> Pool<C, G> {
     }
 }
 
-/// The value at the first place. It is computed again with its piece.
+/// The value at the first place.
 fn first_value<K: Kernel>(kernel: &K) -> Result<K::Out, Stop>
     requires { 0 < K.place_count kernel.now }
-    ensures { IfErr result (IsStopOf (K.outcome kernel.now) (K.place_count kernel.now)) }
+    ensures value { IfOk result (λ value. K.outcome kernel.now 0 ≡ Ok value) }
+    ensures stop { IfErr result (IsStopOf (K.outcome kernel.now) (K.place_count kernel.now)) }
 {
     match kernel.at(0) {
         Ok(value) => Ok(value),

@@ -90,13 +90,11 @@ impl<X, K: Kernel<Out = X>> Rows for OneRow<'_, K> {
     }
 }
 
-/// The summaries of the rows before the first that has none, why that has none, and the copies beside them.
+/// The summaries of the rows before the first that has none, and why that has none.
 #[derive(Drop)]
 pub struct RowSummaries<S> {
     /// The summaries of the rows from the first on.
     pub summaries: Vec<S>,
     /// `Ok` if each row has one.
     pub end: Result<(), Stop>,
-    /// The copies of a number that were asked for, if several workers shared the pieces, else none.
-    pub copies: Vec<i64>,
 }

@@ -1,5 +1,5 @@
 //! What a worker does with a piece and with its share: it writes the values into the room for them.
-ghost use Rattle.std.specs.Prelude.{◌≡◌, ℕ, ◌+◌, ◌<◌, ◌≤◌, ◌^◌, ◌⊎◌, OnOk, IfOk, IfErr, length, slice_index, slice_index_or, vec_len};
+ghost use Rattle.std.specs.Prelude.{◌≡◌, ℕ, ◌+◌, ◌<◌, ◌≤◌, ◌^◌, ◌⊎◌, max, OnOk, IfOk, IfErr, length, slice_index, slice_index_or, vec_len};
 ghost use Rattle.apl_pool.specs.Parts.{AreValuesFrom, AreValuesAt, IsStopFrom, IsPart};
 ghost use Rattle.apl_pool.specs.Runs.{AreWritten};
 
@@ -7,9 +7,10 @@ use crate::cut::Cut;
 use crate::gate::Gate;
 use crate::kernel::{Fault, Kernel, MOST_PLACES, Stop};
 use crate::pieces::{Piece, piece_end};
-use std::alloc::Global;
+use std::alloc::AllocError;
 
-/// The most places that one worker makes room for at once. As many numbers are still in a processor's cache when they are written over.
+/// The most places that one worker makes room for at once, unless a piece has more. As many numbers are still in a processor's cache when
+/// they are written over.
 const STRETCH: usize = 32_768;
 
 /// The stop at a place that has a fault.
@@ -76,6 +77,7 @@ where
 }
 
 /// Puts the values of a piece into the room for them.
+#[inline(never)]
 pub(crate) fn write_piece<K: Kernel>(
     kernel: &K,
     piece: Piece,
@@ -114,59 +116,16 @@ where
     write_piece(kernel, piece, &mut values[piece.from..piece.to])
 }
 
-/// Puts the values of some more places of a piece after those of all places before. They are of the first place alone, or of a stretch of
-/// places, which is made full of the last value and then written over.
-fn append_stretch<K: Kernel>(
-    kernel: &K,
-    piece: Piece,
-    values: Vec<K::Out>,
-) -> Result<Vec<K::Out>, Stop>
-where
-    K::Out: Copy,
-    requires some { vec_len values < piece.to }
-    requires places { piece.to ≤ K.place_count kernel.now }
-    requires most { piece.to ≤ MOST_PLACES }
-    requires before { AreValuesFrom (K.outcome kernel.now) 0 (vec_len values) values.items }
-    ensures more { IfOk result (λ all. vec_len values < vec_len all) }
-    ensures within { IfOk result (λ all. vec_len all ≤ piece.to) }
-    ensures values { IfOk result (λ all. AreValuesFrom (K.outcome kernel.now) 0 (vec_len all) all.items) }
-    ensures stop { IfErr result (IsStopFrom (K.outcome kernel.now) 0 piece.to) }
-{
-    let from = values.len();
-    let mut all = values;
-    if from == 0 {
-        match kernel.at(0) {
-            Ok(value) => all.resize(1, value)?,
-            Err(fault) => return Err(stop_at(0, fault)),
-        }
-        return Ok(all);
-    }
-    let number = piece.number;
-    let to = from + (piece.to - from).min(STRETCH);
-    let value = all[from - 1];
-    all.resize(to, value)?;
-    write_piece(kernel, Piece { number, from, to }, &mut all[from..])?;
-    Ok(all)
-}
-
-/// Puts the values of a piece, or of several, after those of all places before.
-fn append_piece<K: Kernel>(
-    kernel: &K,
-    piece: Piece,
-    values: Vec<K::Out>,
-) -> Result<Vec<K::Out>, Stop>
-where
-    K::Out: Copy,
-    requires order { piece.from ≤ piece.to }
-    requires places { piece.to ≤ K.place_count kernel.now }
-    requires most { piece.to ≤ MOST_PLACES }
-    requires before { AreValuesFrom (K.outcome kernel.now) 0 piece.from values.items }
-    ensures ok { IfOk result (λ all. AreValuesFrom (K.outcome kernel.now) 0 piece.to all.items) }
-    ensures stop { IfErr result (IsStopFrom (K.outcome kernel.now) 0 piece.to) }
+/// Makes a list `len` values long by copies of its last value, if it is shorter.
+pub(crate) fn extend_to<T: Copy>(values: Vec<T>, len: usize) -> Result<Vec<T>, AllocError>
+    requires some { 0 < vec_len values }
+    ensures len { IfOk result (λ all. vec_len all ≡ max (vec_len values) len) }
+    ensures kept { IfOk result (λ all. (k : ℕ) (d : T) → k < vec_len values → slice_index_or all.items k d ≡ slice_index_or values.items k d) }
 {
     let mut all = values;
-    while all.len() < piece.to {
-        all = append_stretch(kernel, piece, all)?;
+    if all.len() < len {
+        let last = all[all.len() - 1];
+        all.resize(len, last)?;
     }
     Ok(all)
 }
@@ -192,55 +151,30 @@ fn pass_pieces<C: Cut, G: Gate>(cut: &C, gate: &G, worker: u8, piece: Piece, cou
     next
 }
 
-/// The values at all places, by one worker who has all pieces. The first one ends at `end`.
-pub(crate) fn append_all<K: Kernel, C: Cut, G: Gate>(
-    alloc: Global,
-    kernel: &K,
-    cut: &C,
-    gate: &G,
-    worker: u8,
-    end: usize,
-) -> Result<Vec<K::Out>, Stop>
-where
-    K::Out: Copy,
-    requires some { 0 < end }
-    requires within { end ≤ K.place_count kernel.now }
-    ensures { IsPart (K.outcome kernel.now) 0 (K.place_count kernel.now) result }
-{
-    let count = kernel.count();
-    let mut values = Vec::with_capacity(alloc, count)?;
-    let mut piece = Piece {
-        number: 0,
-        from: 0,
-        to: end,
-    };
-    while piece.from < count {
-        let next = pass_pieces(cut, gate, worker, piece, count);
-        values = append_piece(kernel, piece.up_to(next), values)?;
-        piece = next;
-    }
-    Ok(values)
-}
-
-/// The values at all places, written over those of a list by one worker who has all pieces. The first one ends at `end`.
+/// The values at all places, by one worker who has all pieces. The first one ends at `end`. They are written over those of a list, which is
+/// made longer by stretches of places if it is too short. The values at the first `done` places are there already.
 pub(crate) fn write_all<K: Kernel, C: Cut, G: Gate>(
     kernel: &K,
     cut: &C,
     gate: &G,
     worker: u8,
     end: usize,
-    values: &mut [K::Out],
-) -> Result<(), Stop>
+    values: Vec<K::Out>,
+    done: usize,
+) -> Result<Vec<K::Out>, Stop>
 where
     K::Out: Copy,
     requires some { 0 < end }
     requires within { end ≤ K.place_count kernel.now }
-    requires room { length values.old ≡ K.place_count kernel.now }
-    ensures ok { OnOk result (AreValuesFrom (K.outcome kernel.now) 0 (K.place_count kernel.now) values.new) }
-    ensures stop { IfErr result (IsStopFrom (K.outcome kernel.now) 0 (K.place_count kernel.now)) }
-    ensures len { length values.new ≡ length values.old }
+    requires some_values { 0 < vec_len values }
+    requires most_values { vec_len values ≤ K.place_count kernel.now }
+    requires order { done ≤ end }
+    requires before { done ≤ vec_len values }
+    requires done { AreValuesAt (K.outcome kernel.now) 0 done values.items }
+    ensures { IsPart (K.outcome kernel.now) 0 (K.place_count kernel.now) result }
 {
     let count = kernel.count();
+    let mut values = values;
     let mut piece = Piece {
         number: 0,
         from: 0,
@@ -248,10 +182,11 @@ where
     };
     while piece.from < count {
         let next = pass_pieces(cut, gate, worker, piece, count);
-        write_at(kernel, piece.up_to(next), values)?;
+        values = extend_to(values, next.from)?;
+        write_at(kernel, piece.between(done, next), values.as_mut_slice())?;
         piece = next;
     }
-    Ok(())
+    Ok(values)
 }
 
 /// The piece after this one, which has no places if this is the last.

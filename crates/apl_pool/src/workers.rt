@@ -66,7 +66,7 @@ where
 {
     let (rt, alloc, pool) = (workers.rt(), workers.alloc(), workers.pool());
     match K::Out::reused(pool.kept(), kernel.count()) {
-        Some(values) => pool.fill_into(rt, alloc, kernel, values),
+        Some(values) => pool.fill_into(rt, alloc, kernel, values, 0),
         None => pool.fill(rt, alloc, kernel),
     }
 }

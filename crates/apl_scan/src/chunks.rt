@@ -72,28 +72,21 @@ fn carry_on<S: Summary<Item = i64> + Copy + Drop>(
     }
 }
 
-/// For each chunk the summary of its line up to the end of the chunk. If several workers made these and the pool has no list for the folds,
-/// there are also copies of a number, one for each number.
+/// For each chunk the summary of its line up to the end of the chunk.
 pub(crate) fn summarize<S: Summary<Item = i64> + Copy + Drop + Send, W: Crew>(
     workers: &W,
     chunks: &Chunks,
-) -> Result<RowSummaries<BoundedSummary<S>>, Stop>
-    ensures rows { IfOk result (λ f. vec_len f.summaries ≡ chunks.now.rows) }
+) -> Result<Vec<BoundedSummary<S>>, Stop>
+    ensures rows { IfOk result (λ summaries. vec_len summaries ≡ chunks.now.rows) }
     ensures joined { let c = chunks.now in
-        IfOk result (λ f. AreUpToChunks S.step (λ k. S.item_count k.summary) (λ k. S.outcome k.summary) c.numbers.now c.items c.per_line c.rows f.summaries.items) }
+        IfOk result (λ summaries. AreUpToChunks S.step (λ k. S.item_count k.summary) (λ k. S.outcome k.summary) c.numbers.now c.items c.per_line c.rows summaries.items) }
     ensures memory { IfErr result (λ stop. stop ≡ Stop.Memory) }
 {
-    let places = chunks.numbers.len();
-    let count = if workers.pool().kept().has(places) {
-        0
-    } else {
-        places
-    };
-    // 1 and not 0: for a number of equal bytes the compiler calls `memset`, which takes longer than a loop.
-    let mut folds: RowSummaries<BoundedSummary<S>> = workers
-        .pool()
-        .fold_rows_beside(workers.rt(), workers.alloc(), chunks, 1, count);
+    let folds: RowSummaries<BoundedSummary<S>> = workers.pool().fold_rows(
+        workers.rt(), workers.alloc(), chunks,
+    );
     folds.end?;
-    carry_on(chunks, folds.summaries.as_mut_slice());
-    Ok(folds)
+    let mut summaries = folds.summaries;
+    carry_on(chunks, summaries.as_mut_slice());
+    Ok(summaries)
 }

@@ -15,7 +15,7 @@ use crate::chunks::{CHUNK, Chunks, summarize};
 use crate::running::{fold_behind, with_next};
 use apl_array::ScalarFunction;
 use apl_divisor::Divisor;
-use apl_pool::{Crew, Fault, Kernel, Reused, RowSummaries, Stop, Summary, fill};
+use apl_pool::{Crew, Fault, Kernel, Reused, Stop, Summary, fill};
 use apl_summary::{Running, with_summary};
 use std::alloc::AllocError;
 
@@ -161,27 +161,22 @@ impl<S: Running + Copy + Drop> Kernel for Scans<'_, S> {
     }
 }
 
-/// The summaries of the beginnings of all lines, as many of each. If several workers made these, there are also copies of a number, one for
-/// each number.
+/// The summaries of the beginnings of all lines, as many of each.
 fn summarize_lines<S: Summary<Item = i64> + Copy + Drop + Send, W: Crew>(
     workers: &W,
     numbers: &[i64],
     items: usize,
     per_line: usize,
-) -> Result<RowSummaries<BoundedSummary<S>>, Stop>
+) -> Result<Vec<BoundedSummary<S>>, Stop>
     requires most { length numbers.now ≤ MOST_PLACES }
     requires items { (0 < items) × (items ≤ MOST_PLACES) }
     requires within { per_line * CHUNK < items }
-    ensures rows { IfOk result (λ f. vec_len f.summaries ≡ length numbers.now / items * per_line) }
-    ensures joined { IfOk result (λ f. AreUpToChunks S.step (λ k. S.item_count k.summary) (λ k. S.outcome k.summary) numbers.now items per_line (length numbers.now / items * per_line) f.summaries.items) }
+    ensures rows { IfOk result (λ summaries. vec_len summaries ≡ length numbers.now / items * per_line) }
+    ensures joined { IfOk result (λ summaries. AreUpToChunks S.step (λ k. S.item_count k.summary) (λ k. S.outcome k.summary) numbers.now items per_line (length numbers.now / items * per_line) summaries.items) }
     ensures memory { IfErr result (λ stop. stop ≡ Stop.Memory) }
 {
     if per_line == 0 {
-        return Ok(RowSummaries {
-            summaries: Vec::new(workers.alloc()),
-            end: Ok(()),
-            copies: Vec::new(workers.alloc()),
-        });
+        return Ok(Vec::new(workers.alloc()));
     }
     let rows = numbers.len() / items * per_line;
     let chunks = Chunks {
@@ -223,24 +218,6 @@ fn put_line<S: Running, W: Crew>(
     Ok(Some(values))
 }
 
-/// The folds at all places, written into the room if it has as many.
-fn fill_scans<S: Running + Copy + Drop + Send + Sync, W: Crew>(
-    workers: &W,
-    scans: &Scans<S>,
-    room: Vec<i64>,
-) -> Result<Vec<i64>, Stop>
-    ensures values { IfOk result (λ v. AreValues (scan_at S.step scans.now.numbers.now scans.now.items 1) (length scans.now.numbers.now) v.items) }
-    ensures stop { IfErr result (IsStopOf (scan_at S.step scans.now.numbers.now scans.now.items 1) (length scans.now.numbers.now)) }
-{
-    if room.len() == scans.numbers.len() {
-        workers
-            .pool()
-            .fill_into(workers.rt(), workers.alloc(), scans, room)
-    } else {
-        fill(workers, scans)
-    }
-}
-
 /// The folds of numbers up to each place of lines of neighbours, by one type of summaries.
 fn fill_summarized<S: Running + Copy + Drop + Send + Sync, W: Crew>(
     workers: &W,
@@ -259,18 +236,16 @@ fn fill_summarized<S: Running + Copy + Drop + Send + Sync, W: Crew>(
         }
     }
     let per_line = (items - 1) / CHUNK;
-    let before: RowSummaries<BoundedSummary<S>> = summarize_lines(
+    let beginnings: Vec<BoundedSummary<S>> = summarize_lines(
         workers, numbers, items, per_line,
     )?;
-    let beginnings = before.summaries;
-    let room = before.copies;
     let scans = Scans {
         numbers,
         items: Divisor::new(items),
         per_line,
         beginnings: beginnings.as_slice(),
     };
-    fill_scans(workers, &scans, room)
+    fill(workers, &scans)
 }
 
 /// The folds of numbers up to each place of lines of neighbours, by a function whose folds have summaries.

@@ -147,35 +147,3 @@ fn folds_of_rows(rt: HostRuntime) -> Result<(), Fail> {
     Ok(())
 }
 
-/// Several workers bring copies of a number beside the folds, and one worker brings none.
-#[test]
-fn copies_beside_folds(rt: HostRuntime) {
-    let incoming = [Ok(0), Ok(0), Ok(0)];
-    for schedule in [Schedule::Claims, Schedule::Deques] {
-        for (workers, count, wanted) in [
-            (1u8, 5, 0),
-            (2, 0, 0),
-            (3, 5, 5),
-            (64, 100_000, 100_000),
-        ] {
-            let rows = Ones {
-                rows: 3,
-                count: 10_000,
-                faulty: (NOWHERE, NOWHERE),
-                incoming: incoming.as_slice(),
-            };
-            let pool = Pool::with(workers, schedule, Every(4096), Open);
-            let folds: RowSummaries<SignedSum<0>> = pool.fold_rows_beside(
-                &rt,
-                rt.alloc(),
-                &rows,
-                7,
-                count,
-            );
-            let are_sums = folds.summaries.iter().all(|sum| sum.apply(0) == Ok(10_000));
-            let are_copies = folds.copies.iter().all(|number| *number == 7);
-            assert!(rt; are_sums && folds.summaries.len() == 3 && folds.end == Ok(()));
-            assert!(rt; are_copies && folds.copies.len() == wanted);
-        }
-    }
-}

@@ -9,6 +9,6 @@ join_rows-requires-clause-right g c =
     let outcome = g.K.Rows.outcome c.args.rows.now in
     let pieces = c.pieces-pieces.result.now in
     let start = slice_index pieces.starts.items in
-    let made = parts_of_marks s.step s.item_count s.outcome outcome (g.K.Rows.row_count c.args.rows.now) pieces.count start c.in_ok-brought.brought.marks.items c.fill_rooms.new.values c.in_ok-brought.ensures.marks in
+    let made = parts_of_marks s.step s.item_count s.outcome outcome (g.K.Rows.row_count c.args.rows.now) pieces.count start c.in_ok-marks.marks.items c.fill_rooms.new.values c.in_ok-marks.ensures.marks in
     let P : List Bool → Type 0 = λ marks. ArePartsOf s.step s.item_count s.outcome outcome (g.K.Rows.row_count c.args.rows.now) pieces.count start marks c.fill_rooms.new.values in
     subst P (sym c.as_slice.ensures.value) made

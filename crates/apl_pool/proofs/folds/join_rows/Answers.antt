@@ -19,8 +19,8 @@ join_parts-requires-clause-right g c =
     let F : Option g.row.S.Denot → Type 0 = λ part. IsFolded s.step s.item_count s.outcome (g.K.Rows.outcome c.args.rows.now row) (start n) (start (n + 1)) part in
     subst F (sym (kept n row (omega arith) inside)) (c.requires.right row n inside low mark))
 
-pub returns-in-Err-clause-folds : goal.returns-in-Err-clause-folds
-returns-in-Err-clause-folds g c =
+pub returns-in-Err : goal.returns-in-Err
+returns-in-Err g c =
     let s = g.S.Summary in
     let outcome = g.K.Rows.outcome c.args.rows.now in
     let below : c.loop-row.row < g.K.Rows.row_count c.args.rows.now = (let t = c.loop-row-test.true in omega (arith, c.rows-count.ensures)) in

@@ -13,10 +13,10 @@ invariant_of-scans g c =
     let beginnings = c.as_slice.result.now in
     let by : c.new.result ≡ items = c.new.ensures in
     let fit = chunks_before_last items c.requires.items.0 in
-    let len : length beginnings ≡ count / items * per_line = c.as_slice.ensures.len ∙ c.in_ok-before.ensures.rows in
+    let len : length beginnings ≡ count / items * per_line = c.as_slice.ensures.len ∙ c.in_ok-beginnings.ensures.rows in
     let most : length beginnings ≤ MOST_PLACES = omega (arith, len, chunks_within count items per_line fit.0, c.requires.most) in
     let chunks : c.new.result ≤ (per_line + 1) * CHUNK = rw by fit.1 in
     let rows : (line : ℕ) → line * c.new.result < count → (line + 1) * per_line ≤ length beginnings = λ line inside. rw len (rows_of_line count items per_line line c.requires.lines (rw by at inside)) in
     let joined : AreUpToChunks g.S.Summary.step (λ k. g.S.Summary.item_count k.summary) (λ k. g.S.Summary.outcome k.summary) c.args.numbers.now c.new.result per_line (length beginnings) beginnings =
-    rw (by, len, c.as_slice.ensures.value) c.in_ok-before.ensures.joined in
+    rw (by, len, c.as_slice.ensures.value) c.in_ok-beginnings.ensures.joined in
     record { most = c.requires.most; beginnings_most = most; chunks = chunks; rows = rows; joined = joined }
