@@ -1,4 +1,5 @@
 pub mod Exact
+pub mod Bits
 pub mod Counting
 pub mod Powers
 pub mod Residues

@@ -1,7 +1,7 @@
 //! Exact arithmetic, refused only if the exact result leaves the range. No loop runs once for
 //! each unit of a large number.
-ghost use Rattle.std.specs.Prelude.{◌≡◌, true, Ok, pos, negsuc, ◌*ℤ◌, unsigned_abs, ◌+◌, ◌%◌, ◌^◌, ◌<◌, ◌≤◌, ◌==◌, if◌then◌else◌};
-ghost use Rattle.std.specs.Int.{int_pow};
+ghost use Rattle.std.specs.Prelude.{◌≡◌, true, Ok, pos, negsuc, ◌*ℤ◌, FitsSigned, unsigned_abs, ◌+◌, ◌%◌, ◌^◌, ◌<◌, ◌≤◌, ◌==◌, if◌then◌else◌};
+ghost use Rattle.std.specs.Int.{int_pow, int_signum, w32};
 ghost use Rattle.apl_scalar.specs.Arithmetic.{factorial, binomial, residue};
 ghost use Rattle.apl_scalar.specs.Scalar.{exact, reciprocal, quotient, power, factorial_of, combinations};
 ghost use Rattle.apl_scalar.specs.Limits.{limited_value};
@@ -42,25 +42,58 @@ pub(crate) fn likely_value(outcome: Result<i64, Fault>) -> (i64, bool)
     }
 }
 
-/// The number that the lower 32 bits of `x` are, and whether it is `x`.
+/// The number, and the doubts whether it is sure.
 #[inline(always)]
-fn lower_half(x: i64) -> (i64, bool)
-    ensures value { result.1 ≡ true → result.0 ≡ x }
-    ensures small { unsigned_abs result.0 ≤ 2 ^ 31 }
+pub(crate) fn with_doubts(likely: (i64, bool)) -> (i64, u64)
+    ensures value { result.0 ≡ likely.0 }
+    ensures doubts { result.1 ≡ 0 → likely.1 ≡ true }
 {
-    let half = (x << 32) >> 32;
-    (half, half == x)
+    (likely.0, if likely.1 { 0 } else { 1 })
 }
 
-/// `x` times `y` and `true` if both are numbers of 32 bits, else some number and `false`. It has no branches.
+/// The number that the lower 32 bits of `x` are.
 #[inline(always)]
-pub(crate) fn likely_product(x: i64, y: i64) -> (i64, bool)
-    ensures { result.1 ≡ true → exact (x *ℤ y) ≡ Ok result.0 }
+fn lower_half(x: i64) -> i64
+    ensures value { FitsSigned w32 x → result ≡ x }
+    ensures small { unsigned_abs result ≤ 2 ^ 31 }
 {
-    let (left, is_left) = lower_half(x);
-    let (right, is_right) = lower_half(y);
+    (x << 32) >> 32
+}
+
+/// How far `x` is above the least number of 32 bits, modulo 2^64. So all other numbers are 2^32 or more above it.
+#[inline(always)]
+fn above_least_half(x: i64) -> u64
+    ensures { result < 2 ^ 32 → FitsSigned w32 x }
+{
+    x.cast_unsigned().wrapping_add(1 << 31)
+}
+
+/// `x` times `y` and no doubts if both are numbers of 32 bits, else some number and doubts. It has no branches.
+#[inline(always)]
+pub(crate) fn likely_product(x: i64, y: i64) -> (i64, u64)
+    ensures { result.1 ≡ 0 → exact (x *ℤ y) ≡ Ok result.0 }
+{
     range_is_decided();
-    (left * right, is_left & is_right)
+    let farther = above_least_half(x) | above_least_half(y);
+    (lower_half(x) * lower_half(y), farther >> 32)
+}
+
+/// The magnitude of `x`, and the doubts whether 64 bits hold it.
+#[inline(always)]
+pub(crate) fn likely_magnitude(x: i64) -> (i64, u64)
+    ensures { result.1 ≡ 0 → exact (pos (unsigned_abs x)) ≡ Ok result.0 }
+{
+    range_is_decided();
+    let magnitude = x.wrapping_abs();
+    (magnitude, if magnitude < 0 { 1 } else { 0 })
+}
+
+/// The sign of `x`: 1, 0 or -1. It has no branches.
+#[inline(always)]
+pub(crate) fn sign(x: i64) -> i64
+    ensures { result ≡ int_signum x }
+{
+    i64::from(x > 0) - i64::from(x < 0)
 }
 
 /// 1 divided by `x`.

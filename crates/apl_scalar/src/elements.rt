@@ -1,9 +1,9 @@
 //! The scalar functions of elements.
-ghost use Rattle.std.specs.Prelude.{◌≡◌, Bool, true, not, Ok, IsTrue};
+ghost use Rattle.std.specs.Prelude.{◌≡◌, Bool, not, Ok, IsTrue};
 ghost use Rattle.apl_array.specs.Valences.{has_monadic, has_dyadic};
 ghost use Rattle.apl_scalar.specs.Scalar.{monadic_of, dyadic_of, compare_elements, identity_of, as_element, bit};
 
-use crate::arithmetic::likely_value;
+use crate::arithmetic::{likely_value, with_doubts};
 use crate::function_types::Function;
 use crate::truth::bit;
 use crate::with_type;
@@ -33,14 +33,14 @@ pub fn dyadic_elements<F: Function>(x: Elem, y: Elem) -> Result<i64, Fault>
     }
 }
 
-/// A number, and whether it is sure to be the result of the dyadic function of two elements.
+/// A number, and the doubts whether it is the result of the dyadic function of two elements. It is if there are none.
 #[inline(always)]
-pub(crate) fn likely_elements<F: Function>(x: Elem, y: Elem) -> (i64, bool)
-    ensures { result.1 ≡ true → dyadic_of F.FUNCTION x y ≡ Ok result.0 }
+pub(crate) fn likely_elements<F: Function>(x: Elem, y: Elem) -> (i64, u64)
+    ensures { result.1 ≡ 0 → dyadic_of F.FUNCTION x y ≡ Ok result.0 }
 {
     match (x, y) {
-        (Elem::Int(x), Elem::Int(y)) => F::likely(x, y),
-        (x, y) => likely_value(dyadic_elements::<F>(x, y)),
+        (Elem::Int(x), Elem::Int(y)) => F::with_doubts(x, y),
+        (x, y) => with_doubts(likely_value(dyadic_elements::<F>(x, y))),
     }
 }
 

@@ -3,10 +3,13 @@
 ghost use Rattle.apl_scalar.specs.Scalar.{bit};
 
 use crate::arithmetic::{
-    combinations, factorial, likely_product, likely_value, limited, power, product, quotient,
-    reciprocal, residue,
+    combinations, factorial, likely_magnitude, likely_product, likely_value, limited, power,
+    product, quotient, reciprocal, residue, sign, with_doubts,
 };
-use crate::truth::{and, bit, nand, negation, nor, or};
+use crate::truth::{
+    and, bit, likely_and, likely_nand, likely_negation, likely_nor, likely_or, nand, negation, nor,
+    or,
+};
 use apl_array::ScalarFunction;
 use apl_pool::Fault;
 
@@ -39,6 +42,23 @@ pub trait Function {
         ensures { result.1 ≡ true → dyadic_numbers FUNCTION left right ≡ Ok result.0 }
     {
         likely_value(Self::apply(left, right))
+    }
+
+    /// A likely result of the dyadic function: a number, and the doubts whether it is the result. It is if the doubts are 0. They are
+    /// bits, of which a loop joins those of all places by `|`. It takes no memory.
+    #[inline(always)]
+    fn with_doubts(left: i64, right: i64) -> (i64, u64)
+        ensures { result.1 ≡ 0 → dyadic_numbers FUNCTION left right ≡ Ok result.0 }
+    {
+        with_doubts(Self::likely(left, right))
+    }
+
+    /// A likely result of the monadic function, with the doubts likewise. It takes no memory.
+    #[inline(always)]
+    fn monadic_with_doubts(right: i64) -> (i64, u64)
+        ensures { result.1 ≡ 0 → monadic_number FUNCTION right ≡ Ok result.0 }
+    {
+        with_doubts(likely_value(Self::apply_monadic(right)))
     }
 
     /// Whether the monadic function has no branches, so that a run of its results is quick.
@@ -177,7 +197,7 @@ impl Function for Times {
 
     #[inline(always)]
     fn apply_monadic(right: i64) -> Result<i64, Fault> {
-        Ok(right.signum())
+        Ok(sign(right))
     }
 
     #[inline(always)]
@@ -190,7 +210,7 @@ impl Function for Times {
     }
 
     #[inline(always)]
-    fn likely(left: i64, right: i64) -> (i64, bool) {
+    fn with_doubts(left: i64, right: i64) -> (i64, u64) {
         likely_product(left, right)
     }
 }
@@ -244,6 +264,11 @@ impl Function for Stile {
 
     fn identity() -> Option<i64> {
         Some(0)
+    }
+
+    #[inline(always)]
+    fn monadic_with_doubts(right: i64) -> (i64, u64) {
+        likely_magnitude(right)
     }
 }
 
@@ -375,6 +400,11 @@ impl Function for And {
     fn identity() -> Option<i64> {
         Some(1)
     }
+
+    #[inline(always)]
+    fn with_doubts(left: i64, right: i64) -> (i64, u64) {
+        likely_and(left, right)
+    }
 }
 
 /// `∨` of truth values.
@@ -400,6 +430,11 @@ impl Function for Or {
 
     fn identity() -> Option<i64> {
         Some(0)
+    }
+
+    #[inline(always)]
+    fn with_doubts(left: i64, right: i64) -> (i64, u64) {
+        likely_or(left, right)
     }
 }
 
@@ -427,6 +462,11 @@ impl Function for Nand {
     fn identity() -> Option<i64> {
         None
     }
+
+    #[inline(always)]
+    fn with_doubts(left: i64, right: i64) -> (i64, u64) {
+        likely_nand(left, right)
+    }
 }
 
 /// `⍱` of truth values.
@@ -452,6 +492,11 @@ impl Function for Nor {
 
     fn identity() -> Option<i64> {
         None
+    }
+
+    #[inline(always)]
+    fn with_doubts(left: i64, right: i64) -> (i64, u64) {
+        likely_nor(left, right)
     }
 }
 
@@ -634,5 +679,10 @@ impl Function for Tilde {
 
     fn identity() -> Option<i64> {
         None
+    }
+
+    #[inline(always)]
+    fn monadic_with_doubts(right: i64) -> (i64, u64) {
+        likely_negation(right)
     }
 }

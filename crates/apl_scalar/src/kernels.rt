@@ -2,7 +2,6 @@
 ghost use Rattle.std.specs.Prelude.{ℕ, ◌≤◌};
 ghost use Rattle.apl_pool.specs.declared.kernel.TheConstants.{MOST_PLACES};
 
-use crate::arithmetic::likely_value;
 use crate::elements::{dyadic_elements, likely_elements};
 use crate::function_types::Function;
 use crate::operands::Operand;
@@ -31,8 +30,8 @@ impl<F: Function + Copy> Results for NumberResults<'_, F> {
     }
 
     #[inline(always)]
-    fn likely_at(&self, place: usize) -> (i64, bool) {
-        likely_value(self.result_at(place))
+    fn likely_at(&self, place: usize) -> (i64, u64) {
+        F::monadic_with_doubts(self.numbers[place])
     }
 
     #[inline(always)]
@@ -63,7 +62,7 @@ impl<L: Operand, R: Operand, F: Function + Copy> Results for PairResults<L, R, F
     }
 
     #[inline(always)]
-    fn likely_at(&self, place: usize) -> (i64, bool) {
+    fn likely_at(&self, place: usize) -> (i64, u64) {
         likely_elements::<F>(self.left.at(place), self.right.at(place))
     }
 

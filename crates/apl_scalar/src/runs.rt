@@ -10,7 +10,7 @@ const LONGEST_RUN: usize = 1024;
 
 /// The results of a scalar function at places. They are passed by value, so that a loop that writes reads no pointer anew.
 pub(crate) trait Results: Copy {
-    ghost use Rattle.std.specs.Prelude.{◌≡◌, ◌<◌, ℕ, ℤ, true, Result, Ok};
+    ghost use Rattle.std.specs.Prelude.{◌≡◌, ◌<◌, ℕ, ℤ, Result, Ok};
     ghost use Rattle.apl_pool.specs.declared.kernel.Fault.{Fault};
 
     // How many places there are.
@@ -24,10 +24,10 @@ pub(crate) trait Results: Copy {
         requires { place < served self.now }
         ensures { result ≡ outcome self.now place };
 
-    /// A number, and whether it is sure to be the result at a place.
-    fn likely_at(&self, place: usize) -> (i64, bool)
+    /// A number, and the doubts whether it is the result at a place. It is if there are none.
+    fn likely_at(&self, place: usize) -> (i64, u64)
         requires { place < served self.now }
-        ensures { result.1 ≡ true → outcome self.now place ≡ Ok result.0 };
+        ensures { result.1 ≡ 0 → outcome self.now place ≡ Ok result.0 };
 
     /// Whether the likely results have no branches, so that a run of them is quick.
     fn have_runs() -> bool;
@@ -42,13 +42,13 @@ fn write_likely<P: Results>(results: P, from: usize, count: usize, room: &mut [i
     ensures values { result ≡ true → AreWritten (P.outcome results) from (from + count) room.new }
     ensures len { length room.new ≡ length room.old }
 {
-    let mut all_sure = true;
+    let mut all_doubts = 0;
     for k in 0..count {
-        let (value, is_sure) = results.likely_at(from + k);
+        let (value, doubts) = results.likely_at(from + k);
         room[k] = value;
-        all_sure &= is_sure;
+        all_doubts |= doubts;
     }
-    all_sure
+    all_doubts == 0
 }
 
 /// Writes results into the room for the places from `from` on, one by one. It answers the place of the first fault,

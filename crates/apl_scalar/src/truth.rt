@@ -1,5 +1,5 @@
 //! The functions of truth values, of which 1 is true and 0 is false. Tests are joined by `&` and `|`, without branches.
-ghost use Rattle.std.specs.Prelude.{◌≡◌, Ok, Err, ◌&&◌, ◌||◌, not, if◌then◌else◌};
+ghost use Rattle.std.specs.Prelude.{◌≡◌, true, Ok, Err, ◌&&◌, ◌||◌, not, if◌then◌else◌};
 ghost use Rattle.apl_pool.specs.declared.kernel.Fault.TheVariants.{Domain};
 ghost use Rattle.apl_answer.specs.Arguments.{is_bit};
 ghost use Rattle.apl_scalar.specs.Scalar.{bit, is_one, logical, negation};
@@ -80,4 +80,52 @@ pub(crate) fn nor(x: i64, y: i64) -> Result<i64, Fault>
 {
     let (p, q) = truth_values(x, y)?;
     Ok(bit(!(p || q)))
+}
+
+/// The bits of two numbers above the lowest. There are none if both numbers are 0 or 1.
+#[inline(always)]
+fn higher_bits(x: i64, y: i64) -> u64
+    ensures { result ≡ 0 → (is_bit x && is_bit y) ≡ true }
+{
+    (x.cast_unsigned() | y.cast_unsigned()) >> 1
+}
+
+/// `negation` by bits, and the doubts whether it is that.
+#[inline(always)]
+pub(crate) fn likely_negation(x: i64) -> (i64, u64)
+    ensures { result.1 ≡ 0 → negation x ≡ Ok result.0 }
+{
+    (x ^ 1, higher_bits(x, x))
+}
+
+/// `and` by bits, and the doubts whether it is that.
+#[inline(always)]
+pub(crate) fn likely_and(x: i64, y: i64) -> (i64, u64)
+    ensures { result.1 ≡ 0 → logical (λ p q. p && q) x y ≡ Ok result.0 }
+{
+    (x & y, higher_bits(x, y))
+}
+
+/// `or` by bits, and the doubts whether it is that.
+#[inline(always)]
+pub(crate) fn likely_or(x: i64, y: i64) -> (i64, u64)
+    ensures { result.1 ≡ 0 → logical (λ p q. p || q) x y ≡ Ok result.0 }
+{
+    (x | y, higher_bits(x, y))
+}
+
+/// `nand` by bits, and the doubts whether it is that.
+#[inline(always)]
+pub(crate) fn likely_nand(x: i64, y: i64) -> (i64, u64)
+    ensures { result.1 ≡ 0 → logical (λ p q. not (p && q)) x y ≡ Ok result.0 }
+{
+    (x & y ^ 1, higher_bits(x, y))
+}
+
+/// `nor` by bits, and the doubts whether it is that.
+#[inline(always)]
+pub(crate) fn likely_nor(x: i64, y: i64) -> (i64, u64)
+    ensures { result.1 ≡ 0 → logical (λ p q. not (p || q)) x y ≡ Ok result.0 }
+{
+    ((x | y) ^ 1, higher_bits(x, y))
 }
