@@ -31,24 +31,15 @@ pub(crate) fn product(x: i64, y: i64) -> Result<i64, Fault>
     limited(x.checked_mul(y))
 }
 
-/// The value and `true`, or some number and `false`.
+/// The value and no doubts, or some number and doubts.
 #[inline(always)]
-pub(crate) fn likely_value(outcome: Result<i64, Fault>) -> (i64, bool)
-    ensures { result.1 ≡ true → outcome ≡ Ok result.0 }
+pub(crate) fn likely_value(outcome: Result<i64, Fault>) -> (i64, u64)
+    ensures { result.1 ≡ 0 → outcome ≡ Ok result.0 }
 {
     match outcome {
-        Ok(value) => (value, true),
-        Err(_) => (0, false),
+        Ok(value) => (value, 0),
+        Err(_) => (0, 1),
     }
-}
-
-/// The number, and the doubts whether it is sure.
-#[inline(always)]
-pub(crate) fn with_doubts(likely: (i64, bool)) -> (i64, u64)
-    ensures value { result.0 ≡ likely.0 }
-    ensures doubts { result.1 ≡ 0 → likely.1 ≡ true }
-{
-    (likely.0, if likely.1 { 0 } else { 1 })
 }
 
 /// The number that the lower 32 bits of `x` are.

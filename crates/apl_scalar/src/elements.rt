@@ -3,7 +3,7 @@ ghost use Rattle.std.specs.Prelude.{◌≡◌, Bool, not, Ok, IsTrue};
 ghost use Rattle.apl_array.specs.Valences.{has_monadic, has_dyadic};
 ghost use Rattle.apl_scalar.specs.Scalar.{monadic_of, dyadic_of, compare_elements, identity_of, as_element, bit};
 
-use crate::arithmetic::{likely_value, with_doubts};
+use crate::arithmetic::likely_value;
 use crate::function_types::Function;
 use crate::truth::bit;
 use crate::with_type;
@@ -39,8 +39,8 @@ pub(crate) fn likely_elements<F: Function>(x: Elem, y: Elem) -> (i64, u64)
     ensures { result.1 ≡ 0 → dyadic_of F.FUNCTION x y ≡ Ok result.0 }
 {
     match (x, y) {
-        (Elem::Int(x), Elem::Int(y)) => F::with_doubts(x, y),
-        (x, y) => with_doubts(likely_value(dyadic_elements::<F>(x, y))),
+        (Elem::Int(x), Elem::Int(y)) => F::likely(x, y),
+        (x, y) => likely_value(dyadic_elements::<F>(x, y)),
     }
 }
 

@@ -4,7 +4,7 @@ ghost use Rattle.apl_scalar.specs.Scalar.{bit};
 
 use crate::arithmetic::{
     combinations, factorial, likely_magnitude, likely_product, likely_value, limited, power,
-    product, quotient, reciprocal, residue, sign, with_doubts,
+    product, quotient, reciprocal, residue, sign,
 };
 use crate::truth::{
     and, bit, likely_and, likely_nand, likely_negation, likely_nor, likely_or, nand, negation, nor,
@@ -15,7 +15,7 @@ use apl_pool::Fault;
 
 /// A type that names a scalar function, and has its bodies.
 pub trait Function {
-    ghost use Rattle.std.specs.Prelude.{◌≡◌, true, Ok};
+    ghost use Rattle.std.specs.Prelude.{◌≡◌, Ok};
     ghost use Rattle.apl_array.specs.declared.function.ScalarFunction.{ScalarFunction};
     ghost use Rattle.apl_scalar.specs.Scalar.{monadic_number, dyadic_numbers, identity_of};
 
@@ -36,29 +36,21 @@ pub trait Function {
     fn identity() -> Option<i64>
         ensures { result ≡ identity_of FUNCTION };
 
-    /// A likely result of the dyadic function: a number, and whether it is sure to be the result. It takes no memory.
+    /// A likely result of the dyadic function: a number, and the doubts whether it is the result. It is if the doubts are 0. They are
+    /// bits, so that a loop joins those of all places by `|`. It takes no memory.
     #[inline(always)]
-    fn likely(left: i64, right: i64) -> (i64, bool)
-        ensures { result.1 ≡ true → dyadic_numbers FUNCTION left right ≡ Ok result.0 }
+    fn likely(left: i64, right: i64) -> (i64, u64)
+        ensures { result.1 ≡ 0 → dyadic_numbers FUNCTION left right ≡ Ok result.0 }
     {
         likely_value(Self::apply(left, right))
     }
 
-    /// A likely result of the dyadic function: a number, and the doubts whether it is the result. It is if the doubts are 0. They are
-    /// bits, of which a loop joins those of all places by `|`. It takes no memory.
+    /// A likely result of the monadic function, and the doubts whether it is the result. It takes no memory.
     #[inline(always)]
-    fn with_doubts(left: i64, right: i64) -> (i64, u64)
-        ensures { result.1 ≡ 0 → dyadic_numbers FUNCTION left right ≡ Ok result.0 }
-    {
-        with_doubts(Self::likely(left, right))
-    }
-
-    /// A likely result of the monadic function, with the doubts likewise. It takes no memory.
-    #[inline(always)]
-    fn monadic_with_doubts(right: i64) -> (i64, u64)
+    fn likely_monadic(right: i64) -> (i64, u64)
         ensures { result.1 ≡ 0 → monadic_number FUNCTION right ≡ Ok result.0 }
     {
-        with_doubts(likely_value(Self::apply_monadic(right)))
+        likely_value(Self::apply_monadic(right))
     }
 
     /// Whether the monadic function has no branches, so that a run of its results is quick.
@@ -210,7 +202,7 @@ impl Function for Times {
     }
 
     #[inline(always)]
-    fn with_doubts(left: i64, right: i64) -> (i64, u64) {
+    fn likely(left: i64, right: i64) -> (i64, u64) {
         likely_product(left, right)
     }
 }
@@ -267,7 +259,7 @@ impl Function for Stile {
     }
 
     #[inline(always)]
-    fn monadic_with_doubts(right: i64) -> (i64, u64) {
+    fn likely_monadic(right: i64) -> (i64, u64) {
         likely_magnitude(right)
     }
 }
@@ -402,7 +394,7 @@ impl Function for And {
     }
 
     #[inline(always)]
-    fn with_doubts(left: i64, right: i64) -> (i64, u64) {
+    fn likely(left: i64, right: i64) -> (i64, u64) {
         likely_and(left, right)
     }
 }
@@ -433,7 +425,7 @@ impl Function for Or {
     }
 
     #[inline(always)]
-    fn with_doubts(left: i64, right: i64) -> (i64, u64) {
+    fn likely(left: i64, right: i64) -> (i64, u64) {
         likely_or(left, right)
     }
 }
@@ -464,7 +456,7 @@ impl Function for Nand {
     }
 
     #[inline(always)]
-    fn with_doubts(left: i64, right: i64) -> (i64, u64) {
+    fn likely(left: i64, right: i64) -> (i64, u64) {
         likely_nand(left, right)
     }
 }
@@ -495,7 +487,7 @@ impl Function for Nor {
     }
 
     #[inline(always)]
-    fn with_doubts(left: i64, right: i64) -> (i64, u64) {
+    fn likely(left: i64, right: i64) -> (i64, u64) {
         likely_nor(left, right)
     }
 }
@@ -682,7 +674,7 @@ impl Function for Tilde {
     }
 
     #[inline(always)]
-    fn monadic_with_doubts(right: i64) -> (i64, u64) {
+    fn likely_monadic(right: i64) -> (i64, u64) {
         likely_negation(right)
     }
 }

@@ -31,7 +31,7 @@ impl<F: Function + Copy> Results for NumberResults<'_, F> {
 
     #[inline(always)]
     fn likely_at(&self, place: usize) -> (i64, u64) {
-        F::monadic_with_doubts(self.numbers[place])
+        F::likely_monadic(self.numbers[place])
     }
 
     #[inline(always)]
