@@ -4,6 +4,7 @@ ghost use Rattle.apl_pool.specs.declared.kernel.TheConstants.{MOST_PLACES};
 ghost use Rattle.apl_walk.specs.Steps.{wrapped, rotated_place};
 
 use crate::lined::Lined;
+use crate::rotated::counted_round;
 use crate::stretches::{element_or, write_or};
 use apl_divisor::Divisor;
 
@@ -29,8 +30,7 @@ impl Rotations<'_> {
             Some(by) => *by,
             None => 0,
         };
-        let j = i + by;
-        if j < self.length { j } else { j - self.length }
+        counted_round(self.length, i + by)
     }
 }
 
