@@ -2,7 +2,7 @@
 use Rattle.std.proofs.Common.{◌≡◌, ℕ, zero, suc, ◌+◌, ◌-◌, ◌*◌, ◌/◌, ◌<◌, ◌≤◌, List, [], ◌∷◌, length, slice_index_or, drop, refl, sym, ap, ◌∙◌, arith, inl, inr, rules, take, add_comm, div-add-mod', mul-le-mul_right, lt_of_mul-lt-mul_right}
 use Rattle.std.specs.Prelude.{min, Option, Some, None}
 use Rattle.std.proofs.lemmas.List.{places}
-use Rattle.std.proofs.lemmas.Bool.{le-leb, le-ltb, lt-ltb, cases_lt}
+use Rattle.std.proofs.lemmas.Bool.{le-leb, le-ltb, lt-leb, lt-ltb, cases_lt}
 use Rattle.apl_walk.specs.Gathered.{value_or}
 use Rattle.apl_walk.specs.Steps.{and_step, window_step, reversed_step, rotated_step, repeated_step, wrapped, BeginsWith}
 
@@ -33,6 +33,12 @@ values_taken line room fill step place count is within each = record {
 
 pub window_within : (from to start stride i : ℕ) → from ≤ i → i < to → window_step from to start stride i ≡ Some ((i + start - from) * stride)
 window_within from to start stride i low high = rw (le-leb from i low, lt-ltb i to high) refl
+
+pub window_before : (from to start stride i : ℕ) → i < from → window_step from to start stride i ≡ None
+window_before from to start stride i low = rw (lt-leb from i low) refl
+
+pub window_after : (from to start stride i : ℕ) → from ≤ i → to ≤ i → window_step from to start stride i ≡ None
+window_after from to start stride i low high = rw (le-leb from i low, le-ltb i to high) refl
 
 -- a step is no longer than the last one
 pub step_reach : (from to start stride i : ℕ) → from ≤ i → i < to → (i + start - from) * stride ≤ (to + start - (from + 1)) * stride

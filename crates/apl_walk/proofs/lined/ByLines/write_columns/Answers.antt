@@ -1,5 +1,4 @@
-use Rattle.std.proofs.Common.{◌≡◌, ◌+◌, ◌-◌, ◌*◌, ◌<◌, ◌≤◌, length, refl, ap, arith, rules, ◌∙◌}
-use Rattle.std.proofs.lemmas.List.{places}
+use Rattle.std.proofs.Common.{◌≡◌, ◌+◌, ◌-◌, ◌*◌, ◌<◌, ◌≤◌, length, refl, ap, arith, ◌∙◌}
 use Rattle.apl_walk.proofs.Lines.{columns_all, columns_kept, columns_more}
 use Rattle.apl_walk.proofs.lined.ByLines.write_columns.Goals as goal
 use Rattle.apl_walk.proofs.lined.ByLines.write_columns.Goals.{then-first-eq0, else-first-eq0}
@@ -33,7 +32,6 @@ loop-place-preserved g c =
           columns_more value e c.args.from c.args.to c.args.first c.args.end l.line (l.line * e) l.index l.room refl (omega (arith, l.invariant.index, l.invariant.there)) l.invariant.all l.invariant.several
           done n count c.write.new.room (omega (arith, there)) spare.0 spare.1 spare.2 (omega (arith, there)) (omega arith) (omega arith) c.requires.within (omega arith) c.write.ensures.values
           ((l.line + 1) * e) (omega arith);
-      len = search (rules, places);
     }
 
 pub returns-clause-values : goal.returns-clause-values

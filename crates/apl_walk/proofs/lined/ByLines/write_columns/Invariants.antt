@@ -1,4 +1,4 @@
-use Rattle.std.proofs.Common.{◌≡◌, ◌+◌, ◌-◌, ◌*◌, ◌<◌, ◌≤◌, length}
+use Rattle.std.proofs.Common.{◌≡◌, ◌+◌, ◌-◌, ◌*◌, ◌<◌, ◌≤◌}
 use Rattle.std.specs.Prelude.{min, max}
 use Rattle.apl_walk.specs.Columns.{HasColumns}
 use Rattle.apl_walk.proofs.lined.ByLines.write_columns.Given as goal
@@ -12,7 +12,6 @@ invariant-loop-place g l = let extent = g.L.Lined.extent l.self.lines in record 
   inside : l.index < l.end;
   all : HasColumns (g.L.Lined.value l.self.lines) extent l.from l.to l.first l.room;
   several : HasColumns (g.L.Lined.value l.self.lines) extent l.from (min (l.line * extent) l.to) l.end l.room;
-  len : length l.room ≡ length l.initial.room;
 }
 
 abbrev pub decreases-loop-place : goal.decreases-loop-place

@@ -1,6 +1,6 @@
-use Rattle.std.proofs.Common.{◌≡◌, ℕ, ◌+◌, ◌-◌, ◌*◌, ◌/◌, ◌<◌, length, slice_index_or, ap, sym, ◌∙◌, arith, rules}
+use Rattle.std.proofs.Common.{◌≡◌, ℕ, ◌+◌, ◌-◌, ◌*◌, ◌/◌, length, slice_index_or, ap, sym, ◌∙◌, arith, rules}
 use Rattle.std.specs.Prelude.{min}
-use Rattle.std.proofs.lemmas.List.{get_or_read, places}
+use Rattle.std.proofs.lemmas.List.{get_or_read}
 use Rattle.apl_walk.proofs.Lines.{more_begun, quotient_there}
 use Rattle.apl_walk.proofs.Stepped.{index_within}
 use Rattle.apl_walk.proofs.repeated.Repeated.write_indexes.Goals as goal
@@ -28,10 +28,9 @@ loop-done-preserved g c =
       far = omega (arith, c.loop-done-test.true);
       each = λ k d before inside.
           more_begun taken l.done (min l.left (length l.room - l.done)) (length l.room - l.done) l.room c.write_index.new.room
-          (omega (arith, c.loop-done-test.true, c.requires.room, l.invariant.len)) (omega arith) (omega arith) (λ k d before. l.invariant.each k d before (omega (arith, before, c.loop-done-test.true, c.requires.room, l.invariant.len)))
+          (omega (arith, c.loop-done-test.true, c.requires.room, l.auto.room)) (omega arith) (omega arith) (λ k d before. l.invariant.each k d before (omega (arith, before, c.loop-done-test.true, c.requires.room, l.auto.room)))
           (λ j d inside.
           let same : (c.args.from + (l.done + j)) / r.times ≡ l.index = quotient_there r.times l.index (c.args.from + (l.done + j)) (omega (arith, l.invariant.turn, l.invariant.most)) (omega (arith, l.invariant.turn, inside)) in
           c.write_index.ensures.each j d (omega (arith, inside)) (omega (arith, inside)) ∙ read d ∙ ap (λ q. slice_index_or c.args.line.now (q * r.stride) d) (sym same))
           k d (omega (arith, before, inside));
-      len = search (rules, places);
     }

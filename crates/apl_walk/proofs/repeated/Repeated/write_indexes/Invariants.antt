@@ -10,7 +10,6 @@ invariant-loop-done g l = record {
   few : l.index ≤ l.from + l.done;
   far : l.done < l.limit + l.self.times;
   each : (k : ℕ) (d : g.row.T.Denot) → k < l.done → k < length l.room → slice_index_or l.room k d ≡ slice_index_or l.line ((l.from + k) / l.self.times * l.self.stride) d;
-  len : length l.room ≡ length l.initial.room;
 }
 
 abbrev pub decreases-loop-done : goal.decreases-loop-done
