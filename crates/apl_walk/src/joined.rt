@@ -23,10 +23,9 @@ impl<'a, T: Copy> Part<'a, T> {
         ensures past { result.past ≡ slice_index_or elements.now 0 fill }
         ensures length { result.length ≡ length }
     {
-        let past = element_or(elements, 0, fill);
         Part {
             elements,
-            past,
+            past: element_or(elements, 0, fill),
             length,
         }
     }

@@ -87,7 +87,6 @@ impl<L: Lined> ByLines<L> {
         requires most { from ≤ MOST_PLACES }
         requires order { first < end }
         requires within { end ≤ L.extent self.now.lines }
-        ensures first { first ≤ result.1 }
         ensures end { result.1 < end }
         ensures low { from ≤ result.0 * L.extent self.now.lines + result.1 }
         ensures few { result.0 ≤ from + 1 }

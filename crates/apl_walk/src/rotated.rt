@@ -19,18 +19,14 @@ pub struct Rotated {
     ghost near: { extent * stride ≤ MOST_STEP },
 }
 
-/// The index of an axis that a number is, counted round.
+/// The index of an axis that the sum of two is, counted round.
 #[inline(always)]
-pub(crate) fn counted_round(length: usize, number: usize) -> usize
-    requires { number < length + length }
-    ensures value { result ≡ wrapped length number }
+pub(crate) fn counted_round(length: usize, sum: usize) -> usize
+    requires { sum < length + length }
+    ensures value { result ≡ wrapped length sum }
     ensures below { result < length }
 {
-    if number < length {
-        number
-    } else {
-        number - length
-    }
+    if sum < length { sum } else { sum - length }
 }
 
 impl AxisMap for Rotated {

@@ -26,11 +26,7 @@ impl Rotations<'_> {
         ensures value { result ≡ wrapped self.now.length (i + slice_index self.now.by.now line) }
         ensures below { result < self.now.length }
     {
-        let by = match self.by.get(line) {
-            Some(by) => *by,
-            None => 0,
-        };
-        counted_round(self.length, i + by)
+        counted_round(self.length, i + element_or(self.by, line, 0))
     }
 }
 
@@ -79,13 +75,8 @@ impl<T: Copy> Lined for RotatedRows<'_, T> {
         let start = self.rotations.index(line, from);
         let first = count.min(self.rotations.length - start);
         write_or(self.elements, self.past, base + start, first, room);
-        write_or(
-            self.elements,
-            self.past,
-            base,
-            count - first,
-            &mut room[first..],
-        );
+        let rest = &mut room[first..];
+        write_or(self.elements, self.past, base, count - first, rest);
     }
 }
 
@@ -142,11 +133,8 @@ impl<T: Copy> Lined for RotatedColumns<'_, T> {
 
     #[inline(always)]
     fn at(&self, row: usize, column: usize) -> T {
-        self.at_column(
-            self.length.quotient(row),
-            self.length.remainder(row),
-            column,
-        )
+        let outer = self.length.quotient(row);
+        self.at_column(outer, self.length.remainder(row), column)
     }
 
     #[inline(always)]

@@ -1,5 +1,5 @@
 use Rattle.std.proofs.Common.{◌≡◌, ◌+◌, ◌-◌, ◌*◌, ◌<◌, ◌≤◌, length, refl, ap, arith, ◌∙◌}
-use Rattle.apl_walk.proofs.Lines.{columns_all, columns_kept, columns_more}
+use Rattle.apl_walk.proofs.Lines.{columns_all, columns_written}
 use Rattle.apl_walk.proofs.lined.ByLines.write_columns.Goals as goal
 use Rattle.apl_walk.proofs.lined.ByLines.write_columns.Goals.{then-first-eq0, else-first-eq0}
 
@@ -19,19 +19,18 @@ loop-place-preserved g c =
       | then-first-eq0 w ↦ (omega (arith, w.end_of_room-is, there), omega (arith, w.end_of_room-is, there), λ later. absurd (omega (arith, later, w.if-first-eq0.true)))
       | else-first-eq0 w ↦ (omega (arith, w.end_of_room-is, there), omega (arith, w.end_of_room-is, there), λ later. omega (arith, w.end_of_room-is))
     ] in
+    let written =
+    columns_written value e c.args.from c.args.to c.args.first c.args.end l.line (l.line * e) l.index l.room refl (omega (arith, l.invariant.index, there)) l.invariant.all l.invariant.several
+    done n count c.write.new.room (omega (arith, there)) spare.0 spare.1 spare.2 (omega (arith, there)) (omega arith) (omega arith) c.requires.within (omega arith) c.write.ensures.values
+    ((l.line + 1) * e) (omega arith) in
     record {
       there = omega (arith, next);
       few = omega (arith, next, there);
       low = omega (arith, next, there);
       index = omega (arith, next, there);
       inside = omega arith;
-      all =
-          columns_kept value e c.args.from c.args.to c.args.first c.args.end l.line (l.line * e) l.index l.room refl (omega (arith, l.invariant.index, l.invariant.there)) l.invariant.all l.invariant.several
-          done n count c.write.new.room (omega (arith, there)) spare.0 spare.1 spare.2 (omega (arith, there)) (omega arith) (omega arith) c.requires.within (omega arith) c.write.ensures.values;
-      several =
-          columns_more value e c.args.from c.args.to c.args.first c.args.end l.line (l.line * e) l.index l.room refl (omega (arith, l.invariant.index, l.invariant.there)) l.invariant.all l.invariant.several
-          done n count c.write.new.room (omega (arith, there)) spare.0 spare.1 spare.2 (omega (arith, there)) (omega arith) (omega arith) c.requires.within (omega arith) c.write.ensures.values
-          ((l.line + 1) * e) (omega arith);
+      all = written.0;
+      several = written.1;
     }
 
 pub returns-clause-values : goal.returns-clause-values
