@@ -3,6 +3,8 @@ use Rattle.std.proofs.Common.{◌≡◌, ℕ, zero, suc, ◌+◌, ◌-◌, ◌*�
 use Rattle.std.specs.Prelude.{min, Option, Some, None}
 use Rattle.std.proofs.lemmas.List.{places}
 use Rattle.std.proofs.lemmas.Bool.{le-leb, le-ltb, lt-leb, lt-ltb, cases_lt}
+use Rattle.apl_walk.specs.declared.map.TheConstants.{MOST_STEP}
+use Rattle.apl_walk.specs.declared.window.Window.{Window}
 use Rattle.apl_walk.specs.Gathered.{value_or}
 use Rattle.apl_walk.specs.Steps.{and_step, window_step, reversed_step, rotated_step, repeated_step, wrapped, BeginsWith}
 
@@ -44,17 +46,11 @@ window_after from to start stride i low high = rw (le-leb from i low, le-ltb i t
 pub step_reach : (from to start stride i : ℕ) → from ≤ i → i < to → (i + start - from) * stride ≤ (to + start - (from + 1)) * stride
 step_reach from to start stride i low high = mul-le-mul_right stride (omega arith)
 
-pub reach_most : (from to start stride most : ℕ) → (to + start) * stride ≤ from * stride + most → (to + start - (from + 1)) * stride ≤ most
-reach_most from to start stride most near =
-    elim (cases_lt from (to + start)) [
-      | inl longer ↦
-          let x = to + start - (from + 1) in
-          let whole : x + (from + 1) ≡ to + start = omega (arith, longer) in
-          let split : x * stride + (from + 1) * stride ≡ (to + start) * stride = omega arith ∙ ap (λ n. n * stride) whole in
-          omega (arith, split, near)
-      | inr short ↦
-          let none : to + start - (from + 1) ≡ 0 = omega (arith, short) in
-          rw none (omega arith)
+pub step_most : (w : Window) (x : ℕ) → x ≤ w.to + w.start - (w.from + 1) → x * w.stride ≤ MOST_STEP
+step_most w x less =
+    elim (cases_lt 0 x) [
+      | inl some ↦ omega (arith, mul-le-mul_right {m = x + w.from} {n = w.to + w.start} w.stride (omega (arith, some, less)), w.end_near)
+      | inr none ↦ let zero : x ≡ 0 = omega (arith, none) in rw zero (omega arith)
     ]
 
 -- k strides on

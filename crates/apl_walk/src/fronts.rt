@@ -1,5 +1,5 @@
 //! The loops that write the front of a room.
-ghost use Rattle.std.specs.Prelude.{◌≡◌, ℕ, ◌+◌, ◌-◌, ◌*◌, ◌<◌, ◌≤◌, length, slice_index_or};
+ghost use Rattle.std.specs.Prelude.{◌≡◌, ℕ, ◌-◌, ◌*◌, ◌<◌, ◌≤◌, length, slice_index_or};
 
 /// The same at each place.
 #[inline(always)]
@@ -44,19 +44,6 @@ pub(crate) fn write_near<T: Copy>(elements: &[T], count: usize, room: &mut [T])
     }
 }
 
-/// Those that are `stride` apart.
-#[inline(always)]
-fn write_apart<T: Copy>(elements: &[T], stride: usize, count: usize, room: &mut [T])
-    requires room { count ≤ length room.old }
-    requires near { (count - 1) * stride < length elements.now }
-    ensures each { (k : ℕ) (d : T) → k < count → slice_index_or room.new k d ≡ slice_index_or elements.now (k * stride) d }
-    ensures len { length room.new ≡ length room.old }
-{
-    for k in 0..count {
-        room[k] = elements[k * stride];
-    }
-}
-
 /// Those that are `stride` apart, also neighbours.
 #[inline(always)]
 pub(crate) fn write_stretch<T: Copy>(elements: &[T], stride: usize, count: usize, room: &mut [T])
@@ -66,8 +53,9 @@ pub(crate) fn write_stretch<T: Copy>(elements: &[T], stride: usize, count: usize
     ensures len { length room.new ≡ length room.old }
 {
     if stride == 1 {
-        write_near(elements, count, room);
-    } else {
-        write_apart(elements, stride, count, room);
+        return write_near(elements, count, room);
+    }
+    for k in 0..count {
+        room[k] = elements[k * stride];
     }
 }

@@ -2,6 +2,7 @@
 ghost use Rattle.std.specs.Prelude.{◌≡◌, ℕ, IsTrue, ◌+◌, ◌-◌, ◌*◌, ◌/◌, ◌<◌, ◌≤◌, length, slice_index_or};
 ghost use Rattle.apl_pool.specs.declared.kernel.TheConstants.{MOST_PLACES};
 ghost use Rattle.apl_walk.specs.declared.map.TheConstants.{MOST_STEP};
+ghost use Rattle.apl_walk.specs.Steps.{repeated_step};
 ghost use Rattle.apl_walk.specs.declared.fronts.TheConstants.{COPIES};
 
 use crate::fronts::{COPIES, write_copies, write_same};
@@ -69,8 +70,6 @@ impl Repeated {
 }
 
 impl AxisMap for Repeated {
-    ghost use Rattle.apl_walk.specs.Steps.{repeated_step};
-
     ghost extent = { λ r. r.axis_length * r.times };
 
     ghost reach = { λ r. (r.axis_length - 1) * r.stride };

@@ -2,7 +2,7 @@
 ghost use Rattle.std.specs.Prelude.{◌≡◌, ◌+◌, ◌-◌, ◌*◌, ◌<◌, ◌≤◌};
 ghost use Rattle.apl_pool.specs.declared.kernel.TheConstants.{MOST_PLACES};
 ghost use Rattle.apl_walk.specs.declared.map.TheConstants.{MOST_STEP};
-ghost use Rattle.apl_walk.specs.Steps.{wrapped};
+ghost use Rattle.apl_walk.specs.Steps.{wrapped, rotated_step};
 
 use crate::fronts::write_stretch;
 use crate::map::{AxisMap, MOST_STEP};
@@ -30,8 +30,6 @@ pub(crate) fn counted_round(length: usize, sum: usize) -> usize
 }
 
 impl AxisMap for Rotated {
-    ghost use Rattle.apl_walk.specs.Steps.{rotated_step};
-
     ghost extent = { λ r. r.extent };
 
     ghost reach = { λ r. (r.extent - 1) * r.stride };

@@ -1,7 +1,7 @@
 //! Lines along an axis that are each rotated by a number of their own.
 ghost use Rattle.std.specs.Prelude.{◌≡◌, ℕ, ◌+◌, ◌*◌, ◌<◌, ◌≤◌, slice_index, slice_index_or};
 ghost use Rattle.apl_pool.specs.declared.kernel.TheConstants.{MOST_PLACES};
-ghost use Rattle.apl_walk.specs.Steps.{wrapped, rotated_place};
+ghost use Rattle.apl_walk.specs.Steps.{wrapped, rotated_place, rotated_column};
 
 use crate::lined::Lined;
 use crate::rotated::counted_round;
@@ -41,9 +41,6 @@ pub struct RotatedRows<'a, T> {
 }
 
 impl<T: Copy> Lined for RotatedRows<'_, T> {
-    ghost use Rattle.std.specs.Prelude.{slice_index_or};
-    ghost use Rattle.apl_walk.specs.Steps.{rotated_place};
-
     type Out = T;
 
     ghost place_count = { λ r. r.count };
@@ -112,9 +109,6 @@ impl<T: Copy> RotatedColumns<'_, T> {
 }
 
 impl<T: Copy> Lined for RotatedColumns<'_, T> {
-    ghost use Rattle.std.specs.Prelude.{slice_index_or};
-    ghost use Rattle.apl_walk.specs.Steps.{rotated_column};
-
     type Out = T;
 
     ghost place_count = { λ r. r.count };
