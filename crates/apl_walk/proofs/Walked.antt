@@ -1,14 +1,15 @@
 -- Steps along the axes of a result.
-use Rattle.std.proofs.Common.{◌≡◌, ℕ, ◌+◌, ◌-◌, ◌*◌, ◌/◌, ◌%◌, ◌<◌, ◌≤◌, Bool, true, false, List, [], ◌∷◌, ◌++◌, length, slice_index_or, refl, sym, ap, ◌∙◌, arith, if◌then◌else◌}
-use Rattle.std.specs.Prelude.{◌&&◌, nat_le, nat_lt, Option, Some, None}
-use Rattle.std.proofs.lemmas.Bool.{and_parts, leb-true, ltb-true, le-leb, lt-ltb}
+use Rattle.std.proofs.Common.{◌≡◌, ℕ, ◌+◌, ◌-◌, ◌*◌, ◌/◌, ◌%◌, ◌<◌, List, [], ◌∷◌, ◌++◌, length, slice_index_or, refl, sym, ap, ◌∙◌, arith, inl, inr}
+use Rattle.std.specs.Prelude.{Option, Some, None}
+use Rattle.std.proofs.lemmas.Bool.{cases_lt}
 use Rattle.std.proofs.Math.Arith.{mod-mul}
-use Rattle.std.proofs.Math.Nat.{add_assoc, mod-lt, div-one, div-div-eq-div-mul, mul-le-mul_right, mul-lt-mul_of_pos_right, lt_of_mul-lt-mul_right}
+use Rattle.std.proofs.Math.Nat.{add_assoc, mod-lt, div-one, div-div-eq-div-mul, mul-le-mul_right, mul-lt-mul_of_pos_right}
 use Rattle.apl_walk.specs.declared.window.Window.{Window}
 use Rattle.apl_walk.specs.declared.maps.Map.{Map}
 use Rattle.apl_walk.specs.declared.maps.Map.TheVariants.{Window as WindowMap, Reversed, Rotated, Listed, ListedOrNone, Repeated}
-use Rattle.apl_walk.specs.Steps.{and_step}
-use Rattle.apl_walk.specs.Maps.{step_of, map_extent, map_step, extent_of, walked}
+use Rattle.apl_walk.specs.Steps.{and_step, window_step}
+use Rattle.apl_walk.specs.Maps.{step_of, map_extent, map_step, extent_of, walked, windows_step}
+use Rattle.apl_walk.proofs.Stepped.{window_within, window_before, window_after}
 
 pub and_step-assoc : (a b c : Option ℕ) → and_step a (and_step b c) ≡ and_step (and_step a b) c
 and_step-assoc (Some l) (Some m) (Some n) = ap Some (sym (add_assoc l m n))
@@ -31,71 +32,52 @@ zero-and_step : (a : Option ℕ) → and_step (Some 0) a ≡ a
 zero-and_step (Some m) = ap Some (omega arith)
 zero-and_step None = refl
 
--- ---- one window
+-- ---- two windows as one
 
-within : (from to i : ℕ) → from ≤ i → i < to → (nat_le from i && nat_lt i to) ≡ true
-within from to i low high = rw (le-leb from i low, lt-ltb i to high) refl
-
-same_tests : (x y : Bool) → (x ≡ true → y ≡ true) → (y ≡ true → x ≡ true) → x ≡ y
-same_tests true y there back = sym (there refl)
-same_tests false true there back = back refl
-same_tests false false there back = refl
-
-pub whole_step : (w : Window) (i : ℕ) → w.from ≡ 0 → w.start ≡ 0 → w.to ≡ w.extent → i < w.extent → step_of w i ≡ Some (i * w.stride)
+whole_step : (w : Window) (i : ℕ) → w.from ≡ 0 → w.start ≡ 0 → w.to ≡ w.extent → i < w.extent → Some (i * w.stride) ≡ step_of w i
 whole_step w i from start to inside =
-    let test : (nat_le w.from i && nat_lt i w.to) ≡ true = within w.from w.to i (omega (arith, from)) (omega (arith, to, inside)) in
-    let step : i + w.start - w.from ≡ i = omega (arith, from, start) in
-    rw test (ap (λ s. Some (s * w.stride)) step)
+    let step : i ≡ i + w.start - w.from = omega (arith, from, start) in
+    ap (λ s. Some (s * w.stride)) step ∙ sym (window_within w.from w.to w.start w.stride i (omega (arith, from)) (omega (arith, to, inside)))
 
 -- an index on an axis whose steps are of e indexes each, and the rest
-joined_test : (from to e q r : ℕ) → r < e → (nat_le (from * e) (q * e + r) && nat_lt (q * e + r) (to * e)) ≡ (nat_le from q && nat_lt q to)
-joined_test from to e q r rest =
-    same_tests (nat_le (from * e) (q * e + r) && nat_lt (q * e + r) (to * e)) (nat_le from q && nat_lt q to)
-    (λ wide.
-    let parts = and_parts (nat_le (from * e) (q * e + r)) (nat_lt (q * e + r) (to * e)) wide in
-    let low : from * e ≤ q * e + r = leb-true (from * e) (q * e + r) parts.0 in
-    let high : q * e + r < to * e = ltb-true (q * e + r) (to * e) parts.1 in
-    let before : from < q + 1 = lt_of_mul-lt-mul_right e {m = from} {n = q + 1} (omega (arith, low, rest)) in
-    let after : q < to = lt_of_mul-lt-mul_right e {m = q} {n = to} (omega (arith, high)) in
-    within from to q (omega (arith, before)) after)
-    (λ narrow.
-    let parts = and_parts (nat_le from q) (nat_lt q to) narrow in
-    let low : from ≤ q = leb-true from q parts.0 in
-    let high : q < to = ltb-true q to parts.1 in
-    let next : q + 1 ≤ to = omega (arith, high) in
-    within (from * e) (to * e) (q * e + r) (omega (arith, mul-le-mul_right e low)) (omega (arith, rest, mul-le-mul_right {m = q + 1} {n = to} e next)))
-
-joined_value : (from to start e t q r : ℕ) → r < e
-    → (if nat_le (from * e) (q * e + r) && nat_lt (q * e + r) (to * e) then Some ((q * e + r + start * e - from * e) * t) else None)
-    ≡ and_step (Some (r * t)) (if nat_le from q && nat_lt q to then Some ((q + start - from) * (t * e)) else None)
-joined_value from to start e t q r rest = rw (joined_test from to e q r rest) (by_test (nat_le from q && nat_lt q to) refl)
-  where
-    by_test : (b : Bool) → (nat_le from q && nat_lt q to) ≡ b
-        → (if b then Some ((q * e + r + start * e - from * e) * t) else None) ≡ and_step (Some (r * t)) (if b then Some ((q + start - from) * (t * e)) else None)
-    by_test true test =
-        let low : from ≤ q = leb-true from q (and_parts (nat_le from q) (nat_lt q to) test).0 in
-        let wide : from * e ≤ q * e = mul-le-mul_right e low in
-        let step = q + start - from in
-        let whole : q + start ≡ step + from = omega (arith, low) in
-        let times : q * e + start * e ≡ step * e + from * e = omega (arith, ap (λ n. n * e) whole) in
-        let less : q * e + r + start * e - from * e ≡ step * e + r = omega (arith, times) in
-        ap Some (ap (λ n. n * t) less ∙ omega arith)
-    by_test false test = refl
+joined_window : (from to start e t q r : ℕ) → r < e
+    → window_step (from * e) (to * e) (start * e) t (q * e + r) ≡ and_step (Some (r * t)) (window_step from to start (t * e) q)
+joined_window from to start e t q r rest =
+    let place = q * e + r in
+    let inner = and_step (Some (r * t)) in
+    elim (cases_lt q from) [
+      | inl before ↦
+          let next = mul-le-mul_right {m = q + 1} {n = from} e (omega (arith, before)) in
+          window_before (from * e) (to * e) (start * e) t place (omega (arith, rest, next)) ∙ ap inner (sym (window_before from to start (t * e) q before))
+      | inr low ↦
+          let wide = mul-le-mul_right {m = from} {n = q} e low in
+          elim (cases_lt q to) [
+            | inl high ↦
+                let next = mul-le-mul_right {m = q + 1} {n = to} e (omega (arith, high)) in
+                let step = q + start - from in
+                let whole : q + start ≡ step + from = omega (arith, low) in
+                let times : q * e + start * e ≡ step * e + from * e = omega (arith, ap (λ n. n * e) whole) in
+                let less : place + start * e - from * e ≡ step * e + r = omega (arith, times) in
+                window_within (from * e) (to * e) (start * e) t place (omega (arith, wide)) (omega (arith, rest, next))
+                ∙ ap Some (ap (λ n. n * t) less ∙ omega arith) ∙ ap inner (sym (window_within from to start (t * e) q low high))
+            | inr after ↦
+                let past = mul-le-mul_right {m = to} {n = q} e after in
+                window_after (from * e) (to * e) (start * e) t place (omega (arith, wide)) (omega (arith, past)) ∙ ap inner (sym (window_after from to start (t * e) q low after))
+          ]
+    ]
 
 -- a whole inner axis and the one before it as one axis
 pub joined_step : (outer inner : Window) (place : ℕ) → inner.from ≡ 0 → inner.start ≡ 0 → inner.to ≡ inner.extent → outer.stride ≡ inner.stride * inner.extent
-    → (if nat_le (outer.from * inner.extent) (place % (outer.extent * inner.extent)) && nat_lt (place % (outer.extent * inner.extent)) (outer.to * inner.extent)
-    then Some ((place % (outer.extent * inner.extent) + outer.start * inner.extent - outer.from * inner.extent) * inner.stride) else None)
-    ≡ and_step (step_of inner (place % inner.extent)) (step_of outer (place / inner.extent % outer.extent))
+    → window_step (outer.from * inner.extent) (outer.to * inner.extent) (outer.start * inner.extent) inner.stride (place % (outer.extent * inner.extent)) ≡ windows_step outer inner place
 joined_step outer inner place from start to stride =
     let e = inner.extent in
     let q = place / e % outer.extent in
     let r = place % e in
     let rest : r < e = mod-lt place inner.extent_some in
-    let split : place % (outer.extent * e) ≡ q * e + r = mod-mul place outer.extent_some inner.extent_some in
-    rw split
-    (joined_value outer.from outer.to outer.start e inner.stride q r rest
-    ∙ rw stride (ap (λ s. and_step s (if nat_le outer.from q && nat_lt q outer.to then Some ((q + outer.start - outer.from) * (inner.stride * e)) else None)) (sym (whole_step inner r from start to rest))))
+    ap (window_step (outer.from * e) (outer.to * e) (outer.start * e) inner.stride) (mod-mul place outer.extent_some inner.extent_some)
+    ∙ joined_window outer.from outer.to outer.start e inner.stride q r rest
+    ∙ ap (λ s. and_step s (window_step outer.from outer.to outer.start (inner.stride * e) q)) (whole_step inner r from start to rest)
+    ∙ ap (λ t. and_step (step_of inner r) (window_step outer.from outer.to outer.start t q)) (sym stride)
 
 pub map_some : (m : Map) → 0 < map_extent m
 map_some (WindowMap w) = w.extent_some

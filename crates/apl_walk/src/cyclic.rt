@@ -17,18 +17,6 @@ pub struct Cyclic<'a, T> {
     ghost count_most: { count ≤ MOST_PLACES },
 }
 
-/// How long the lines are: an only element makes one line.
-fn cyclic_extent(size: usize, count: usize) -> usize
-    requires size { size ≤ MOST_PLACES }
-    requires most { count ≤ MOST_PLACES }
-    ensures several { 1 < size → result ≡ size }
-    ensures one { size ≤ 1 → count ≤ result }
-    ensures some { 0 < result }
-    ensures most { result ≤ MOST_PLACES }
-{
-    if size > 1 { size } else { count.max(1) }
-}
-
 impl<'a, T: Copy> Cyclic<'a, T> {
     /// The elements in row order, again and again.
     pub fn new(elements: &'a [T], fill: T, count: usize) -> Cyclic<'a, T>
@@ -38,10 +26,17 @@ impl<'a, T: Copy> Cyclic<'a, T> {
         ensures elements { result.elements.now ≡ elements.now }
         ensures values { (place : ℕ) → place < count → slice_index_or elements.now (place % result.extent) result.past ≡ slice_index_or elements.now (place % length elements.now) fill }
     {
+        let past = element_or(elements, 0, fill);
+        // An only element makes one line.
+        let extent = if elements.len() > 1 {
+            elements.len()
+        } else {
+            count.max(1)
+        };
         Cyclic {
             elements,
-            past: element_or(elements, 0, fill),
-            extent: cyclic_extent(elements.len(), count),
+            past,
+            extent,
             count,
         }
     }

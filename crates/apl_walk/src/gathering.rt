@@ -48,14 +48,10 @@ fn gather_runs<M: AxisMap + Sync + Drop, W: Crew>(
     requires extent { extent_of outer.now * M.extent last ≡ count_of shape }
     ensures { IsArrayAt shape b.now.kind (λ place. filled_at b.now (and_step (M.step last (place % M.extent last)) (walked outer.now (place / M.extent last)))) result }
 {
-    match b.numbers() {
-        Some(numbers) => gather_elements(workers, shape, b, numbers, outer, last),
-        None => {
-            let Some(characters) = b.characters() else {
-                unreachable!()
-            };
-            gather_elements(workers, shape, b, characters, outer, last)
-        }
+    match (b.numbers(), b.characters()) {
+        (Some(numbers), _) => gather_elements(workers, shape, b, numbers, outer, last),
+        (_, Some(characters)) => gather_elements(workers, shape, b, characters, outer, last),
+        _ => unreachable!(),
     }
 }
 

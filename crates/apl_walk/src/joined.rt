@@ -2,6 +2,7 @@
 ghost use Rattle.std.specs.Prelude.{◌≡◌, ◌+◌, ◌*◌, ◌<◌, ◌≤◌, length, slice_index_or};
 ghost use Rattle.apl_pool.specs.declared.kernel.TheConstants.{MOST_PLACES};
 ghost use Rattle.apl_walk.specs.Steps.{BeginsWith};
+ghost use Rattle.apl_walk.specs.Seams.{joined_value};
 
 use crate::lined::Lined;
 use crate::stretches::{element_or, write_or};
@@ -23,10 +24,9 @@ impl<'a, T: Copy> Part<'a, T> {
         ensures past { result.past ≡ slice_index_or elements.now 0 fill }
         ensures length { result.length ≡ length }
     {
-        let past = element_or(elements, 0, fill);
         Part {
             elements,
-            past,
+            past: element_or(elements, 0, fill),
             length,
         }
     }
@@ -65,8 +65,6 @@ pub struct Joined<'a, T> {
 }
 
 impl<T: Copy> Lined for Joined<'_, T> {
-    ghost use Rattle.apl_walk.specs.Seams.{joined_value};
-
     type Out = T;
 
     ghost place_count = { λ j. j.count };

@@ -63,18 +63,10 @@ fn joined<'a>(outer: &Map<'a>, inner: &Map<'a>) -> Option<Map<'a>>
     ensures extent { IfSome result (λ m. map_extent m ≡ map_extent outer.now * map_extent inner.now) }
     ensures step { IfSome result (λ m. (place : ℕ) → map_step m (place % map_extent m) ≡ maps_step outer.now inner.now place) }
 {
-    let Map::Window(inner) = inner else {
-        return None;
-    };
-    if inner.extent == 1 && inner.is_whole() {
-        return Some(*outer);
-    }
-    let Map::Window(outer) = outer else {
-        return None;
-    };
-    match outer.joined(inner) {
-        Some(window) => Some(Map::Window(window)),
-        None => None,
+    match (outer, inner) {
+        (_, Map::Window(inner)) if inner.extent == 1 && inner.is_whole() => Some(*outer),
+        (Map::Window(outer), Map::Window(inner)) => Some(Map::Window(outer.joined(inner)?)),
+        _ => None,
     }
 }
 
@@ -87,13 +79,7 @@ impl<'a> Walk<'a> {
     {
         Walk {
             inner: Vec::new(alloc),
-            first: Map::Window(Window {
-                extent: 1,
-                from: 0,
-                to: 1,
-                start: 0,
-                stride: 1,
-            }),
+            first: Map::Window(Window::whole(1, 1)),
         }
     }
 

@@ -87,7 +87,6 @@ impl<L: Lined> ByLines<L> {
         requires most { from ≤ MOST_PLACES }
         requires order { first < end }
         requires within { end ≤ L.extent self.now.lines }
-        ensures first { first ≤ result.1 }
         ensures end { result.1 < end }
         ensures low { from ≤ result.0 * L.extent self.now.lines + result.1 }
         ensures few { result.0 ≤ from + 1 }
@@ -115,9 +114,9 @@ impl<L: Lined> ByLines<L> {
         ensures values { HasColumns (L.value self.now.lines) (L.extent self.now.lines) from to end room.new }
         ensures len { length room.new ≡ length room.old }
     {
-        let gap = self.extent.number() - (end - first);
+        let extent = self.extent.number();
         let (mut line, mut index) = self.begin(from, first, end);
-        let mut place = line * self.extent.number() + index;
+        let mut place = line * extent + index;
         while place < to {
             let count = (end - index).min(to - place);
             let done = place - from;
@@ -125,9 +124,9 @@ impl<L: Lined> ByLines<L> {
             let end_of_room = if first == 0 { room.len() } else { done + count };
             self.lines
                 .write(line, index, count, &mut room[done..end_of_room]);
-            place += count + gap;
             line += 1;
             index = first;
+            place = line * extent + index;
         }
     }
 

@@ -1,9 +1,8 @@
 //! Axes each of whose indexes is listed, or has no place.
-ghost use Rattle.std.specs.Prelude.{◌≡◌, ℕ, ◌+◌, ◌-◌, ◌*◌, ◌<◌, ◌≤◌, Some, length, slice_index, slice_index_or, nat_lt, if◌then◌else◌};
+ghost use Rattle.std.specs.Prelude.{◌≡◌, ℕ, ◌+◌, ◌-◌, ◌*◌, ◌<◌, ◌≤◌, length, slice_index, slice_index_or, nat_lt, if◌then◌else◌};
 ghost use Rattle.apl_pool.specs.declared.kernel.TheConstants.{MOST_PLACES};
 ghost use Rattle.apl_walk.specs.declared.map.TheConstants.{MOST_STEP};
-ghost use Rattle.apl_walk.specs.Gathered.{value_or, AreAtEntries};
-ghost use Rattle.apl_walk.specs.Steps.{and_step, entry_step, BeginsWith};
+ghost use Rattle.apl_walk.specs.Steps.{entry_step};
 
 use crate::map::{AxisMap, MOST_STEP};
 
@@ -23,52 +22,19 @@ pub struct ListedOrNone<'a> {
 }
 
 impl ListedOrNone<'_> {
-    /// Writes the element at each index, and the fill where there is no place, one by one.
-    #[inline(always)]
-    fn write_each<T: Copy>(
-        &self,
-        elements: &[T],
-        base: usize,
-        from: usize,
-        count: usize,
-        fill: T,
-        room: &mut [T],
-    )
-        requires within { from + count ≤ length self.now.entries.now }
-        requires near { base + (self.now.axis_length - 1) * self.now.stride < length elements.now }
-        requires room { count ≤ length room.old }
-        ensures values { let l = self.now in
-            BeginsWith (λ k. value_or elements.now fill (and_step (entry_step l.axis_length l.stride (slice_index l.entries.now (from + k))) (Some base))) count room.new }
-        ensures len { length room.new ≡ length room.old }
-    {
-        for k in 0..count {
-            room[k] = match self.step(from + k) {
-                Some(step) => elements[base + step],
-                None => fill,
-            };
-        }
-    }
-
     /// Writes the element at each index, and some element where there is no place.
     #[inline(always)]
-    fn write_elements<T: Copy>(
-        &self,
-        elements: &[T],
-        base: usize,
-        from: usize,
-        count: usize,
-        room: &mut [T],
-    )
+    fn write_elements<T: Copy>(&self, line: &[T], from: usize, count: usize, room: &mut [T])
         requires within { from + count ≤ length self.now.entries.now }
-        requires near { base + (self.now.axis_length - 1) * self.now.stride < length elements.now }
+        requires near { (self.now.axis_length - 1) * self.now.stride < length line.now }
         requires room { count ≤ length room.old }
-        ensures each { AreAtEntries self.now.entries.now from self.now.axis_length self.now.stride elements.now base count room.new }
+        ensures each { (k : ℕ) (d : T) → k < count → slice_index self.now.entries.now (from + k) < self.now.axis_length
+            → slice_index_or room.new k d ≡ slice_index_or line.now (slice_index self.now.entries.now (from + k) * self.now.stride) d }
         ensures len { length room.new ≡ length room.old }
     {
         let entries = self.entries;
         let stride = self.stride;
         let last = self.axis_length.saturating_sub(1);
-        let line = &elements[base..];
         for k in 0..count {
             let index = last.min(entries[from + k] as usize);
             room[k] = line[index * stride];
@@ -121,20 +87,17 @@ impl AxisMap for ListedOrNone<'_> {
     }
 
     #[inline(always)]
-    fn write<T: Copy>(
-        &self,
-        elements: &[T],
-        base: usize,
-        from: usize,
-        count: usize,
-        fill: T,
-        room: &mut [T],
-    ) {
-        if count < FEW {
-            return self.write_each(elements, base, from, count, fill, room);
+    fn write_line<T: Copy>(&self, line: &[T], from: usize, count: usize, fill: T, room: &mut [T]) {
+        if count >= FEW {
+            // Neither of the two loops has a branch that no processor can foresee.
+            self.write_elements(line, from, count, room);
+            return self.write_fills(from, count, fill, room);
         }
-        // Neither of the two loops has a branch that no processor can foresee.
-        self.write_elements(elements, base, from, count, room);
-        self.write_fills(from, count, fill, room);
+        for k in 0..count {
+            room[k] = match self.step(from + k) {
+                Some(step) => line[step],
+                None => fill,
+            };
+        }
     }
 }

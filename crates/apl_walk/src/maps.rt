@@ -1,5 +1,5 @@
 //! An axis of any kind, and what several axes add.
-ghost use Rattle.std.specs.Prelude.{◌≡◌, ◌+◌, ◌*◌, ◌/◌, ◌%◌, ◌<◌, ◌≤◌, IfSome, length};
+ghost use Rattle.std.specs.Prelude.{◌≡◌, ◌*◌, ◌/◌, ◌%◌, ◌<◌, ◌≤◌, IfSome, length};
 ghost use Rattle.apl_pool.specs.declared.kernel.TheConstants.{MOST_PLACES};
 ghost use Rattle.apl_walk.specs.declared.map.TheConstants.{MOST_STEP};
 ghost use Rattle.apl_walk.specs.Maps.{walked};
@@ -63,16 +63,8 @@ impl AxisMap for Map<'_> {
         with_kind!(self, map => map.step(i))
     }
 
-    fn write<T: Copy>(
-        &self,
-        elements: &[T],
-        base: usize,
-        from: usize,
-        count: usize,
-        fill: T,
-        room: &mut [T],
-    ) {
-        with_kind!(self, map => map.write(elements, base, from, count, fill, room))
+    fn write_line<T: Copy>(&self, line: &[T], from: usize, count: usize, fill: T, room: &mut [T]) {
+        with_kind!(self, map => map.write_line(line, from, count, fill, room))
     }
 }
 

@@ -2,6 +2,7 @@
 ghost use Rattle.std.specs.Prelude.{◌≡◌, ℕ, IsTrue, ◌+◌, ◌-◌, ◌*◌, ◌/◌, ◌<◌, ◌≤◌, length, slice_index_or};
 ghost use Rattle.apl_pool.specs.declared.kernel.TheConstants.{MOST_PLACES};
 ghost use Rattle.apl_walk.specs.declared.map.TheConstants.{MOST_STEP};
+ghost use Rattle.apl_walk.specs.Steps.{repeated_step};
 ghost use Rattle.apl_walk.specs.declared.fronts.TheConstants.{COPIES};
 
 use crate::fronts::{COPIES, write_copies, write_same};
@@ -35,49 +36,40 @@ fn write_index<T: Copy>(value: T, count: usize, several: bool, room: &mut [T])
 }
 
 impl Repeated {
-    /// Writes the copies of an index but the first `skip`, and of those after it, until `limit` places
-    /// are written. Answers how many indexes.
+    /// Writes the copies of indexes from the place `from` of the axis on, until `limit` or more are
+    /// written. Answers how many there are, also past the end of the room.
     #[inline(always)]
     fn write_indexes<T: Copy>(
-        &self,
-        elements: &[T],
-        base: usize,
-        index: usize,
-        skip: usize,
+        self,
+        line: &[T],
+        from: usize,
         limit: usize,
         several: bool,
         room: &mut [T],
     ) -> usize
-        requires skip { skip < self.now.times }
-        requires within { index * self.now.times + skip + limit ≤ self.now.axis_length * self.now.times }
-        requires near { base + (self.now.axis_length - 1) * self.now.stride < length elements.now }
+        requires within { from + limit ≤ self.axis_length * self.times }
+        requires near { (self.axis_length - 1) * self.stride < length line.now }
         requires room { limit ≤ length room.old }
-        requires all { IsTrue several → 0 < limit → limit + self.now.times ≤ length room.old + 1 }
+        requires all { IsTrue several → 0 < limit → limit + self.times ≤ length room.old + 1 }
         requires several { IsTrue several → 0 < limit → limit + COPIES ≤ length room.old + 1 }
-        ensures each { let r = self.now in (k : ℕ) (d : T) → skip + k < result * r.times → k < length room.old
-            → slice_index_or room.new k d ≡ slice_index_or elements.now (base + (index + (skip + k) / r.times) * r.stride) d }
-        ensures far { 0 < limit → skip + limit ≤ result * self.now.times }
-        ensures most { result * self.now.times ≤ skip + limit + self.now.times }
+        ensures each { (k : ℕ) (d : T) → k < result → k < length room.old → slice_index_or room.new k d ≡ slice_index_or line.now ((from + k) / self.times * self.stride) d }
+        ensures far { limit ≤ result }
         ensures len { length room.new ≡ length room.old }
     {
-        let times = self.times;
-        let mut left = times - skip;
+        let mut index = from / self.times;
+        let mut left = self.times - from % self.times;
         let mut done = 0;
-        let mut whole = 0;
         while done < limit {
-            let value = elements[base + (index + whole) * self.stride];
-            write_index(value, left, several, &mut room[done..]);
+            write_index(line[index * self.stride], left, several, &mut room[done..]);
             done += left;
-            left = times;
-            whole += 1;
+            left = self.times;
+            index += 1;
         }
-        whole
+        done
     }
 }
 
 impl AxisMap for Repeated {
-    ghost use Rattle.apl_walk.specs.Steps.{repeated_step};
-
     ghost extent = { λ r. r.axis_length * r.times };
 
     ghost reach = { λ r. (r.axis_length - 1) * r.stride };
@@ -99,34 +91,13 @@ impl AxisMap for Repeated {
     }
 
     #[inline(always)]
-    fn write<T: Copy>(
-        &self,
-        elements: &[T],
-        base: usize,
-        from: usize,
-        count: usize,
-        _fill: T,
-        room: &mut [T],
-    ) {
-        let times = self.times;
-        let index = from / times;
-        let skip = from % times;
-        let short = times.max(COPIES) - 1;
+    fn write_line<T: Copy>(&self, line: &[T], from: usize, count: usize, _fill: T, room: &mut [T]) {
+        let short = self.times.max(COPIES) - 1;
         let limit = count.min(room.len().saturating_sub(short));
-        let whole = self.write_indexes(elements, base, index, skip, limit, true, room);
-        let done = (whole * times).saturating_sub(skip);
+        let done = self.write_indexes(line, from, limit, true, room);
         if done < count {
-            let skip = skip.saturating_sub(whole * times);
             let rest = &mut room[done..count];
-            self.write_indexes(
-                elements,
-                base,
-                index + whole,
-                skip,
-                count - done,
-                false,
-                rest,
-            );
+            self.write_indexes(line, from + done, count - done, false, rest);
         }
     }
 }

@@ -2,9 +2,9 @@
 ghost use Rattle.std.specs.Prelude.{◌≡◌, ◌+◌, ◌-◌, ◌*◌, ◌<◌, ◌≤◌};
 ghost use Rattle.apl_pool.specs.declared.kernel.TheConstants.{MOST_PLACES};
 ghost use Rattle.apl_walk.specs.declared.map.TheConstants.{MOST_STEP};
-ghost use Rattle.apl_walk.specs.Steps.{wrapped};
+ghost use Rattle.apl_walk.specs.Steps.{wrapped, rotated_step};
 
-use crate::fronts::write_two_stretches;
+use crate::fronts::write_stretch;
 use crate::map::{AxisMap, MOST_STEP};
 
 /// Each index takes the one that is `by` further, and after the last one comes the first.
@@ -19,22 +19,17 @@ pub struct Rotated {
     ghost near: { extent * stride ≤ MOST_STEP },
 }
 
-impl Rotated {
-    /// The index that an index takes.
-    #[inline(always)]
-    fn index(&self, i: usize) -> usize
-        requires { i < self.now.extent }
-        ensures value { result ≡ wrapped self.now.extent (i + self.now.by) }
-        ensures below { result < self.now.extent }
-    {
-        let j = i + self.by;
-        if j < self.extent { j } else { j - self.extent }
-    }
+/// The index of an axis that the sum of two is, counted round.
+#[inline(always)]
+pub(crate) fn counted_round(length: usize, sum: usize) -> usize
+    requires { sum < length + length }
+    ensures value { result ≡ wrapped length sum }
+    ensures below { result < length }
+{
+    if sum < length { sum } else { sum - length }
 }
 
 impl AxisMap for Rotated {
-    ghost use Rattle.apl_walk.specs.Steps.{rotated_step};
-
     ghost extent = { λ r. r.extent };
 
     ghost reach = { λ r. (r.extent - 1) * r.stride };
@@ -52,32 +47,17 @@ impl AxisMap for Rotated {
 
     #[inline(always)]
     fn step(&self, i: usize) -> Option<usize> {
-        Some(self.index(i) * self.stride)
+        Some(counted_round(self.extent, i + self.by) * self.stride)
     }
 
     #[inline(always)]
-    fn write<T: Copy>(
-        &self,
-        elements: &[T],
-        base: usize,
-        from: usize,
-        count: usize,
-        _fill: T,
-        room: &mut [T],
-    ) {
+    fn write_line<T: Copy>(&self, line: &[T], from: usize, count: usize, _fill: T, room: &mut [T]) {
         if count == 0 {
             return;
         }
-        let start = self.index(from);
+        let start = counted_round(self.extent, from + self.by);
         let first = count.min(self.extent - start);
-        write_two_stretches(
-            elements,
-            self.stride,
-            base + start * self.stride,
-            first,
-            base,
-            count - first,
-            room,
-        );
+        write_stretch(&line[start * self.stride..], self.stride, first, room);
+        write_stretch(line, self.stride, count - first, &mut room[first..]);
     }
 }

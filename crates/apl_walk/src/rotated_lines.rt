@@ -1,9 +1,10 @@
 //! Lines along an axis that are each rotated by a number of their own.
 ghost use Rattle.std.specs.Prelude.{◌≡◌, ℕ, ◌+◌, ◌*◌, ◌<◌, ◌≤◌, slice_index, slice_index_or};
 ghost use Rattle.apl_pool.specs.declared.kernel.TheConstants.{MOST_PLACES};
-ghost use Rattle.apl_walk.specs.Steps.{wrapped, rotated_place};
+ghost use Rattle.apl_walk.specs.Steps.{wrapped, rotated_place, rotated_column};
 
 use crate::lined::Lined;
+use crate::rotated::counted_round;
 use crate::stretches::{element_or, write_or};
 use apl_divisor::Divisor;
 
@@ -25,12 +26,7 @@ impl Rotations<'_> {
         ensures value { result ≡ wrapped self.now.length (i + slice_index self.now.by.now line) }
         ensures below { result < self.now.length }
     {
-        let by = match self.by.get(line) {
-            Some(by) => *by,
-            None => 0,
-        };
-        let j = i + by;
-        if j < self.length { j } else { j - self.length }
+        counted_round(self.length, i + element_or(self.by, line, 0))
     }
 }
 
@@ -45,9 +41,6 @@ pub struct RotatedRows<'a, T> {
 }
 
 impl<T: Copy> Lined for RotatedRows<'_, T> {
-    ghost use Rattle.std.specs.Prelude.{slice_index_or};
-    ghost use Rattle.apl_walk.specs.Steps.{rotated_place};
-
     type Out = T;
 
     ghost place_count = { λ r. r.count };
@@ -79,13 +72,8 @@ impl<T: Copy> Lined for RotatedRows<'_, T> {
         let start = self.rotations.index(line, from);
         let first = count.min(self.rotations.length - start);
         write_or(self.elements, self.past, base + start, first, room);
-        write_or(
-            self.elements,
-            self.past,
-            base,
-            count - first,
-            &mut room[first..],
-        );
+        let rest = &mut room[first..];
+        write_or(self.elements, self.past, base, count - first, rest);
     }
 }
 
@@ -121,9 +109,6 @@ impl<T: Copy> RotatedColumns<'_, T> {
 }
 
 impl<T: Copy> Lined for RotatedColumns<'_, T> {
-    ghost use Rattle.std.specs.Prelude.{slice_index_or};
-    ghost use Rattle.apl_walk.specs.Steps.{rotated_column};
-
     type Out = T;
 
     ghost place_count = { λ r. r.count };
@@ -142,11 +127,8 @@ impl<T: Copy> Lined for RotatedColumns<'_, T> {
 
     #[inline(always)]
     fn at(&self, row: usize, column: usize) -> T {
-        self.at_column(
-            self.length.quotient(row),
-            self.length.remainder(row),
-            column,
-        )
+        let outer = self.length.quotient(row);
+        self.at_column(outer, self.length.remainder(row), column)
     }
 
     #[inline(always)]

@@ -1,5 +1,5 @@
 //! Neighbours, and past the last of them always the same.
-ghost use Rattle.std.specs.Prelude.{◌≡◌, ◌+◌, ◌<◌, ◌≤◌, ◌^◌, length, slice_index_or};
+ghost use Rattle.std.specs.Prelude.{◌≡◌, ◌+◌, ◌≤◌, ◌^◌, length, slice_index_or};
 ghost use Rattle.apl_walk.specs.Steps.{BeginsWith};
 ghost use Rattle.apl_walk.specs.declared.stretches.TheConstants.{FEW};
 
@@ -19,31 +19,6 @@ pub fn element_or<T: Copy>(elements: &[T], place: usize, past: T) -> T
     }
 }
 
-#[inline(always)]
-fn write_few<T: Copy>(elements: &[T], past: T, first: usize, count: usize, room: &mut [T])
-    requires room { count ≤ length room.old }
-    requires few { count < FEW }
-    requires most { first ≤ 2 ^ 62 }
-    ensures values { BeginsWith (λ k. slice_index_or elements.now (first + k) past) count room.new }
-    ensures len { length room.new ≡ length room.old }
-{
-    for k in 0..count {
-        room[k] = element_or(elements, first + k, past);
-    }
-}
-
-#[inline(always)]
-fn write_many<T: Copy>(elements: &[T], past: T, first: usize, count: usize, room: &mut [T])
-    requires room { count ≤ length room.old }
-    ensures values { BeginsWith (λ k. slice_index_or elements.now (first + k) past) count room.new }
-    ensures len { length room.new ≡ length room.old }
-{
-    let start = first.min(elements.len());
-    let near = count.min(elements.len() - start);
-    write_near(elements, start, near, room);
-    write_same(past, count - near, &mut room[near..]);
-}
-
 /// Writes the elements from `first` on to the front of a room.
 #[inline(always)]
 pub(crate) fn write_or<T: Copy>(elements: &[T], past: T, first: usize, count: usize, room: &mut [T])
@@ -52,9 +27,13 @@ pub(crate) fn write_or<T: Copy>(elements: &[T], past: T, first: usize, count: us
     ensures values { BeginsWith (λ k. slice_index_or elements.now (first + k) past) count room.new }
     ensures len { length room.new ≡ length room.old }
 {
-    if count < FEW {
-        write_few(elements, past, first, count, room);
-    } else {
-        write_many(elements, past, first, count, room);
+    if count >= FEW {
+        let start = first.min(elements.len());
+        let near = count.min(elements.len() - start);
+        write_near(&elements[start..], near, room);
+        return write_same(past, count - near, &mut room[near..]);
+    }
+    for k in 0..count {
+        room[k] = element_or(elements, first + k, past);
     }
 }

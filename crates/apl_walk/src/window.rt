@@ -1,9 +1,9 @@
 //! Axes whose indexes follow one another in the argument as well.
-ghost use Rattle.std.specs.Prelude.{◌≡◌, ◌+◌, ◌-◌, ◌*◌, ◌<◌, ◌≤◌, Some, length};
+ghost use Rattle.std.specs.Prelude.{◌≡◌, ◌+◌, ◌-◌, ◌*◌, ◌<◌, ◌≤◌, length};
 ghost use Rattle.apl_pool.specs.declared.kernel.TheConstants.{MOST_PLACES};
 ghost use Rattle.apl_walk.specs.declared.map.TheConstants.{MOST_STEP};
 ghost use Rattle.apl_walk.specs.Gathered.{value_or};
-ghost use Rattle.apl_walk.specs.Steps.{and_step, window_step, BeginsWith};
+ghost use Rattle.apl_walk.specs.Steps.{window_step, BeginsWith};
 
 use crate::fronts::{write_same, write_stretch};
 use crate::map::{AxisMap, MOST_STEP};
@@ -41,27 +41,19 @@ impl Window {
 
     /// Writes the elements of indexes that each have a place.
     #[inline(always)]
-    fn write_within<T: Copy>(
-        &self,
-        elements: &[T],
-        base: usize,
-        from: usize,
-        count: usize,
-        fill: T,
-        room: &mut [T],
-    )
+    fn write_within<T: Copy>(&self, line: &[T], from: usize, count: usize, fill: T, room: &mut [T])
         requires from { self.now.from ≤ from }
         requires to { from + count ≤ self.now.to }
-        requires near { base + (self.now.to + self.now.start - (self.now.from + 1)) * self.now.stride < length elements.now }
+        requires near { (self.now.to + self.now.start - (self.now.from + 1)) * self.now.stride < length line.now }
         requires room { count ≤ length room.old }
-        ensures values { BeginsWith (λ k. value_or elements.now fill (and_step (window_step self.now.from self.now.to self.now.start self.now.stride (from + k)) (Some base))) count room.new }
+        ensures values { BeginsWith (λ k. value_or line.now fill (window_step self.now.from self.now.to self.now.start self.now.stride (from + k))) count room.new }
         ensures len { length room.new ≡ length room.old }
     {
         if count == 0 {
             return;
         }
-        let first = base + self.step_within(from);
-        write_stretch(elements, first, self.stride, count, room);
+        let first = self.step_within(from);
+        write_stretch(&line[first..], self.stride, count, room);
     }
 }
 
@@ -95,31 +87,17 @@ impl AxisMap for Window {
     }
 
     #[inline(always)]
-    fn write<T: Copy>(
-        &self,
-        elements: &[T],
-        base: usize,
-        from: usize,
-        count: usize,
-        fill: T,
-        room: &mut [T],
-    ) {
+    fn write_line<T: Copy>(&self, line: &[T], from: usize, count: usize, fill: T, room: &mut [T]) {
         let to = from + count;
         if self.from <= from && to <= self.to {
-            return self.write_within(elements, base, from, count, fill, room);
+            return self.write_within(line, from, count, fill, room);
         }
         let first = self.from.max(from).min(to);
         let end = self.to.min(to).max(first);
         write_same(fill, first - from, room);
         if first < end {
-            self.write_within(
-                elements,
-                base,
-                first,
-                end - first,
-                fill,
-                &mut room[first - from..],
-            );
+            let middle = &mut room[first - from..];
+            self.write_within(line, first, end - first, fill, middle);
         }
         write_same(fill, to - end, &mut room[end - from..]);
     }

@@ -1,4 +1,4 @@
-use Rattle.std.proofs.Common.{◌≡◌, ◌-◌, ◌≤◌, length}
+use Rattle.std.proofs.Common.{◌-◌, ◌≤◌}
 use Rattle.apl_walk.specs.Columns.{HasColumns}
 use Rattle.apl_walk.proofs.lined.ByLines.write_by_tiles.Given as goal
 
@@ -6,7 +6,6 @@ abbrev pub invariant-loop-first : goal.invariant-loop-first
 invariant-loop-first g l = record {
   within : l.first ≤ l.extent;
   columns : HasColumns (g.L.Lined.value l.self.lines) (g.L.Lined.extent l.self.lines) l.from l.to l.first l.room;
-  len : length l.room ≡ length l.initial.room;
 }
 
 abbrev pub decreases-loop-first : goal.decreases-loop-first

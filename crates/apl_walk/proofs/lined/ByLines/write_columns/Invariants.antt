@@ -1,21 +1,17 @@
-use Rattle.std.proofs.Common.{◌≡◌, ◌+◌, ◌-◌, ◌*◌, ◌<◌, ◌≤◌, length}
+use Rattle.std.proofs.Common.{◌≡◌, ◌+◌, ◌-◌, ◌*◌, ◌<◌, ◌≤◌}
 use Rattle.std.specs.Prelude.{min, max}
 use Rattle.apl_walk.specs.Columns.{HasColumns}
 use Rattle.apl_walk.proofs.lined.ByLines.write_columns.Given as goal
 
 abbrev pub invariant-loop-place : goal.invariant-loop-place
 invariant-loop-place g l = let extent = g.L.Lined.extent l.self.lines in record {
-  there : l.place < l.to → l.place ≡ l.line * extent + l.index;
-  far : l.place ≤ l.line * extent + l.index;
+  there : l.place ≡ l.line * extent + l.index;
   few : l.line ≤ l.place + 1;
-  high : l.place ≤ l.to + extent + extent;
   low : l.from ≤ l.place;
-  first : l.first ≤ l.index;
-  index : l.line * extent + l.index ≤ max l.from (l.line * extent + l.first);
+  index : l.place ≤ max l.from (l.line * extent + l.first);
   inside : l.index < l.end;
   all : HasColumns (g.L.Lined.value l.self.lines) extent l.from l.to l.first l.room;
   several : HasColumns (g.L.Lined.value l.self.lines) extent l.from (min (l.line * extent) l.to) l.end l.room;
-  len : length l.room ≡ length l.initial.room;
 }
 
 abbrev pub decreases-loop-place : goal.decreases-loop-place

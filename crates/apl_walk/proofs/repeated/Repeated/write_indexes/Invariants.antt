@@ -3,14 +3,13 @@ use Rattle.apl_walk.proofs.repeated.Repeated.write_indexes.Given as goal
 
 abbrev pub invariant-loop-done : goal.invariant-loop-done
 invariant-loop-done g l = record {
-  turn : l.skip + l.done + l.left ≡ l.whole * l.times + l.times;
+  turn : l.from + l.done + l.left ≡ l.index * l.self.times + l.self.times;
   some : 0 < l.left;
-  most : l.left ≤ l.times;
-  whole : 0 < l.done → l.left ≡ l.times;
-  few : l.whole ≤ l.done;
-  far : l.done < l.limit + l.times;
-  each : (k : ℕ) (d : g.row.T.Denot) → k < l.done → k < length l.room → slice_index_or l.room k d ≡ slice_index_or l.elements (l.base + (l.index + (l.skip + k) / l.times) * l.self.stride) d;
-  len : length l.room ≡ length l.initial.room;
+  most : l.left ≤ l.self.times;
+  whole : 0 < l.done → l.left ≡ l.self.times;
+  few : l.index ≤ l.from + l.done;
+  far : l.done < l.limit + l.self.times;
+  each : (k : ℕ) (d : g.row.T.Denot) → k < l.done → k < length l.room → slice_index_or l.room k d ≡ slice_index_or l.line ((l.from + k) / l.self.times * l.self.stride) d;
 }
 
 abbrev pub decreases-loop-done : goal.decreases-loop-done
