@@ -4,12 +4,12 @@ use Rattle.std.specs.Prelude.{Some, ◌||◌, slice_index_or}
 use Rattle.std.proofs.lemmas.Bool.Decides.{nat_tests}
 use Rattle.std.proofs.Math.Nat.{mod-lt}
 use Rattle.std.proofs.Math.ListN.{get_or-map}
-use Rattle.std.proofs.lemmas.List.{nil_from_length}
+use Rattle.std.proofs.lemmas.List.{nil_from_length, get_or_default}
 use Rattle.apl_array.specs.declared.array.Elem.{Elem}
 use Rattle.apl_array.specs.declared.array.Elem.TheVariants.{Int}
 use Rattle.apl_array.specs.Axes.{place_number}
-use Rattle.apl_array.specs.Shape.{count_of}
-use Rattle.apl_array.specs.Array.{ArrayValue, IsArray, element_in}
+use Rattle.apl_array.specs.Shape.{count_of, place_of, index_at}
+use Rattle.apl_array.specs.Array.{ArrayValue, IsArray, element_in, element_at}
 use Rattle.apl_answer.specs.Arguments.{fill_of, has_elements, size_of, number_of, numbers_of, only_element}
 use Rattle.apl_struct.specs.Building.{reshape_source}
 use Rattle.apl_walk.specs.Gathered.{filled_at}
@@ -22,6 +22,18 @@ filled_in b place array inside = get_or-within b.ravel place (fill_of b.kind) (I
 -- and at each place of an argument without elements
 pub filled_past : (b : ArrayValue) (place : ℕ) → IsArray b → count_of b.shape ≡ 0 → filled_at b (Some place) ≡ fill_of b.kind
 filled_past b place array none = ap (λ xs. get_or xs place (fill_of b.kind)) (nil_from_length b.ravel (array.len ∙ none))
+
+-- the element at a place is that at its index list
+pub own_element : ((shape : List ℕ) (place : ℕ) → place < count_of shape → place_of shape (index_at shape place) ≡ place)
+    → (a : ArrayValue) (p : ℕ) → IsArray a → p < count_of a.shape → slice_index_or a.ravel p (fill_of a.kind) ≡ element_at a (index_at a.shape p)
+own_element back a p array inside =
+    get_or_default a.ravel p (fill_of a.kind) (Int (pos 0)) (omega (arith, array.len, inside)) ∙ ap (element_in a) (sym (back a.shape p inside))
+
+-- a scalar has the same element at whatever index list
+pub scalar_element : (b : ArrayValue) (index other : List ℕ) → length b.shape ≡ 0 → element_at b index ≡ element_at b other
+scalar_element b index other none =
+    let scalar : b.shape ≡ [] = nil_from_length b.shape none in
+    ap (λ s. element_in b (place_of s index)) scalar ∙ sym (ap (λ s. element_in b (place_of s other)) scalar)
 
 one_item : {T : Type 0} (xs : List T) (d : T) → length xs ≡ 1 → xs ≡ get_or xs 0 d ∷ []
 one_item [] d one = absurd (omega arith)

@@ -14,15 +14,6 @@ get_or-within [] k c d inside = absurd (omega arith)
 get_or-within (x ∷ xs) zero c d inside = refl
 get_or-within (x ∷ xs) (suc k) c d inside = get_or-within xs k c d (omega arith)
 
--- a scalar has the same element at whatever index list
-pub filled_scalar : (b : ArrayValue) (index : List ℕ) (place : ℕ) → IsArray b → length b.shape ≡ 0 → place < count_of b.shape → filled_at b (Some place) ≡ element_at b index
-filled_scalar b index place array none inside =
-    let scalar : b.shape ≡ [] = nil_from_length b.shape none in
-    let one : count_of b.shape ≡ 1 = ap count_of scalar in
-    let only : place ≡ 0 = omega (arith, inside, one) in
-    let first : place_of b.shape index ≡ 0 = ap (λ s. place_of s index) scalar in
-    rw (only, first) (get_or-within b.ravel 0 (fill_of b.kind) (Int (pos 0)) (omega (arith, array.len, one)))
-
 -- ---- an axis of a shape that has elements: `outer` blocks of `m` times `inner` places
 
 pub record AxisFacts (outer m inner count : ℕ) : Type 0 where

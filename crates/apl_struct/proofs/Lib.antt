@@ -16,7 +16,7 @@ pub mod Permuted
 pub mod LawfulShapes
 pub mod NamedAxes
 pub mod Ranges
-pub mod CappedAxes
+pub mod PastLimit
 pub mod Repeated
 pub mod Bits
 pub mod Naturals

@@ -25,6 +25,7 @@ use Rattle.apl_pool.specs.declared.kernel.Fault.{Fault}
 use Rattle.apl_pool.specs.Pool.{AreValues}
 use Rattle.apl_struct.specs.Numbering.{IsReached, last_number, value_numbered, element_numbered, value_step, IsReplacement}
 use Rattle.apl_struct.specs.Selecting.{chosen_index, chosen_place}
+use Rattle.apl_struct.proofs.Elements.{own_element}
 
 pub same_numbers : (f g : ℕ → ℕ) (step p n : ℕ) → ((m : ℕ) → m < n → f m ≡ g m) → last_number f step p n ≡ last_number g step p n
 same_numbers f g step p zero same = refl
@@ -52,10 +53,9 @@ pub line_reached : (last : Map) (outer : List Map) (line i : ℕ) (base : Option
 line_reached last outer line i base is inside = rw (mod-mul-add line (map_extent last) i inside, div-mul-add line (map_extent last) i inside, is) refl
 
 -- the map of the last axis and the others, as a slice pattern gives them
-pub walked_parts : (maps : List Map) (last : Map) (place : ℕ) → 0 < length maps → last ≡ slice_index_or maps 0 last → walked (last ∷ take (length maps - 1) (drop 1 maps)) place ≡ walked maps place
-walked_parts [] last place some is = absurd (omega arith)
-walked_parts (m ∷ ms) last place some is =
-    ap (λ l. walked (l ∷ take (length (m ∷ ms) - 1) ms) place) is ∙ ap (λ os. walked (m ∷ os) place) (take_rest (m ∷ ms) 1)
+pub joined_parts : (maps : List Map) (last : Map) → 0 < length maps → last ≡ slice_index_or maps 0 last → last ∷ take (length maps - 1) (drop 1 maps) ≡ maps
+joined_parts [] last some is = absurd (omega arith)
+joined_parts (m ∷ ms) last some is = ap (λ l. l ∷ take (length (m ∷ ms) - 1) ms) is ∙ ap (λ others. m ∷ others) (take_rest (m ∷ ms) 1)
 
 pub not_reached : (n : ℕ) (step : Option ℕ) → IsReached n (and_step step None) → ⊥
 not_reached n (Some m) is = is
@@ -66,20 +66,17 @@ not_reached n None is = is
 same_value : {T : Type 0} (x y : T) (r : Result T Fault) → r ≡ Ok x → r ≡ Ok y → x ≡ y
 same_value x y r first second = cc
 
--- a walk along all elements
-pub copied_each : {T : Type 0} (elements : List T) (fill : T) (all : WindowMap) → all.extent ≡ length elements → ((i : ℕ) → i < length elements → step_of all i ≡ Some (i * 1))
-    → (values source : List T) (outer : List Map) (last : WindowMap) (count : ℕ) → source ≡ elements → outer ≡ [] → last ≡ all → count ≡ 1 * all.extent
-    → AreValues (λ place. Ok (value_or source fill (and_step (step_of last (place % last.extent)) (walked outer (place / last.extent))))) count values
+-- all elements, once
+pub copied_each : {T : Type 0} (elements : List T) (fill past : T) (extent : ℕ) (values source : List T) (other : T) (wide count : ℕ) → source ≡ elements → other ≡ past → wide ≡ extent
+    → count ≡ length elements
+    → ((place : ℕ) → place < length elements → slice_index_or elements (place % extent) past ≡ slice_index_or elements (place % length elements) fill)
+    → AreValues (λ place. Ok (slice_index_or source (place % wide) other)) count values
     → (p : ℕ) (d : T) → p < length elements → slice_index_or values p d ≡ slice_index_or elements p d
-copied_each elements fill all wide step values source outer last count same along across long are p d inside =
-    let reached : ℕ → Result _ Fault = λ place. Ok (value_or elements fill (and_step (step_of all (place % all.extent)) (Some 0))) in
-    let own : p % all.extent ≡ p = ap (λ e. p % e) wide ∙ mod-eq_of_lt inside in
-    let there : p * 1 + 0 ≡ p = omega arith in
-    let is : reached p ≡ Ok (slice_index_or elements p fill) =
-    ap (λ i. Ok (value_or elements fill (and_step (step_of all i) (Some 0)))) own ∙ ap (λ s. Ok (value_or elements fill (and_step s (Some 0)))) (step p inside) ∙ ap (λ q. Ok (slice_index_or elements q fill)) there in
-    let below : p < count = omega (arith, long, wide, inside) in
-    let given = rw (same, along, across) at are in
-    same_value _ _ (reached p) (given.each p d below) is ∙ get_or_default elements p fill d inside
+copied_each elements fill past extent values source other wide count same again round long are_same are p d inside =
+    let given = rw (same, again, round) at are in
+    let own : p % length elements ≡ p = mod-eq_of_lt inside in
+    same_value _ _ (Ok (slice_index_or elements (p % extent) past)) (given.each p d (omega (arith, long, inside))) refl
+    ∙ are_same p inside ∙ ap (λ q. slice_index_or elements q fill) own ∙ get_or_default elements p fill d inside
 
 pub numbered_element : {T : Type 0} (elem_of : T → Elem) (elements first values : List T) (fill : T) (blank : Elem) (number place : ℕ) → elem_of fill ≡ blank
     → slice_index_or first place fill ≡ slice_index_or elements place fill → elem_of (value_numbered first values fill number place) ≡ value_numbered (map elem_of elements) (map elem_of values) blank number place
@@ -116,11 +113,6 @@ value_of_choice a b selected p m index array fits inside = by_test (has_one_elem
         let number : m * 1 + 1 ≡ suc m = omega arith in
         let below : m < length b.ravel = omega (arith, array.len, ap count_of same) in
         rw (one, number) (get_or_default b.ravel m (fill_of a.kind) (Int (pos 0)) below)
-
-pub own_element : ((shape : List ℕ) (place : ℕ) → place < count_of shape → place_of shape (index_at shape place) ≡ place)
-    → (a : ArrayValue) (p : ℕ) → IsArray a → p < count_of a.shape → slice_index_or a.ravel p (fill_of a.kind) ≡ element_at a (index_at a.shape p)
-own_element back a p array inside =
-    get_or_default a.ravel p (fill_of a.kind) (Int (pos 0)) (omega (arith, array.len, inside)) ∙ ap (element_in a) (sym (back a.shape p inside))
 
 module _ (inverse : (shape index : List ℕ) → IsIndexOf shape index → index_at shape (place_of shape index) ≡ index)
     (lawful : (shape : List ℕ) (place : ℕ) → place < count_of shape → IsIndexOf shape (index_at shape place))

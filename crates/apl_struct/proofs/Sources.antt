@@ -151,6 +151,11 @@ place_first origin n s ns slots m rest e place some count chosen extent steps =
     rw (chosen, count, extent, first, chosen_more origin n s slots (selected_shape ns slots) place some)
     (ap Some (add_comm (chosen_place origin ns (selected_shape ns slots) slots place) (slot_index origin s i * count_of ns)))
 
+-- the only index of an axis is a later start
+pub start_moved : (start step : ℕ) (rest : Option ℕ) → and_step (Some (start + step)) rest ≡ and_step (and_step (Some start) rest) (Some step)
+start_moved start step (Some m) = ap Some (omega arith)
+start_moved start step None = refl
+
 -- ---- all axes
 
 module _ (origin : Origin) (a : ArrayValue) (slots : Slots) (selected : List ℕ) (chosen : IsSelection a slots origin selected) (some : 0 < count_of selected) where

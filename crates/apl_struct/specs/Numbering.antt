@@ -7,7 +7,7 @@ use Rattle.apl_answer.specs.Arguments.{fill_of, rank_of, has_elements, has_one_e
 use Rattle.apl_answer.specs.declared.fault.OpFault.TheVariants.{Rank, Length, Domain}
 use Rattle.apl_answer.specs.Rows.{Check}
 use Rattle.apl_walk.specs.declared.maps.Map.{Map}
-use Rattle.apl_walk.specs.Maps.{walked}
+use Rattle.apl_walk.specs.Maps.{extent_of, walked}
 
 -- the place that a walk reaches, and 0 where it reaches none
 abbrev pub place_or_zero : Option ℕ → ℕ
@@ -50,13 +50,17 @@ pub record IsReplacement (a b : ArrayValue) (selected : List ℕ) : Type 0 where
 
 -- ---- a list that is written over
 
--- the place that is chosen by the index list at a place of a walk
-abbrev pub chosen_at : List Map → ℕ → ℕ
-chosen_at maps place = place_or_zero (walked maps place)
+-- each place that is chosen along these axes is below n
+abbrev pub AreWithin : ℕ → List Map → Type 0
+AreWithin n maps = (choice : ℕ) → choice < extent_of maps → IsReached n (walked maps choice)
 
--- the number of the value that stays at a place, after `count` choices
-abbrev pub number_at : List Map → (step count place : ℕ) → ℕ
-number_at maps step count place = last_number (λ p. chosen_at maps p) step place count
+-- the place of a choice
+abbrev pub chosen_at : List Map → ℕ → ℕ
+chosen_at maps choice = place_or_zero (walked maps choice)
+
+-- the number of the value that stays at a place, after all choices
+abbrev pub number_at : List Map → (step place : ℕ) → ℕ
+number_at maps step place = last_number (chosen_at maps) step place (extent_of maps)
 
 -- at each of the first `count` places there is the value of the last of n choices of it, and else its own element
 abbrev pub HaveValues : {T : Type 0} → (choice : ℕ → ℕ) (step n : ℕ) (elements values : List T) (fill : T) (count : ℕ) (room : List T) → Type 0

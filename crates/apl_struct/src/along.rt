@@ -41,19 +41,6 @@ pub(crate) fn vector_length(b: &Array, k: usize, n: usize) -> usize
     }
 }
 
-/// The lengths with another one of axis `k`.
-fn lengths_with(alloc: Global, b: &Array, k: usize, length: usize) -> Result<Vec<usize>, AllocError>
-    requires { k < max 1 (rank_of b.now) }
-    ensures { IfOk result (λ lengths. (n : ℕ) → lengths.items ≡ slice_set (as_vector n b.now).shape k length) }
-{
-    if b.shape().rank() == 0 {
-        return [length].to_vec(alloc);
-    }
-    let mut lengths = b.shape().lengths().to_vec(alloc)?;
-    lengths[k] = length;
-    Ok(lengths)
-}
-
 /// The shape in which axis `k` has this length. It is refused where it passes a limit (`Limit`).
 pub(crate) fn shape_with_axis(
     alloc: Global,
@@ -64,7 +51,11 @@ pub(crate) fn shape_with_axis(
     requires { k < max 1 (rank_of b.now) }
     ensures { (n : ℕ) → IsShapeOf (slice_set (as_vector n b.now).shape k length) result }
 {
-    let lengths = lengths_with(alloc, b, k, length)?;
+    if b.shape().rank() == 0 {
+        return Ok(Shape::new(alloc, &[length])?);
+    }
+    let mut lengths = b.shape().lengths().to_vec(alloc)?;
+    lengths[k] = length;
     Ok(Shape::new(alloc, lengths.as_slice())?)
 }
 

@@ -1,8 +1,7 @@
 //! Indexes of an axis that numbers keep and repeat.
-ghost use Rattle.std.specs.Prelude.{◌≡◌, true, ◌<◌, ◌≤◌, if◌then◌else◌, Err, map, max, length, replicate, slice_index, slice_set};
+ghost use Rattle.std.specs.Prelude.{◌≡◌, ◌<◌, ◌≤◌, if◌then◌else◌, Err, map, max, length, replicate, slice_index};
 ghost use Rattle.std.specs.List.{list_all};
 ghost use Rattle.apl_array.specs.Axes.{place_number};
-ghost use Rattle.apl_array.specs.Shape.{is_shape};
 ghost use Rattle.apl_pool.specs.declared.kernel.TheConstants.{MOST_PLACES};
 ghost use Rattle.apl_answer.specs.Arguments.{is_natural, rank_of};
 ghost use Rattle.apl_answer.specs.Pointwise.{IsAnswerOf};
@@ -13,9 +12,9 @@ ghost use Rattle.apl_struct.specs.Replicating.{replicated};
 use crate::along::{Taking, gather_along, shape_with_axis, vector_length, vector_rank};
 use crate::arguments::numbers_among;
 use crate::plain::empty;
-use crate::repeating::{capped_sum, kept_indexes, listed_indexes};
+use crate::repeating::{kept_indexes, listed_indexes, sum_of_counts};
 use apl_answer::OpFault;
-use apl_array::{Array, Axis, MOST_ELEMENTS, Shape};
+use apl_array::{Array, Axis, MOST_ELEMENTS};
 use apl_pool::{Crew, Cut, Gate, Pool, Workers};
 use std::alloc::Global;
 use std::thread::Threads;
@@ -23,7 +22,6 @@ use std::thread::Threads;
 /// The repeated indexes of axis `k`, which are listed.
 fn gather_repeated<W: Crew>(
     workers: &W,
-    shape: Shape,
     b: &Array,
     k: usize,
     counts: &[i64],
@@ -32,10 +30,9 @@ fn gather_repeated<W: Crew>(
     requires axis { k < max 1 (rank_of b.now) }
     requires length { length counts.now ≡ slice_index (as_vector (length counts.now) b.now).shape k }
     requires indexes { indexes.now ≡ repeated_indexes (map place_number counts.now) }
-    requires shape { shape ≡ slice_set (as_vector (length counts.now) b.now).shape k (length indexes.now) }
-    requires lawful { is_shape shape ≡ true }
     ensures { IsAnswerOf (replicated (as_vector (length counts.now) b.now) k (map place_number counts.now)) result }
 {
+    let shape = shape_with_axis(workers.alloc(), b, k, indexes.len())?;
     gather_along(workers, shape, b, k, counts.len(), Taking::Listed(indexes))
 }
 
@@ -53,18 +50,15 @@ fn replicate_each<W: Crew>(
 {
     let alloc = workers.alloc();
     if let Some(indexes) = kept_indexes(alloc, counts)? {
-        let shape = shape_with_axis(alloc, b, k, indexes.len())?;
-        return gather_repeated(workers, shape, b, k, counts, indexes.as_slice());
+        return gather_repeated(workers, b, k, counts, indexes.as_slice());
     }
-    let Some(extent) = capped_sum(counts) else {
-        return Err(OpFault::Domain);
-    };
+    let extent = sum_of_counts(counts)?;
     let shape = shape_with_axis(alloc, b, k, extent)?;
     if shape.count() == 0 {
         return empty(workers, shape, b);
     }
     let indexes = listed_indexes(alloc, counts, extent)?;
-    gather_repeated(workers, shape, b, k, counts, indexes.as_slice())
+    gather_repeated(workers, b, k, counts, indexes.as_slice())
 }
 
 /// Each index of axis `k`, which has this length, several times.
@@ -84,8 +78,10 @@ fn replicate_all<W: Crew>(
         return Err(OpFault::Domain);
     }
     let times = count as usize;
-    // A length past the limit is refused, whatever it is.
-    let extent = length.saturating_mul(times).min(MOST_ELEMENTS + 1);
+    let extent = length.saturating_mul(times);
+    if extent > MOST_ELEMENTS {
+        return Err(OpFault::Limit);
+    }
     let shape = shape_with_axis(workers.alloc(), b, k, extent)?;
     gather_along(workers, shape, b, k, length, Taking::Repeated(times))
 }

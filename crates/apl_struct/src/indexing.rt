@@ -1,11 +1,9 @@
 //! Elements at chosen indexes.
-ghost use Rattle.std.specs.Prelude.{◌≡◌, ◌++◌, true, map, Ok, option_copied, IfOk};
+ghost use Rattle.std.specs.Prelude.{◌≡◌, ◌++◌, true, map, option_copied, IfOk};
 ghost use Rattle.std.specs.List.{list_all};
 ghost use Rattle.apl_array.specs.Axes.{from_origin, is_below};
-ghost use Rattle.apl_array.specs.Array.{element_at};
-ghost use Rattle.apl_answer.specs.Pointwise.{answer_of, IsAnswerOf};
 ghost use Rattle.apl_answer.specs.Rows.{Answers};
-ghost use Rattle.apl_struct.specs.Indexing.{are_slots_within, selected_shape, selection_checks, select_source, select_row};
+ghost use Rattle.apl_struct.specs.Indexing.{are_slots_within, selected_shape, selection_checks, select_row};
 ghost use Rattle.apl_struct.specs.Selecting.{IsCheckedResult, IsSelection};
 
 use crate::plain::empty;
@@ -13,7 +11,7 @@ use crate::selecting::selected_walk;
 use crate::slots::{NumberArray, push_slots};
 use apl_answer::OpFault;
 use apl_array::{Array, Origin, Shape, places_match_index_lists};
-use apl_pool::{Crew, Cut, Gate, Pool, Workers};
+use apl_pool::{Cut, Gate, Pool, Workers};
 use apl_walk::gather;
 use std::alloc::{AllocError, Global};
 use std::thread::Threads;
@@ -100,28 +98,6 @@ pub(crate) fn selection<'a>(
     Ok((judged, shape))
 }
 
-/// The array of the shape that slots choose, with an argument's elements at the index lists that
-/// they choose.
-fn gather_selected<W: Crew>(
-    workers: &W,
-    shape: Shape,
-    a: &Array,
-    slots: &[Option<NumberArray>],
-    origin: Origin,
-) -> Result<Array, OpFault>
-    requires { IsSelection a.now slots.now origin shape }
-    ensures { IsAnswerOf (answer_of shape (λ index. Ok (element_at a.now (select_source origin slots.now index))) a.now.kind) result }
-{
-    if shape.count() == 0 {
-        return empty(workers, shape, a);
-    }
-    places_match_index_lists();
-    // An array that was asked something is known to be lawful.
-    let _kind = a.kind();
-    let walk = selected_walk(workers.alloc(), a, slots, origin, &shape)?;
-    gather(workers, shape, a, walk)
-}
-
 /// `A[I;J]`, indexing: the elements that the slots choose; an empty slot chooses the whole axis.
 /// Shape: those of the slots, one after the other. Kind: that of `A`.
 /// Errors in order: RANK of the number of slots, DOMAIN of their kinds, INDEX, LIMIT.
@@ -138,5 +114,12 @@ pub fn select<R: Threads + Sync, C: Cut + Sync, G: Gate + Sync>(
 {
     let workers = Workers { rt, alloc, pool };
     let (slots, shape) = selection(alloc, a, slots, origin)?;
-    gather_selected(&workers, shape, a, slots.as_slice(), origin)
+    if shape.count() == 0 {
+        return empty(&workers, shape, a);
+    }
+    places_match_index_lists();
+    // An array that was asked something is known to be lawful.
+    let _kind = a.kind();
+    let walk = selected_walk(alloc, a, slots.as_slice(), origin, &shape)?;
+    gather(&workers, shape, a, walk)
 }

@@ -258,14 +258,10 @@ pub fn catenate<R: Threads + Sync, C: Cut + Sync, G: Gate + Sync>(
     if !can_join(a, b) {
         return Err(OpFault::Rank);
     }
-    let Joint {
-        lengths,
-        left,
-        right,
-    } = joint_of(alloc, a, b, rank, k)?;
+    let joint = joint_of(alloc, a, b, rank, k)?;
     if !have_same_kind(a, b) {
         return Err(OpFault::Domain);
     }
-    let shape = Shape::new(alloc, lengths.as_slice())?;
-    join_along(&workers, shape, a, b, k, left, right)
+    let shape = Shape::new(alloc, joint.lengths.as_slice())?;
+    join_along(&workers, shape, a, b, k, joint.left, joint.right)
 }

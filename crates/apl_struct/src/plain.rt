@@ -1,19 +1,19 @@
-//! Results that need no walk: a scalar as it is, and arrays that have no elements.
-ghost use Rattle.std.specs.Prelude.{◌≡◌, ℕ, List, Ok, length};
+//! Results that need no walk: an array as it is, and arrays that have no elements.
+ghost use Rattle.std.specs.Prelude.{◌≡◌, ℕ, List, Ok};
 ghost use Rattle.apl_array.specs.declared.array.Elem.{Elem};
 ghost use Rattle.apl_array.specs.Array.{element_at};
 ghost use Rattle.apl_array.specs.Shape.{count_of};
-ghost use Rattle.apl_answer.specs.Pointwise.{answer_of, IsAnswerOf};
+ghost use Rattle.apl_answer.specs.Pointwise.{answer_of, IsAnswerOf, IsArrayBy};
 
 use apl_answer::{OpFault, array_of_elements};
-use apl_array::{Array, Shape};
+use apl_array::{Array, Shape, places_match_index_lists};
 use apl_pool::Crew;
 
-/// A scalar as it is: whatever index list its element is taken at.
-pub(crate) fn gather_scalar<W: Crew>(workers: &W, b: &Array) -> Result<Array, OpFault>
-    requires { length b.now.shape ≡ 0 }
-    ensures { (source : List ℕ → List ℕ) → IsAnswerOf (answer_of b.now.shape (λ index. Ok (element_at b.now (source index))) b.now.kind) result }
+/// The same array again.
+pub(crate) fn unchanged<W: Crew>(workers: &W, b: &Array) -> Result<Array, OpFault>
+    ensures { IsArrayBy b.now.shape b.now.kind (element_at b.now) result }
 {
+    places_match_index_lists();
     let shape = b.shape().copy(workers.alloc())?;
     array_of_elements(workers, shape, b)
 }

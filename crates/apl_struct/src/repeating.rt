@@ -1,31 +1,34 @@
 //! Indexes of an axis, each as often as its count says.
-ghost use Rattle.std.specs.Prelude.{◌≡◌, ◌+◌, ◌<◌, ◌≤◌, ◌++◌, true, false, IfOk, MatchOption, map, min, sum, length, replicate, vec_len, vec_capacity};
+ghost use Rattle.std.specs.Prelude.{◌≡◌, ◌+◌, ◌<◌, ◌≤◌, ◌++◌, true, false, IfOk, MatchOption, map, sum, length, replicate, vec_len, vec_capacity};
 ghost use Rattle.std.specs.List.{list_all};
 ghost use Rattle.apl_array.specs.Axes.{place_number};
-ghost use Rattle.apl_array.specs.declared.shape.TheConstants.{MOST_ELEMENTS};
 ghost use Rattle.apl_pool.specs.declared.kernel.TheConstants.{MOST_PLACES};
 ghost use Rattle.apl_answer.specs.Arguments.{is_bit, is_natural};
 ghost use Rattle.apl_struct.specs.Compressing.{repeated_indexes};
+ghost use Rattle.apl_struct.specs.Replicating.{IsSumOf};
 
+use apl_answer::OpFault;
 use apl_array::MOST_ELEMENTS;
 use std::alloc::{AllocError, Global};
 
 /// How many times an index is put into a table at once, whatever its count is.
 const SPARE: usize = 4;
 
-/// The sum of counts, or one more than the most elements if it passes that. There is none if a count is
-/// below 0, also after others whose sum is past it.
-pub(crate) fn capped_sum(counts: &[i64]) -> Option<usize>
-    ensures { MatchOption result (list_all is_natural counts.now ≡ false) (λ all. (list_all is_natural counts.now ≡ true) × (all ≡ min (sum (map place_number counts.now)) (MOST_ELEMENTS + 1))) }
+/// The sum of counts, none of which is below 0 (`Domain`), also after others whose sum is past the most elements (`Limit`).
+pub(crate) fn sum_of_counts(counts: &[i64]) -> Result<usize, OpFault>
+    ensures { IsSumOf counts.now result }
 {
     let mut all = 0;
     for count in counts {
         if *count < 0 {
-            return None;
+            return Err(OpFault::Domain);
         }
         all = (all + *count as usize).min(MOST_ELEMENTS + 1);
     }
-    Some(all)
+    if all > MOST_ELEMENTS {
+        return Err(OpFault::Limit);
+    }
+    Ok(all)
 }
 
 /// Whether a number is 0 or 1.

@@ -1,7 +1,7 @@
 //! Elements in the place of chosen ones.
 ghost use Rattle.std.specs.Prelude.{◌≡◌, ℕ, ◌+◌, ◌<◌, ◌≤◌, ◌∷◌, Ok, Some, IfOk, IfErr, length, map, option_copied, slice_index_or, vec_len};
 ghost use Rattle.apl_array.specs.Shape.{count_of};
-ghost use Rattle.apl_array.specs.Array.{IsArray, element_at};
+ghost use Rattle.apl_array.specs.Array.{IsArray};
 ghost use Rattle.apl_pool.specs.declared.kernel.TheConstants.{MOST_PLACES};
 ghost use Rattle.apl_pool.specs.declared.kernel.Stop.TheVariants.{Memory};
 ghost use Rattle.apl_answer.specs.Arguments.{fill_of};
@@ -9,19 +9,20 @@ ghost use Rattle.apl_answer.specs.Pointwise.{answer_of, IsAnswerOf, IsArrayAt};
 ghost use Rattle.apl_answer.specs.Rows.{Answers};
 ghost use Rattle.apl_struct.specs.Indexing.{last_choice, replaced_element, replace_row};
 ghost use Rattle.apl_walk.specs.declared.maps.TheConstants.{MOST_MAPS};
-ghost use Rattle.apl_walk.specs.Maps.{map_extent, map_step, extent_of, walked};
+ghost use Rattle.apl_walk.specs.Maps.{map_extent, map_step, extent_of};
 ghost use Rattle.apl_walk.specs.Steps.{and_step};
 ghost use Rattle.apl_struct.specs.Selecting.{IsCheckedResult, IsSelection};
-ghost use Rattle.apl_struct.specs.Numbering.{place_or_zero, chosen_at, number_at, HaveValues, AreWrittenOver, IsReached, value_numbered, element_numbered, replacement_checks, value_step, IsReplacement};
+ghost use Rattle.apl_struct.specs.Numbering.{place_or_zero, chosen_at, number_at, AreWithin, HaveValues, AreWrittenOver, IsReached, value_numbered, element_numbered, replacement_checks, value_step, IsReplacement};
 
 use crate::arguments::is_same_shape;
 use crate::indexing::selection;
+use crate::plain::unchanged;
 use crate::selecting::selected_walk;
 use crate::slots::NumberArray;
-use apl_answer::{ElementType, OpFault, array_from_fill, array_of_elements};
+use apl_answer::{ElementType, OpFault, array_from_fill};
 use apl_array::{Array, Origin, Shape, places_match_index_lists};
 use apl_pool::{Crew, Cut, Gate, Pool, Stop, Workers, fill};
-use apl_walk::{AxisMap, ByLines, Gathered, Map, Window, element_or, start_at};
+use apl_walk::{AxisMap, ByLines, Cyclic, Map, element_or, start_at};
 use std::alloc::Global;
 use std::thread::Threads;
 
@@ -50,28 +51,33 @@ fn write_line<T: Copy>(
     }
 }
 
-/// Writes at each place the value of the last choice of it.
-fn write_lines<T: Copy>(
-    last: &Map,
-    outer: &[Map],
+/// Places that are chosen in row order, along these axes.
+#[derive(Clone, Copy)]
+struct Choices<'a> {
+    last: Map<'a>,
+    /// The other axes, the last one first.
+    outer: &'a [Map<'a>],
+    /// How many index lists the other axes have.
     lines: usize,
+    /// How far apart the values of neighbouring choices are.
     step: usize,
-    values: &[T],
-    fill: T,
-    room: &mut [T],
-)
-    requires few { length outer.now ≤ MOST_MAPS }
-    requires lines { lines ≡ extent_of outer.now }
-    requires most { extent_of (last.now ∷ outer.now) ≤ MOST_PLACES }
-    requires step { step ≤ 1 }
-    requires within { (place : ℕ) → place < extent_of (last.now ∷ outer.now) → IsReached (length room.old) (walked (last.now ∷ outer.now) place) }
-    ensures values { HaveValues (λ place. chosen_at (last.now ∷ outer.now) place) step (extent_of (last.now ∷ outer.now)) room.old values.now fill (length room.old) room.new }
+    ghost few: { length outer.now ≤ MOST_MAPS },
+    ghost all: { lines ≡ extent_of outer.now },
+    ghost most: { extent_of (last ∷ outer.now) ≤ MOST_PLACES },
+    ghost near: { step ≤ 1 },
+}
+
+/// Writes at each place the value of the last choice of it.
+fn write_lines<T: Copy>(choices: Choices, values: &[T], fill: T, room: &mut [T])
+    requires within { AreWithin (length room.old) (choices.last ∷ choices.outer.now) }
+    ensures values { HaveValues (chosen_at (choices.entry.last ∷ choices.entry.outer.now)) choices.entry.step (extent_of (choices.entry.last ∷ choices.entry.outer.now)) room.old values.now fill (length room.old) room.new }
     ensures len { length room.new ≡ length room.old }
 {
+    let Choices { last, step, .. } = choices;
     let extent = last.extent();
-    for line in 0..lines {
-        match start_at(outer, line) {
-            Some(base) => write_line(*last, base, line * extent, step, values, fill, room),
+    for line in 0..choices.lines {
+        match start_at(choices.outer, line) {
+            Some(base) => write_line(last, base, line * extent, step, values, fill, room),
             None => unreachable!(),
         }
     }
@@ -88,9 +94,7 @@ fn copied<T: ElementType + Send + Sync, W: Crew>(
     ensures each { IfOk result (λ v. (p : ℕ) (d : T) → p < length elements.now → slice_index_or v.items p d ≡ slice_index_or elements.now p d) }
     ensures memory { IfErr result (λ stop. stop ≡ Memory) }
 {
-    let outer: [Map; 0] = [];
-    let all = Window::whole(elements.len(), 1);
-    let kernel = ByLines::new(Gathered::new(elements, &outer, 1, all));
+    let kernel = ByLines::new(Cyclic::new(elements, T::fill(), elements.len()));
     fill(workers, &kernel)
 }
 
@@ -100,65 +104,43 @@ fn replace_elements<T: ElementType + Send + Sync, W: Crew>(
     shape: Shape,
     elements: &[T],
     values: &[T],
-    last: &Map,
-    outer: &[Map],
-    count: usize,
-    step: usize,
+    choices: Choices,
 ) -> Result<Array, OpFault>
     requires all { length elements.now ≡ count_of shape }
     requires some { 0 < count_of shape }
-    requires few { length outer.now ≤ MOST_MAPS }
-    requires count { count ≡ extent_of (last.now ∷ outer.now) }
-    requires most { count ≤ MOST_PLACES }
-    requires step { step ≤ 1 }
-    requires within { (place : ℕ) → place < count → IsReached (count_of shape) (walked (last.now ∷ outer.now) place) }
-    ensures { IsArrayAt shape T.kind (λ place. value_numbered (map T.elem_of elements.now) (map T.elem_of values.now) (fill_of T.kind) (number_at (last.now ∷ outer.now) step count place) place) result }
+    requires within { AreWithin (count_of shape) (choices.last ∷ choices.outer.now) }
+    ensures { IsArrayAt shape T.kind (λ place. value_numbered (map T.elem_of elements.now) (map T.elem_of values.now) (fill_of T.kind) (number_at (choices.entry.last ∷ choices.entry.outer.now) choices.entry.step place) place) result }
 {
     let mut all = copied(workers, elements)?;
-    write_lines(
-        last,
-        outer,
-        count / last.extent(),
-        step,
-        values,
-        T::fill(),
-        all.as_mut_slice(),
-    );
+    write_lines(choices, values, T::fill(), all.as_mut_slice());
     array_from_fill(shape, Ok(all))
 }
 
 /// The same of arrays.
-fn replace_walk<W: Crew>(
+fn replace_chosen<W: Crew>(
     workers: &W,
     shape: Shape,
     a: &Array,
     b: &Array,
-    last: &Map,
-    outer: &[Map],
-    count: usize,
-    step: usize,
+    choices: Choices,
 ) -> Result<Array, OpFault>
     requires all { count_of a.now.shape ≡ count_of shape }
     requires some { 0 < count_of shape }
-    requires few { length outer.now ≤ MOST_MAPS }
-    requires count { count ≡ extent_of (last.now ∷ outer.now) }
-    requires most { count ≤ MOST_PLACES }
-    requires step { step ≤ 1 }
-    requires within { (place : ℕ) → place < count → IsReached (count_of shape) (walked (last.now ∷ outer.now) place) }
+    requires within { AreWithin (count_of shape) (choices.last ∷ choices.outer.now) }
     requires kinds { a.now.kind ≡ b.now.kind }
-    ensures { IsArrayAt shape a.now.kind (λ place. element_numbered a.now b.now (number_at (last.now ∷ outer.now) step count place) place) result }
+    ensures { IsArrayAt shape a.now.kind (λ place. element_numbered a.now b.now (number_at (choices.entry.last ∷ choices.entry.outer.now) choices.entry.step place) place) result }
 {
     // An array that was asked something is known to be lawful.
     let _kind = a.kind();
     if let Some(elements) = a.numbers()
         && let Some(values) = b.numbers()
     {
-        return replace_elements(workers, shape, elements, values, last, outer, count, step);
+        return replace_elements(workers, shape, elements, values, choices);
     }
     if let Some(elements) = a.characters()
         && let Some(values) = b.characters()
     {
-        return replace_elements(workers, shape, elements, values, last, outer, count, step);
+        return replace_elements(workers, shape, elements, values, choices);
     }
     unreachable!()
 }
@@ -194,15 +176,6 @@ fn value_step(b: &Array) -> usize
     1
 }
 
-/// The same array again.
-fn gather_all<W: Crew>(workers: &W, a: &Array) -> Result<Array, OpFault>
-    ensures { IsAnswerOf (answer_of a.now.shape (λ index. Ok (element_at a.now index)) a.now.kind) result }
-{
-    places_match_index_lists();
-    let shape = a.shape().copy(workers.alloc())?;
-    array_of_elements(workers, shape, a)
-}
-
 /// The array with the values in the place of the elements that the slots choose.
 fn replace_selected<W: Crew>(
     workers: &W,
@@ -219,7 +192,7 @@ fn replace_selected<W: Crew>(
 {
     let count = selected.count();
     if count == 0 {
-        return gather_all(workers, a);
+        return unchanged(workers, a);
     }
     places_match_index_lists();
     let shape = a.shape().copy(workers.alloc())?;
@@ -227,7 +200,16 @@ fn replace_selected<W: Crew>(
     let maps = walk.into_maps()?;
     let step = value_step(b);
     match maps.as_slice() {
-        [last, outer @ ..] => replace_walk(workers, shape, a, b, last, outer, count, step),
+        [last, outer @ ..] => {
+            let (last, lines) = (*last, count / last.extent());
+            let choices = Choices {
+                last,
+                outer,
+                lines,
+                step,
+            };
+            replace_chosen(workers, shape, a, b, choices)
+        }
         [] => unreachable!(),
     }
 }

@@ -4,7 +4,7 @@ ghost use Rattle.apl_answer.specs.Rows.{Answers};
 ghost use Rattle.apl_struct.specs.Rearranging.{reverse_row};
 
 use crate::along::{Taking, gather_along};
-use crate::plain::gather_scalar;
+use crate::plain::unchanged;
 use apl_answer::OpFault;
 use apl_array::{Array, Axis};
 use apl_pool::{Cut, Gate, Pool, Workers};
@@ -28,7 +28,7 @@ pub fn reverse<R: Threads + Sync, C: Cut + Sync, G: Gate + Sync>(
         return Err(OpFault::Index);
     };
     if b.shape().rank() == 0 {
-        return gather_scalar(&workers, b);
+        return unchanged(&workers, b);
     }
     let shape = b.shape().copy(alloc)?;
     gather_along(&workers, shape, b, k, b.shape().axis(k), Taking::Reversed)

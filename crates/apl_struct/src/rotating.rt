@@ -14,7 +14,7 @@ ghost use Rattle.apl_walk.specs.Steps.{wrapped};
 
 use crate::along::{Taking, gather_along};
 use crate::arguments::{is_without_axis, numbers_among};
-use crate::plain::{empty, gather_scalar};
+use crate::plain::{empty, unchanged};
 use apl_answer::{ElementType, OpFault, fill_array};
 use apl_array::{
     Array, Axis, Shape, inserted_index_has_place, places_match_index_lists,
@@ -168,34 +168,19 @@ pub fn rotate<R: Threads + Sync, C: Cut + Sync, G: Gate + Sync>(
     let Some(k) = axis.resolve(b.shape().rank()) else {
         return Err(OpFault::Index);
     };
-    if !has_rank_of_lines(a, b) {
+    let serves_all = a.shape().count() == 1;
+    if !serves_all && a.shape().rank() + 1 != b.shape().rank() {
         return Err(OpFault::Rank);
     }
-    if !has_lengths_of_lines(a, b, k) {
+    if !serves_all && !is_without_axis(a.shape().lengths(), b.shape().lengths(), k) {
         return Err(OpFault::Length);
     }
     let rotations = numbers_among(a)?;
     if b.shape().rank() == 0 {
-        gather_scalar(&workers, b)
-    } else if a.shape().count() == 1 {
+        unchanged(&workers, b)
+    } else if serves_all {
         rotate_all(&workers, b, k, rotations[0])
     } else {
         rotate_each(&workers, b, k, rotations)
     }
-}
-
-/// Whether `a` has one element, or one axis less than `b`.
-fn has_rank_of_lines(a: &Array, b: &Array) -> bool
-    ensures { result ≡ (has_one_element a.now.shape || (rank_of a.now + 1 == rank_of b.now)) }
-{
-    a.shape().count() == 1 || a.shape().rank() + 1 == b.shape().rank()
-}
-
-/// Whether `a` has one element, or one for each line of `b` along axis `k`.
-fn has_lengths_of_lines(a: &Array, b: &Array, k: usize) -> bool
-    requires rank { (has_one_element a.now.shape || (rank_of a.now + 1 == rank_of b.now)) ≡ true }
-    requires axis { (k < rank_of b.now) ⊎ (rank_of b.now ≡ 0) }
-    ensures { result ≡ (has_one_element a.now.shape || is_same_shape a.now.shape (remove b.now.shape k)) }
-{
-    a.shape().count() == 1 || is_without_axis(a.shape().lengths(), b.shape().lengths(), k)
 }

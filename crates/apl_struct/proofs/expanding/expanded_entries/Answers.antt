@@ -1,4 +1,4 @@
-use Rattle.std.proofs.Common.{◌≡◌, pos, true, ◌++◌, [], ◌∷◌, to_z, of_z, w64, nat_abs, slice_index, slice_index_or, ap, sym, ◌∙◌, arith, rules}
+use Rattle.std.proofs.Common.{◌≡◌, pos, true, ◌++◌, [], ◌∷◌, to_z, of_z, to_z-of_z, w64, nat_abs, slice_index, slice_index_or, ap, sym, ◌∙◌, arith, rules}
 use Rattle.std.specs.Prelude.{◌&&◌}
 use Rattle.std.proofs.lemmas.List.Folds.{list_all_more}
 use Rattle.apl_array.specs.Axes.{place_number}
@@ -15,8 +15,8 @@ loop-bit-preserved c =
     let kept = c.loop-bit.invariant in
     let inside = c.loop-bit-test.true in
     let z = slice_index_or bits i (pos 0) in
-    let turned : to_z w64 (of_z w64 z) ≡ z = search rules in
-    let bit : is_bit z ≡ true = search rules in
+    let turned : to_z w64 (of_z w64 z) ≡ z = grind (arith, to_z-of_z) in
+    let bit : is_bit z ≡ true = ap is_bit (sym turned) ∙ sym c.is_bit.ensures ∙ c.if-not-is_bit.false in
     let held : nat_abs (to_z w64 (of_z w64 z)) ≡ place_number z = cast_is z (bit_natural z bit) turned in
     let entry : c.entry_at.result ≡ expanded_entry (counts bits) i = rw (turned, one_test z bit, sym (count_at bits i), kept.ones) at c.entry_at.ensures in
     let items = c.loop-bit.entries.items in

@@ -1,4 +1,4 @@
-use Rattle.std.proofs.Common.{◌≡◌, pos, true, ◌++◌, length, replicate, to_z, of_z, w64, nat_abs, slice_index_or, ap, sym, ◌∙◌, arith, rules}
+use Rattle.std.proofs.Common.{◌≡◌, pos, true, ◌++◌, length, replicate, to_z, of_z, to_z-of_z, w64, nat_abs, slice_index_or, ap, sym, ◌∙◌, arith}
 use Rattle.std.specs.Prelude.{◌&&◌}
 use Rattle.std.proofs.lemmas.List.{length-append, length-replicate}
 use Rattle.std.proofs.lemmas.List.Folds.{list_all_more}
@@ -12,8 +12,8 @@ pub append_times-requires : goal.append_times-requires
 append_times-requires c =
     let z = slice_index_or c.args.bits.now c.loop-i.i (pos 0) in
     let kept = c.loop-i.invariant in
-    let turned : to_z w64 (of_z w64 z) ≡ z = search rules in
-    let bit : is_bit z ≡ true = search rules in
+    let turned : to_z w64 (of_z w64 z) ≡ z = grind (arith, to_z-of_z) in
+    let bit : is_bit z ≡ true = ap is_bit (sym turned) ∙ sym c.is_bit.ensures ∙ c.if-not-is_bit.false in
     let held : nat_abs (to_z w64 (of_z w64 z)) ≡ place_number z = cast_is z (bit_natural z bit) turned in
     omega (arith, kept.few, kept.room, held, bit_most z bit, c.loop-i-test.true)
 
@@ -24,8 +24,8 @@ loop-i-preserved c =
     let kept = c.loop-i.invariant in
     let inside = c.loop-i-test.true in
     let z = slice_index_or bits i (pos 0) in
-    let turned : to_z w64 (of_z w64 z) ≡ z = search rules in
-    let bit : is_bit z ≡ true = search rules in
+    let turned : to_z w64 (of_z w64 z) ≡ z = grind (arith, to_z-of_z) in
+    let bit : is_bit z ≡ true = ap is_bit (sym turned) ∙ sym c.is_bit.ensures ∙ c.if-not-is_bit.false in
     let held : nat_abs (to_z w64 (of_z w64 z)) ≡ place_number z = cast_is z (bit_natural z bit) turned in
     let items = c.append_times.ensures.items ∙ ap (λ n. c.loop-i.table.items ++ replicate n i) held in
     record {

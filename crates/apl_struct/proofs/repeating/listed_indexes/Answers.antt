@@ -1,4 +1,4 @@
-use Rattle.std.proofs.Common.{◌≡◌, ◌+◌, ◌≤◌, ◌++◌, pos, map, take, length, replicate, to_z, of_z, w64, nat_abs, slice_index_or, ap, sym, ◌∙◌, arith, rules}
+use Rattle.std.proofs.Common.{◌≡◌, ◌+◌, ◌≤◌, ◌++◌, pos, map, take, length, replicate, to_z, of_z, to_z-of_z, w64, nat_abs, slice_index_or, ap, sym, ◌∙◌, arith, rules}
 use Rattle.std.specs.Prelude.{sum, vec_len}
 use Rattle.std.proofs.lemmas.List.Sums.{sum_by-take-le}
 use Rattle.apl_array.specs.Axes.{place_number}
@@ -13,7 +13,7 @@ append_times-requires c =
     let kept = c.loop-i.invariant in
     let inside = c.loop-i-test.true in
     let z = slice_index_or counts i (pos 0) in
-    let turned : to_z w64 (of_z w64 z) ≡ z = search rules in
+    let turned : to_z w64 (of_z w64 z) ≡ z = grind (arith, to_z-of_z) in
     let held : nat_abs (to_z w64 (of_z w64 z)) ≡ place_number z = cast_is z (natural_at counts i c.requires.counts) turned in
     let numbers = map place_number counts in
     let so_far : length c.loop-i.table.items ≡ sum (take i numbers) = ap length kept.kept ∙ repeated_length (take i numbers) in
@@ -28,7 +28,7 @@ loop-i-preserved c =
     let kept = c.loop-i.invariant in
     let inside = c.loop-i-test.true in
     let z = slice_index_or counts i (pos 0) in
-    let turned : to_z w64 (of_z w64 z) ≡ z = search rules in
+    let turned : to_z w64 (of_z w64 z) ≡ z = grind (arith, to_z-of_z) in
     let held : nat_abs (to_z w64 (of_z w64 z)) ≡ place_number z = cast_is z (natural_at counts i c.requires.counts) turned in
     record {
       kept = c.append_times.ensures.items

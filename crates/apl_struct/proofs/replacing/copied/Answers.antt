@@ -5,12 +5,11 @@ use Rattle.apl_struct.proofs.replacing.copied.Goals as goal
 
 pub returns-clause-each : goal.returns-clause-each
 returns-clause-each g c =
-    let walk = c.new-kernel.result.lines in
+    let lines = c.new-kernel.result.lines in
     let same = c.new-kernel.ensures in
+    let round = c.new.result in
     let is = c.new.ensures in
-    let all = c.whole-all.ensures in
-    IfOk-weaker c.fill.result _ _
-    (λ v.
-    copied_each c.args.elements.now walk.fill c.whole-all.result all.extent all.step v.items walk.elements.now walk.outer.now walk.last walk.count
-    (ap (λ w. w.elements.now) same ∙ is.elements) (ap (λ w. w.outer.now) same ∙ is.outer) (ap (λ w. w.last) same ∙ is.last) (ap (λ w. w.count) same ∙ is.count))
-    c.fill.ensures.values
+    IfOk-weaker c.fill-2.result _ _
+    (λ v. copied_each c.args.elements.now c.fill.result round.past round.extent v.items lines.elements.now lines.past lines.extent lines.count
+    (ap (λ w. w.elements.now) same ∙ is.elements) (ap (λ w. w.past) same) (ap (λ w. w.extent) same) (ap (λ w. w.count) same ∙ is.count) is.values)
+    c.fill-2.ensures.values

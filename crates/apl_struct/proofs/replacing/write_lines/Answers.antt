@@ -9,8 +9,8 @@ use Rattle.apl_struct.proofs.replacing.write_lines.Goals as goal
 
 pub write_line-requires-clause-within : goal.write_line-requires-clause-within
 write_line-requires-clause-within g c = λ i inside.
-    let last = c.args.last.now in
-    let outer = c.args.outer.now in
+    let last = c.args.choices.last in
+    let outer = c.args.choices.outer.now in
     let line = c.loop-line.line in
     let base : walked outer line ≡ Some c.in-Some.base = sym c.start_at.ensures.value ∙ c.in-Some.is in
     let there : walked (last ∷ outer) (line * map_extent last + i) ≡ and_step (map_step last i) (Some c.in-Some.base) = line_reached last outer line i (Some c.in-Some.base) base inside in
@@ -20,8 +20,8 @@ write_line-requires-clause-within g c = λ i inside.
 
 pub unreachable-requires : goal.unreachable-requires
 unreachable-requires g c =
-    let last = c.args.last.now in
-    let outer = c.args.outer.now in
+    let last = c.args.choices.last in
+    let outer = c.args.choices.outer.now in
     let line = c.loop-line.line in
     let some : 0 < map_extent last = omega arith in
     let base : walked outer line ≡ None = sym c.start_at.ensures.value ∙ c.in-None.is in
@@ -33,10 +33,10 @@ unreachable-requires g c =
 pub loop-line-preserved : goal.loop-line-preserved
 loop-line-preserved g c = record {
   values = λ p inside.
-      let last = c.args.last.now in
-      let outer = c.args.outer.now in
+      let last = c.args.choices.last in
+      let outer = c.args.choices.outer.now in
       let line = c.loop-line.line in
-      let step = c.args.step in
+      let step = c.args.choices.step in
       let first = c.args.room.now in
       let chosen : ℕ → ℕ = λ place. place_or_zero (walked (last ∷ outer) place) in
       let value : ℕ → ℕ → g.row.T.Denot = λ n q. value_numbered first c.args.values.now c.args.fill (last_number chosen step q n) q in

@@ -6,6 +6,7 @@ use Rattle.apl_answer.specs.Arguments.{rank_of, has_one_element, is_same_shape}
 use Rattle.apl_answer.specs.Rows.{HavePassed}
 use Rattle.apl_struct.specs.Gathering.{along_axis}
 use Rattle.apl_struct.specs.Rearranging.{rotated_index, rotation_at, rotate_row}
+use Rattle.apl_struct.proofs.Elements.{scalar_element}
 use Rattle.apl_struct.proofs.Passing.{answered}
 use Rattle.apl_struct.proofs.Rotations.{rotation_of_all, rotation_of_line}
 use Rattle.apl_struct.proofs.Without.{same_from_test}
@@ -28,18 +29,20 @@ judged g c =
 
 pub returns-then-rank-eq0 : goal.returns-then-rank-eq0
 returns-then-rank-eq0 g c =
-    let row = rotate_row c.args.a.now c.args.b.now c.args.axis in
-    let known = judged g (goal.at.returns-then-rank-eq0 g c).After-rank-2 in
-    answered row c.gather_scalar.result known.1
-    (c.gather_scalar.ensures (λ index. along_axis (axis_of c.args.axis (rank_of c.args.b.now))
-    (rotated_index (rotation_at c.args.a.now (axis_of c.args.axis (rank_of c.args.b.now)) index) (slice_index c.args.b.now.shape (axis_of c.args.axis (rank_of c.args.b.now)))) index))
-
-pub returns-then-count-eq1 : goal.returns-then-count-eq1
-returns-then-count-eq1 g c =
     let a = c.args.a.now in
     let b = c.args.b.now in
     let k = axis_of c.args.axis (rank_of b) in
-    let known = judged g (goal.at.returns-then-count-eq1 g c).After-rank-2 in
+    let known = judged g (goal.at.returns-then-rank-eq0 g c).After-rank-2 in
+    let none : length b.shape ≡ 0 = search rules in
+    answered (rotate_row a b c.args.axis) c.unchanged.result known.1
+    (c.unchanged.ensures _ (λ index lawful. scalar_element b index (along_axis k (rotated_index (rotation_at a k index) (slice_index b.shape k)) index) none))
+
+pub returns-then-serves_all : goal.returns-then-serves_all
+returns-then-serves_all g c =
+    let a = c.args.a.now in
+    let b = c.args.b.now in
+    let k = axis_of c.args.axis (rank_of b) in
+    let known = judged g (goal.at.returns-then-serves_all g c).After-rank-2 in
     let counts : count_of a.shape ≡ 1 = search rules in
     let one : has_one_element a.shape ≡ true = grind (arith, counts) in
     let zs = c.in_ok-rotations.rotations.now in
@@ -48,12 +51,12 @@ returns-then-count-eq1 g c =
     answered (rotate_row a b c.args.axis) c.rotate_all.result known.1
     (c.rotate_all.ensures _ (λ index lawful. rw (known.0, same, rotation_of_all a zs k index c.in_ok-rotations.ensures.numbers.1 one) refl))
 
-pub returns-else-count-eq1 : goal.returns-else-count-eq1
-returns-else-count-eq1 g c =
+pub returns-else-serves_all : goal.returns-else-serves_all
+returns-else-serves_all g c =
     let a = c.args.a.now in
     let b = c.args.b.now in
     let k = axis_of c.args.axis (rank_of b) in
-    let known = judged g (goal.at.returns-else-count-eq1 g c).After-rank-2 in
+    let known = judged g (goal.at.returns-else-serves_all g c).After-rank-2 in
     let many : count_of a.shape ≡ 1 → ⊥ = search rules in
     let more : has_one_element a.shape ≡ false = grind (arith, many) in
     let zs = c.in_ok-rotations.rotations.now in

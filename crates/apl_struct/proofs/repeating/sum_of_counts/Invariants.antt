@@ -4,7 +4,7 @@ use Rattle.std.specs.List.{list_all}
 use Rattle.apl_array.specs.Axes.{place_number}
 use Rattle.apl_array.specs.declared.shape.TheConstants.{MOST_ELEMENTS}
 use Rattle.apl_answer.specs.Arguments.{is_natural}
-use Rattle.apl_struct.proofs.repeating.capped_sum.Given as goal
+use Rattle.apl_struct.proofs.repeating.sum_of_counts.Given as goal
 
 abbrev pub invariant-loop-count : goal.invariant-loop-count
 invariant-loop-count l = record {
