@@ -31,14 +31,14 @@ pub(crate) fn product(x: i64, y: i64) -> Result<i64, Fault>
     limited(x.checked_mul(y))
 }
 
-/// The value and `true`, or some number and `false`.
+/// The value and `true`, or else the other number and `false`. Where the other number is computed as the value is, nothing is chosen.
 #[inline(always)]
-pub(crate) fn likely_value(outcome: Result<i64, Fault>) -> (i64, bool)
+pub(crate) fn likely_value(outcome: Result<i64, Fault>, other: i64) -> (i64, bool)
     ensures { result.1 ≡ true → outcome ≡ Ok result.0 }
 {
     match outcome {
         Ok(value) => (value, true),
-        Err(_) => (0, false),
+        Err(_) => (other, false),
     }
 }
 
@@ -93,7 +93,7 @@ pub(crate) fn likely_magnitude(x: i64) -> (i64, u64)
 pub(crate) fn sign(x: i64) -> i64
     ensures { result ≡ int_signum x }
 {
-    i64::from(x > 0) - i64::from(x < 0)
+    i64::from(x >= 0) - i64::from(x <= 0)
 }
 
 /// 1 divided by `x`.

@@ -40,7 +40,7 @@ pub(crate) fn likely_elements<F: Function>(x: Elem, y: Elem) -> (i64, u64)
 {
     match (x, y) {
         (Elem::Int(x), Elem::Int(y)) => F::with_doubts(x, y),
-        (x, y) => with_doubts(likely_value(dyadic_elements::<F>(x, y))),
+        (x, y) => with_doubts(likely_value(dyadic_elements::<F>(x, y), 0)),
     }
 }
 

@@ -41,7 +41,7 @@ pub trait Function {
     fn likely(left: i64, right: i64) -> (i64, bool)
         ensures { result.1 ≡ true → dyadic_numbers FUNCTION left right ≡ Ok result.0 }
     {
-        likely_value(Self::apply(left, right))
+        likely_value(Self::apply(left, right), 0)
     }
 
     /// A likely result of the dyadic function: a number, and the doubts whether it is the result. It is if the doubts are 0. They are
@@ -58,7 +58,7 @@ pub trait Function {
     fn monadic_with_doubts(right: i64) -> (i64, u64)
         ensures { result.1 ≡ 0 → monadic_number FUNCTION right ≡ Ok result.0 }
     {
-        with_doubts(likely_value(Self::apply_monadic(right)))
+        with_doubts(likely_value(Self::apply_monadic(right), 0))
     }
 
     /// Whether the monadic function has no branches, so that a run of its results is quick.
@@ -156,6 +156,11 @@ impl Function for Plus {
     fn identity() -> Option<i64> {
         Some(0)
     }
+
+    #[inline(always)]
+    fn likely(left: i64, right: i64) -> (i64, bool) {
+        likely_value(Self::apply(left, right), left.wrapping_add(right))
+    }
 }
 
 /// `-`: the number with the other sign, and the difference.
@@ -181,6 +186,11 @@ impl Function for Minus {
 
     fn identity() -> Option<i64> {
         Some(0)
+    }
+
+    #[inline(always)]
+    fn likely(left: i64, right: i64) -> (i64, bool) {
+        likely_value(Self::apply(left, right), left.wrapping_sub(right))
     }
 }
 
