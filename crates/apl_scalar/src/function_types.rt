@@ -42,7 +42,7 @@ pub trait Function {
     fn likely(left: i64, right: i64) -> (i64, u64)
         ensures { result.1 ≡ 0 → dyadic_numbers FUNCTION left right ≡ Ok result.0 }
     {
-        likely_value(Self::apply(left, right))
+        likely_value(Self::apply(left, right), 0)
     }
 
     /// A likely result of the monadic function, and the doubts whether it is the result. It takes no memory.
@@ -50,7 +50,7 @@ pub trait Function {
     fn likely_monadic(right: i64) -> (i64, u64)
         ensures { result.1 ≡ 0 → monadic_number FUNCTION right ≡ Ok result.0 }
     {
-        likely_value(Self::apply_monadic(right))
+        likely_value(Self::apply_monadic(right), 0)
     }
 
     /// Whether the monadic function has no branches, so that a run of its results is quick.
@@ -148,6 +148,11 @@ impl Function for Plus {
     fn identity() -> Option<i64> {
         Some(0)
     }
+
+    #[inline(always)]
+    fn likely(left: i64, right: i64) -> (i64, u64) {
+        likely_value(Self::apply(left, right), left.wrapping_add(right))
+    }
 }
 
 /// `-`: the number with the other sign, and the difference.
@@ -173,6 +178,11 @@ impl Function for Minus {
 
     fn identity() -> Option<i64> {
         Some(0)
+    }
+
+    #[inline(always)]
+    fn likely(left: i64, right: i64) -> (i64, u64) {
+        likely_value(Self::apply(left, right), left.wrapping_sub(right))
     }
 }
 
