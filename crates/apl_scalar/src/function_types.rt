@@ -52,23 +52,11 @@ pub trait Function {
     {
         likely_value(Self::apply_monadic(right), 0)
     }
-
-    /// Whether the monadic function has no branches, so that a run of its results is quick.
-    #[inline(always)]
-    fn has_monadic_runs() -> bool {
-        has_monadic_runs(Self::FUNCTION)
-    }
-
-    /// Whether the likely results have no branches, so that a run of them is quick.
-    #[inline(always)]
-    fn has_runs() -> bool {
-        has_dyadic_runs(Self::FUNCTION)
-    }
 }
 
-/// The functions of one argument that have no branches.
+/// The functions of one argument that have no branches, so that a run of their results is quick.
 #[inline(always)]
-fn has_monadic_runs(f: ScalarFunction) -> bool {
+pub(crate) fn has_monadic_runs(f: ScalarFunction) -> bool {
     matches!(
         f,
         ScalarFunction::Plus
@@ -81,9 +69,9 @@ fn has_monadic_runs(f: ScalarFunction) -> bool {
     )
 }
 
-/// The functions of two arguments whose likely results have no branches.
+/// The functions of two arguments whose likely results have no branches, so that a run of them is quick.
 #[inline(always)]
-fn has_dyadic_runs(f: ScalarFunction) -> bool {
+pub(crate) fn has_dyadic_runs(f: ScalarFunction) -> bool {
     !matches!(
         f,
         ScalarFunction::Divide

@@ -3,7 +3,7 @@ ghost use Rattle.std.specs.Prelude.{ℕ, ◌≤◌};
 ghost use Rattle.apl_pool.specs.declared.kernel.TheConstants.{MOST_PLACES};
 
 use crate::elements::{dyadic_elements, likely_elements};
-use crate::function_types::Function;
+use crate::function_types::{Function, has_dyadic_runs, has_monadic_runs};
 use crate::operands::Operand;
 use crate::runs::{Results, write_results};
 use apl_pool::{Fault, Kernel};
@@ -36,7 +36,7 @@ impl<F: Function + Copy> Results for NumberResults<'_, F> {
 
     #[inline(always)]
     fn have_runs() -> bool {
-        F::has_monadic_runs()
+        has_monadic_runs(F::FUNCTION)
     }
 }
 
@@ -68,7 +68,7 @@ impl<L: Operand, R: Operand, F: Function + Copy> Results for PairResults<L, R, F
 
     #[inline(always)]
     fn have_runs() -> bool {
-        F::has_runs()
+        has_dyadic_runs(F::FUNCTION)
     }
 }
 
