@@ -42,13 +42,13 @@ pub(crate) fn likely_value(outcome: Result<i64, Fault>, other: i64) -> (i64, boo
     }
 }
 
-/// The number, and the doubts whether it is sure.
+/// The number, and no doubts if it is sure, else all bits.
 #[inline(always)]
 pub(crate) fn with_doubts(likely: (i64, bool)) -> (i64, u64)
     ensures value { result.0 ≡ likely.0 }
     ensures doubts { result.1 ≡ 0 → likely.1 ≡ true }
 {
-    (likely.0, if likely.1 { 0 } else { 1 })
+    (likely.0, if likely.1 { 0 } else { u64::MAX })
 }
 
 /// The number that the lower 32 bits of `x` are.
