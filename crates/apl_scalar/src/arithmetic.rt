@@ -31,14 +31,14 @@ pub(crate) fn product(x: i64, y: i64) -> Result<i64, Fault>
     limited(x.checked_mul(y))
 }
 
-/// The value and no doubts, or else the other number and doubts. If the other number is computed as the value is, nothing is chosen.
+/// The value and no doubts, or else the other number and all bits. If the other number is computed as the value is, nothing is chosen.
 #[inline(always)]
 pub(crate) fn likely_value(outcome: Result<i64, Fault>, other: i64) -> (i64, u64)
     ensures { result.1 ≡ 0 → outcome ≡ Ok result.0 }
 {
     match outcome {
         Ok(value) => (value, 0),
-        Err(_) => (other, 1),
+        Err(_) => (other, u64::MAX),
     }
 }
 

@@ -124,11 +124,10 @@ impl<P: TwoValuedFunction + Drop> PrefixState for RunningBits<P> {
 
     #[inline(always)]
     fn with(&self, item: i64) -> Option<(i64, Self)> {
-        match item {
-            0 => self.with_bit(0),
-            1 => self.with_bit(1),
-            _ => None,
+        if item < 0 || item > 1 {
+            return None;
         }
+        self.with_bit(item)
     }
 }
 
