@@ -2,6 +2,7 @@
 use Rattle.std.proofs.Common.{◌≡◌, ℕ, zero, suc, ◌+◌, ◌-◌, ◌*◌, ◌/◌, ◌<◌, ◌≤◌, List, [], ◌∷◌, length, slice_index_or, drop, refl, sym, ap, ◌∙◌, arith, inl, inr, rules, take, add_comm, div-add-mod', mul-le-mul_right, lt_of_mul-lt-mul_right}
 use Rattle.std.specs.Prelude.{min, Option, Some, None}
 use Rattle.std.proofs.lemmas.List.{places}
+use Rattle.std.proofs.lemmas.Bool.Decides.{nat_tests}
 use Rattle.std.proofs.lemmas.Bool.{le-leb, le-ltb, lt-leb, lt-ltb, cases_lt}
 use Rattle.apl_walk.specs.declared.map.TheConstants.{MOST_STEP}
 use Rattle.apl_walk.specs.declared.window.Window.{Window}
@@ -83,33 +84,15 @@ values_back line room fill extent stride f count within near each =
 
 -- ---- indexes counted round
 
-wrapped_low : (n j : ℕ) → j < n → wrapped n j ≡ j
-wrapped_low n j low = rw (lt-ltb j n low) refl
-
-wrapped_high : (n j : ℕ) → n ≤ j → wrapped n j ≡ j - n
-wrapped_high n j high = rw (le-ltb j n high) refl
-
 wrapped_most : (n j : ℕ) → j < n + n → wrapped n j ≤ n - 1
-wrapped_most n j most =
-    elim (cases_lt j n) [
-      | inl low ↦ omega (arith, low, wrapped_low n j low)
-      | inr high ↦ omega (arith, high, most, wrapped_high n j high)
-    ]
+wrapped_most n j most = grind (arith, nat_tests)
 
 -- k indexes on, before the last one and past it
 wrapped_before : (n j k start m : ℕ) → start ≡ wrapped n j → m ≡ j + k → start + k < n → start + k ≡ wrapped n m
-wrapped_before n j k start m start_is there short =
-    elim (cases_lt j n) [
-      | inl low ↦ let own = wrapped_low n j low in omega (arith, own, wrapped_low n m (omega (arith, own)))
-      | inr high ↦ omega (arith, wrapped_high n j high, wrapped_high n m (omega (arith, high)))
-    ]
+wrapped_before n j k start m start_is there short = grind (arith, nat_tests)
 
 wrapped_past : (n j k start m : ℕ) → start ≡ wrapped n j → m ≡ j + k → n ≤ start + k → m < n + n → start + k - n ≡ wrapped n m
-wrapped_past n j k start m start_is there far most =
-    elim (cases_lt j n) [
-      | inl low ↦ let own = wrapped_low n j low in omega (arith, own, wrapped_high n m (omega (arith, own)))
-      | inr high ↦ absurd (omega (arith, high, wrapped_high n j high))
-    ]
+wrapped_past n j k start m start_is there far most = grind (arith, nat_tests)
 
 -- the indexes up to the last one, and then those from the first one on
 pub values_rotated : {T : Type 0} (line room : List T) (fill : T) (extent by stride f count start first : ℕ) → f + count ≤ extent → by ≤ extent

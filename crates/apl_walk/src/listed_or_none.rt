@@ -93,11 +93,6 @@ impl AxisMap for ListedOrNone<'_> {
             self.write_elements(line, from, count, room);
             return self.write_fills(from, count, fill, room);
         }
-        for k in 0..count {
-            room[k] = match self.step(from + k) {
-                Some(step) => line[step],
-                None => fill,
-            };
-        }
+        self.write_steps(line, from, count, fill, room);
     }
 }
