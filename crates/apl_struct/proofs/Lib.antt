@@ -7,7 +7,6 @@ pub mod Passing
 pub mod Vectors
 pub mod Wrapping
 pub mod Numbering
-pub mod Without
 pub mod Rotations
 pub mod Sources
 pub mod Replacement

@@ -138,13 +138,6 @@ fn shape_with(alloc: Global, lengths: &[i64]) -> Result<Shape, OpFault>
     Ok(Shape::new(alloc, lengths.as_slice())?)
 }
 
-/// Whether an array of one shape can be made of the elements of one of another, again and again.
-fn can_fill(own: &Shape, shape: &Shape) -> bool
-    ensures { result ≡ (not (count_of own.now == 0) || (count_of shape.now == 0)) }
-{
-    own.count() > 0 || shape.count() == 0
-}
-
 /// `A⍴B`, reshape: the elements of `B` in row order, again and again.
 /// Shape: the numbers of `A`. Kind: that of `B`.
 /// Errors in order: RANK of `A`, DOMAIN of its kind, then of its numbers, LIMIT, LENGTH where a result with elements is made of none.
@@ -167,7 +160,7 @@ pub fn reshape<R: Threads + Sync, C: Cut + Sync, G: Gate + Sync>(
         return Err(OpFault::Domain);
     }
     let shape = shape_with(alloc, numbers)?;
-    if !can_fill(b.shape(), &shape) {
+    if b.shape().count() == 0 && shape.count() > 0 {
         return Err(OpFault::Length);
     }
     places_match_index_lists();

@@ -223,15 +223,9 @@ fn join_along<W: Crew>(
     match joined_kind(a, b) {
         Kind::Number => join_elements(workers, shape, a, b, numbers_in(a), numbers_in(b), seam),
         Kind::Character => {
-            join_elements(
-                workers,
-                shape,
-                a,
-                b,
-                characters_in(a),
-                characters_in(b),
-                seam,
-            )
+            let first = characters_in(a);
+            let second = characters_in(b);
+            join_elements(workers, shape, a, b, first, second, seam)
         }
     }
 }

@@ -14,7 +14,7 @@ use std::alloc::{AllocError, Global};
 /// How many times an index is put into a table at once, whatever its count is.
 const SPARE: usize = 4;
 
-/// The sum of counts, none of which is below 0 (`Domain`), also after others whose sum is past the most elements (`Limit`).
+/// The sum of counts. A count below 0 is refused first (`Domain`), and then a sum past the most elements (`Limit`).
 pub(crate) fn sum_of_counts(counts: &[i64]) -> Result<usize, OpFault>
     ensures { IsSumOf counts.now result }
 {

@@ -170,10 +170,7 @@ fn value_step(b: &Array) -> usize
     ensures most { result ≤ 1 }
     ensures lawful { IsArray b.now }
 {
-    if b.shape().count() == 1 {
-        return 0;
-    }
-    1
+    if b.shape().count() == 1 { 0 } else { 1 }
 }
 
 /// The array with the values in the place of the elements that the slots choose.

@@ -24,6 +24,6 @@ returns g c =
     let fits : (has_elements b || (count_of shape == 0)) ≡ true = search rules in
     let repeated =
     c.repeat.ensures (λ index. element_in b (reshape_source (size_of b) (place_of c.in_ok-shape.shape index))) (λ place inside.
-    element_again b (count_of c.in_ok-shape.shape) place c.shape-2.ensures.lawful (rw (sym shapes) at fits) inside
+    element_again b (count_of c.in_ok-shape.shape) place c.shape-3.ensures.lawful (rw (sym shapes) at fits) inside
     ∙ ap (λ p. element_in b (reshape_source (size_of b) p)) (sym (c.places_match_index_lists.ensures.same_place c.in_ok-shape.shape place inside))) in
     answered row c.repeat.result (list, (c.in_ok-numbers.ensures.numbers.0, (natural, (lawful, (fits, tt))))) (rw shapes at repeated)

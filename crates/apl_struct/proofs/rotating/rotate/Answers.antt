@@ -1,5 +1,6 @@
 use Rattle.std.proofs.Common.{◌≡◌, ◌+◌, true, false, length, slice_index, slice_index_or, pos, to_z, of_z, w64, refl, ap, ◌∙◌, arith, rules}
 use Rattle.std.specs.Prelude.{◌||◌, ◌==◌, remove}
+use Rattle.std.proofs.lemmas.Slice.Eq.{bytes_eq-Decides}
 use Rattle.apl_array.specs.Axes.{axis_of}
 use Rattle.apl_array.specs.Shape.{count_of}
 use Rattle.apl_answer.specs.Arguments.{rank_of, has_one_element, is_same_shape}
@@ -9,7 +10,6 @@ use Rattle.apl_struct.specs.Rearranging.{rotated_index, rotation_at, rotate_row}
 use Rattle.apl_struct.proofs.Elements.{scalar_element}
 use Rattle.apl_struct.proofs.Passing.{answered}
 use Rattle.apl_struct.proofs.Rotations.{rotation_of_all, rotation_of_line}
-use Rattle.apl_struct.proofs.Without.{same_from_test}
 use Rattle.apl_struct.proofs.rotating.rotate.Given.{Over}
 use Rattle.apl_struct.proofs.rotating.rotate.Goals as goal
 use Rattle.apl_struct.proofs.rotating.rotate.Goals.{After-rank-2}
@@ -60,6 +60,6 @@ returns-else-serves_all g c =
     let many : count_of a.shape ≡ 1 → ⊥ = search rules in
     let more : has_one_element a.shape ≡ false = grind (arith, many) in
     let zs = c.in_ok-rotations.rotations.now in
-    let others : a.shape ≡ remove b.shape k = same_from_test a.shape (remove b.shape k) (rw more at known.1.1.1.0) in
+    let others : a.shape ≡ remove b.shape k = (bytes_eq-Decides a.shape (remove b.shape k)).0 (rw more at known.1.1.1.0) in
     answered (rotate_row a b c.args.axis) c.rotate_each.result known.1
     (c.rotate_each.ensures _ (λ index lawful. rw (known.0, rotation_of_line a zs (remove b.shape k) k index c.in_ok-rotations.ensures.numbers.1 more others) refl))
