@@ -82,9 +82,9 @@ pub(crate) fn summarize<S: Summary<Item = i64> + Copy + Drop + Send, W: Crew>(
         IfOk result (λ summaries. AreUpToChunks S.step (λ k. S.item_count k.summary) (λ k. S.outcome k.summary) c.numbers.now c.items c.per_line c.rows summaries.items) }
     ensures memory { IfErr result (λ stop. stop ≡ Stop.Memory) }
 {
-    let folds: RowSummaries<BoundedSummary<S>> = workers.pool().fold_rows(
-        workers.rt(), workers.alloc(), chunks,
-    );
+    let folds: RowSummaries<BoundedSummary<S>> = workers
+        .pool()
+        .fold_rows(workers.rt(), workers.alloc(), chunks);
     folds.end?;
     let mut summaries = folds.summaries;
     carry_on(chunks, summaries.as_mut_slice());

@@ -236,9 +236,7 @@ fn fill_summarized<S: Running + Copy + Drop + Send + Sync, W: Crew>(
         }
     }
     let per_line = (items - 1) / CHUNK;
-    let beginnings: Vec<BoundedSummary<S>> = summarize_lines(
-        workers, numbers, items, per_line,
-    )?;
+    let beginnings: Vec<BoundedSummary<S>> = summarize_lines(workers, numbers, items, per_line)?;
     let scans = Scans {
         numbers,
         items: Divisor::new(items),

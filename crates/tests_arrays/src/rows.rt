@@ -146,4 +146,3 @@ fn folds_of_rows(rt: HostRuntime) -> Result<(), Fail> {
     }
     Ok(())
 }
-
