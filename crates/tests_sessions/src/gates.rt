@@ -5,7 +5,7 @@ ghost use Rattle.apl_pool.specs.declared.pool.TheConstants.{MOST_WORKERS};
 ghost use Rattle.tests_sessions.specs.declared.gates.TheConstants.{LONGEST};
 
 use crate::doors::{Door, Meeting};
-use crate::pools::Numbers;
+use crate::pools::{Numbers, are_places};
 use crate::transcripts::{Table, lines_of};
 use apl_pool::{Every, Fault, Gate, Kernel, MOST_PLACES, Pool, Schedule, Summary};
 use apl_print::MemorySink;
@@ -138,11 +138,8 @@ impl Held {
         };
         let pool = Pool::with(self.workers, self.schedule, Every(self.length), &holding);
         let values = pool.fill(rt, alloc, &kernel)?;
-        let has_values = values
-            .iter()
-            .enumerate()
-            .all(|(place, value)| place == *value);
-        Ok(has_values && values.len() == count && holding.met(self.known))
+        let has_values = values.len() == count && are_places(values.as_slice());
+        Ok(has_values && holding.met(self.known))
     }
 
     /// Sums the places, and says whether each was summed, and both held pieces went on.

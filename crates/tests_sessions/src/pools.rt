@@ -2,7 +2,9 @@
 ghost use Rattle.std.specs.Prelude.{◌≤◌};
 ghost use Rattle.apl_pool.specs.declared.kernel.TheConstants.{MOST_PLACES};
 
-use apl_pool::{Cut, Every, Fault, Gate, Kernel, MOST_PLACES, Open, Pool, Schedule, Stop};
+use apl_pool::{
+    Cut, Every, Fault, Gate, Kernel, MOST_PLACES, Open, Pool, Schedule, Stop, Workers, fill,
+};
 use std::sync::atomic::{AtomicU64, Ordering};
 use std::test::Fail;
 
@@ -15,23 +17,23 @@ pub(super) struct Numbers {
 }
 
 impl Kernel for Numbers {
-    ghost use Rattle.std.specs.Prelude.{nat_lt, Ok, Err, if◌then◌else◌};
+    ghost use Rattle.std.specs.Prelude.{pos, nat_lt, Ok, Err, if◌then◌else◌};
     ghost use Rattle.apl_pool.specs.declared.kernel.Fault.{Fault};
     ghost use Rattle.apl_pool.specs.declared.kernel.Fault.TheVariants.{Limit};
 
-    type Out = usize;
+    type Out = i64;
 
     ghost place_count = { λ k. k.count };
 
-    ghost outcome = { λ k place. if nat_lt place k.limit then Ok place else Err Limit };
+    ghost outcome = { λ k place. if nat_lt place k.limit then Ok (pos place) else Err Limit };
 
     fn count(&self) -> usize {
         self.count
     }
 
-    fn at(&self, place: usize) -> Result<usize, Fault> {
+    fn at(&self, place: usize) -> Result<i64, Fault> {
         if place < self.limit {
-            Ok(place)
+            Ok(place as i64)
         } else {
             Err(Fault::Limit)
         }
@@ -60,6 +62,14 @@ impl Kernel for Refusing {
     fn at(&self, _place: usize) -> Result<[u64; 1024], Fault> {
         Err(Fault::Domain)
     }
+}
+
+/// Whether each place has its number.
+pub(super) fn are_places(values: &[i64]) -> bool {
+    values
+        .iter()
+        .enumerate()
+        .all(|(place, value)| place as i64 == *value)
 }
 
 #[test]
@@ -93,33 +103,43 @@ fn the_least_fault_is_the_answer(rt: HostRuntime) -> Result<(), Fail> {
     Ok(())
 }
 
-/// Whatever the values of a list were, they are those of the kernel then, or the least fault is the answer.
+/// Whatever the numbers of a kept list were, they are those of the kernel then, or the least fault is the answer.
 #[test]
-fn a_list_is_written_over(rt: HostRuntime) -> Result<(), Fail> {
+fn a_kept_list_is_written_over(rt: HostRuntime) -> Result<(), Fail> {
+    let alloc = rt.alloc();
     for workers in [1, 2, 3, 64u8] {
-        for (count, piece) in [(0, 1), (1, 4096), (7, 2), (100_000, 4096)] {
+        for (count, piece) in [
+            (0, 1),
+            (7, 2),
+            (5000, 4096),
+            (100_000, 4096),
+            (100_000, 33_000),
+        ] {
             let pool = Pool::new(workers, Every(piece), Open);
+            let workers = Workers {
+                rt: &rt,
+                alloc,
+                pool: &pool,
+            };
             let whole = Numbers {
                 count,
                 limit: count,
             };
-            let old = vec![in rt.alloc(); 9; count]?;
-            let values = pool.fill_into(&rt, rt.alloc(), &whole, old)?;
-            let are_places = values
-                .iter()
-                .enumerate()
-                .all(|(place, value)| place == *value);
+            pool.kept().keep(vec![in alloc; 9; count + count / 10]?);
+            let values = fill(&workers, &whole)?;
+            let is_used = !pool.kept().give_back();
+            assert!(rt; is_used && values.len() == count && are_places(values.as_slice()));
             let faulty = Numbers {
                 count,
                 limit: count / 2,
             };
-            let old = vec![in rt.alloc(); 9; count]?;
-            let fault = match pool.fill_into(&rt, rt.alloc(), &faulty, old) {
+            pool.kept().keep(values);
+            let fault = match fill(&workers, &faulty) {
                 Err(Stop::Fault { place, .. }) => Some(place as usize),
                 _ => None,
             };
             let wanted = if count == 0 { None } else { Some(count / 2) };
-            assert!(rt; are_places && values.len() == count && fault == wanted);
+            assert!(rt; fault == wanted);
         }
     }
     Ok(())
