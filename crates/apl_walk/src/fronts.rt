@@ -1,5 +1,7 @@
 //! The loops that write the front of a room.
-ghost use Rattle.std.specs.Prelude.{◌≡◌, ℕ, ◌-◌, ◌*◌, ◌<◌, ◌≤◌, length, slice_index_or};
+ghost use Rattle.std.specs.Prelude.{◌≡◌, ℕ, ◌-◌, ◌*◌, ◌<◌, ◌≤◌, length, slice_index_or, ◌+◌, ◌^◌};
+ghost use Rattle.apl_walk.specs.Steps.{BeginsWith};
+ghost use Rattle.apl_walk.specs.declared.fronts.TheConstants.{FEW};
 
 /// The same at each place.
 #[inline(always)]
@@ -10,23 +12,6 @@ pub(crate) fn write_same<T: Copy>(value: T, count: usize, room: &mut [T])
 {
     for k in 0..count {
         room[k] = value;
-    }
-}
-
-/// How many copies are written at once.
-pub(crate) const COPIES: usize = 4;
-
-/// The same at each of the first places, and perhaps at some after them. A few copies take no test at each.
-#[inline(always)]
-pub(crate) fn write_copies<T: Copy>(value: T, count: usize, room: &mut [T])
-    requires room { count ≤ length room.old }
-    requires several { COPIES ≤ length room.old }
-    ensures each { (k : ℕ) (d : T) → k < count → slice_index_or room.new k d ≡ value }
-    ensures len { length room.new ≡ length room.old }
-{
-    write_same(value, COPIES, room);
-    if count > COPIES {
-        write_same(value, count - COPIES, &mut room[COPIES..]);
     }
 }
 
@@ -57,5 +42,38 @@ pub(crate) fn write_stretch<T: Copy>(elements: &[T], stride: usize, count: usize
     }
     for k in 0..count {
         room[k] = elements[k * stride];
+    }
+}
+
+/// So few elements are written one by one: a loop over many takes longer to begin.
+const FEW: usize = 8;
+
+/// The element at a place, and past the last one always the same.
+#[inline(always)]
+pub fn element_or<T: Copy>(elements: &[T], place: usize, past: T) -> T
+    ensures { result ≡ slice_index_or elements.now place past }
+{
+    match elements.get(place) {
+        Some(element) => *element,
+        None => past,
+    }
+}
+
+/// Writes the elements from `first` on to the front of a room.
+#[inline(always)]
+pub(crate) fn write_or<T: Copy>(elements: &[T], past: T, first: usize, count: usize, room: &mut [T])
+    requires room { count ≤ length room.old }
+    requires most { first ≤ 2 ^ 62 }
+    ensures values { BeginsWith (λ k. slice_index_or elements.now (first + k) past) count room.new }
+    ensures len { length room.new ≡ length room.old }
+{
+    if count >= FEW {
+        let start = first.min(elements.len());
+        let near = count.min(elements.len() - start);
+        write_near(&elements[start..], near, room);
+        return write_same(past, count - near, &mut room[near..]);
+    }
+    for k in 0..count {
+        room[k] = element_or(elements, first + k, past);
     }
 }

@@ -5,12 +5,10 @@ ghost use Rattle.apl_walk.specs.declared.map.TheConstants.{MOST_STEP};
 ghost use Rattle.apl_walk.specs.Maps.{walked};
 ghost use Rattle.apl_walk.specs.declared.maps.TheConstants.{MOST_MAPS};
 
-use crate::listed::Listed;
-use crate::listed_or_none::ListedOrNone;
+use crate::listed::{Listed, ListedOrNone};
 use crate::map::AxisMap;
 use crate::repeated::Repeated;
-use crate::reversed::Reversed;
-use crate::rotated::Rotated;
+use crate::turned::{Reversed, Rotated};
 use crate::window::Window;
 
 /// An axis of any kind.

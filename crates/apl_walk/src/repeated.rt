@@ -3,9 +3,9 @@ ghost use Rattle.std.specs.Prelude.{◌≡◌, ℕ, IsTrue, ◌+◌, ◌-◌, �
 ghost use Rattle.apl_pool.specs.declared.kernel.TheConstants.{MOST_PLACES};
 ghost use Rattle.apl_walk.specs.declared.map.TheConstants.{MOST_STEP};
 ghost use Rattle.apl_walk.specs.Steps.{repeated_step};
-ghost use Rattle.apl_walk.specs.declared.fronts.TheConstants.{COPIES};
+ghost use Rattle.apl_walk.specs.declared.repeated.TheConstants.{COPIES};
 
-use crate::fronts::{COPIES, write_copies, write_same};
+use crate::fronts::write_same;
 use crate::map::{AxisMap, MOST_STEP};
 
 /// Each index of an axis, several times in a row.
@@ -20,18 +20,23 @@ pub struct Repeated {
     ghost near: { axis_length * stride ≤ MOST_STEP },
 }
 
-/// The same at each of the first places, as far as there is room. Several at once may be written past them.
+/// How many copies are written at once.
+const COPIES: usize = 4;
+
+/// The same at each of the first places, as far as there is room. Several at once may be written past them, with no test at each.
 #[inline(always)]
-fn write_index<T: Copy>(value: T, count: usize, several: bool, room: &mut [T])
+fn write_copies<T: Copy>(value: T, count: usize, several: bool, room: &mut [T])
     requires count { IsTrue several → count ≤ length room.old }
     requires several { IsTrue several → COPIES ≤ length room.old }
     ensures each { (k : ℕ) (d : T) → k < count → k < length room.old → slice_index_or room.new k d ≡ value }
     ensures len { length room.new ≡ length room.old }
 {
-    if several {
-        write_copies(value, count, room);
-    } else {
-        write_same(value, count.min(room.len()), room);
+    if !several {
+        return write_same(value, count.min(room.len()), room);
+    }
+    write_same(value, COPIES, room);
+    if count > COPIES {
+        write_same(value, count - COPIES, &mut room[COPIES..]);
     }
 }
 
@@ -60,7 +65,7 @@ impl Repeated {
         let mut left = self.times - from % self.times;
         let mut done = 0;
         while done < limit {
-            write_index(line[index * self.stride], left, several, &mut room[done..]);
+            write_copies(line[index * self.stride], left, several, &mut room[done..]);
             done += left;
             left = self.times;
             index += 1;

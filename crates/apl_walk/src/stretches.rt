@@ -1,39 +1,166 @@
-//! Neighbours, and past the last of them always the same.
-ghost use Rattle.std.specs.Prelude.{◌≡◌, ◌+◌, ◌≤◌, ◌^◌, length, slice_index_or};
+//! Lines of neighbours, and past the last of them always the same.
+ghost use Rattle.std.specs.Prelude.{◌≡◌, ℕ, ◌%◌, ◌<◌, ◌≤◌, length, slice_index_or, ◌+◌, ◌*◌};
+ghost use Rattle.apl_pool.specs.declared.kernel.TheConstants.{MOST_PLACES};
 ghost use Rattle.apl_walk.specs.Steps.{BeginsWith};
-ghost use Rattle.apl_walk.specs.declared.stretches.TheConstants.{FEW};
+ghost use Rattle.apl_walk.specs.Seams.{joined_value};
 
-use crate::fronts::{write_near, write_same};
+use crate::fronts::{element_or, write_or};
+use crate::lined::Lined;
 
-/// So few elements are written one by one: a loop over many takes longer to begin.
-const FEW: usize = 8;
+/// The elements of an argument in each line, and past the last of them always the same.
+#[derive(Drop)]
+pub struct Cyclic<'a, T> {
+    pub elements: &'a [T],
+    pub past: T,
+    pub extent: usize,
+    pub count: usize,
+    ghost some: { 0 < extent },
+    ghost extent_most: { extent ≤ MOST_PLACES },
+    ghost count_most: { count ≤ MOST_PLACES },
+}
 
-/// The element at a place, and past the last one always the same.
-#[inline(always)]
-pub fn element_or<T: Copy>(elements: &[T], place: usize, past: T) -> T
-    ensures { result ≡ slice_index_or elements.now place past }
-{
-    match elements.get(place) {
-        Some(element) => *element,
-        None => past,
+impl<'a, T: Copy> Cyclic<'a, T> {
+    /// The elements in row order, again and again.
+    pub fn new(elements: &'a [T], fill: T, count: usize) -> Cyclic<'a, T>
+        requires size { length elements.now ≤ MOST_PLACES }
+        requires most { count ≤ MOST_PLACES }
+        ensures count { result.count ≡ count }
+        ensures elements { result.elements.now ≡ elements.now }
+        ensures values { (place : ℕ) → place < count → slice_index_or elements.now (place % result.extent) result.past ≡ slice_index_or elements.now (place % length elements.now) fill }
+    {
+        let past = element_or(elements, 0, fill);
+        // An only element makes one line.
+        let extent = if elements.len() > 1 {
+            elements.len()
+        } else {
+            count.max(1)
+        };
+        Cyclic {
+            elements,
+            past,
+            extent,
+            count,
+        }
     }
 }
 
-/// Writes the elements from `first` on to the front of a room.
-#[inline(always)]
-pub(crate) fn write_or<T: Copy>(elements: &[T], past: T, first: usize, count: usize, room: &mut [T])
-    requires room { count ≤ length room.old }
-    requires most { first ≤ 2 ^ 62 }
-    ensures values { BeginsWith (λ k. slice_index_or elements.now (first + k) past) count room.new }
-    ensures len { length room.new ≡ length room.old }
-{
-    if count >= FEW {
-        let start = first.min(elements.len());
-        let near = count.min(elements.len() - start);
-        write_near(&elements[start..], near, room);
-        return write_same(past, count - near, &mut room[near..]);
+impl<T: Copy> Lined for Cyclic<'_, T> {
+    type Out = T;
+
+    ghost place_count = { λ r. r.count };
+
+    ghost extent = { λ r. r.extent };
+
+    ghost value = { λ r line index. slice_index_or r.elements.now index r.past };
+
+    fn count(&self) -> usize {
+        self.count
     }
-    for k in 0..count {
-        room[k] = element_or(elements, first + k, past);
+
+    fn extent(&self) -> usize {
+        self.extent
+    }
+
+    #[inline(always)]
+    fn at(&self, _line: usize, index: usize) -> T {
+        element_or(self.elements, index, self.past)
+    }
+
+    #[inline(always)]
+    fn write(&self, _line: usize, from: usize, count: usize, room: &mut [T]) {
+        write_or(self.elements, self.past, from, count, room);
+    }
+}
+
+/// An argument's part of each line: its next elements, and past the last of them always the same.
+#[derive(Drop)]
+pub struct Part<'a, T> {
+    pub elements: &'a [T],
+    pub past: T,
+    pub length: usize,
+    ghost most: { length ≤ MOST_PLACES },
+}
+
+impl<'a, T: Copy> Part<'a, T> {
+    /// `length` elements in each line. Past the last element there is always the first one.
+    pub fn new(elements: &'a [T], fill: T, length: usize) -> Part<'a, T>
+        requires { length ≤ MOST_PLACES }
+        ensures elements { result.elements.now ≡ elements.now }
+        ensures past { result.past ≡ slice_index_or elements.now 0 fill }
+        ensures length { result.length ≡ length }
+    {
+        Part {
+            elements,
+            past: element_or(elements, 0, fill),
+            length,
+        }
+    }
+
+    #[inline(always)]
+    fn at(&self, line: usize, index: usize) -> T
+        requires line { line ≤ MOST_PLACES }
+        requires index { index < self.now.length }
+        ensures { result ≡ slice_index_or self.now.elements.now (line * self.now.length + index) self.now.past }
+    {
+        element_or(self.elements, line * self.length + index, self.past)
+    }
+
+    #[inline(always)]
+    fn write(&self, line: usize, from: usize, count: usize, room: &mut [T])
+        requires line { line ≤ MOST_PLACES }
+        requires within { from ≤ MOST_PLACES }
+        requires room { count ≤ length room.old }
+        ensures values { BeginsWith (λ k. slice_index_or self.now.elements.now (line * self.now.length + from + k) self.now.past) count room.new }
+        ensures len { length room.new ≡ length room.old }
+    {
+        let first = line * self.length + from;
+        write_or(self.elements, self.past, first, count, room);
+    }
+}
+
+/// The parts of two arguments, one after the other.
+#[derive(Drop)]
+pub struct Joined<'a, T> {
+    pub left: Part<'a, T>,
+    pub right: Part<'a, T>,
+    pub count: usize,
+    ghost some: { 0 < left.length + right.length },
+    ghost extent_most: { left.length + right.length ≤ MOST_PLACES },
+    ghost count_most: { count ≤ MOST_PLACES },
+}
+
+impl<T: Copy> Lined for Joined<'_, T> {
+    type Out = T;
+
+    ghost place_count = { λ j. j.count };
+
+    ghost extent = { λ j. j.left.length + j.right.length };
+
+    ghost value = { λ j line index. joined_value j.left.elements.now j.right.elements.now j.left.past j.right.past j.left.length j.right.length line index };
+
+    fn count(&self) -> usize {
+        self.count
+    }
+
+    fn extent(&self) -> usize {
+        self.left.length + self.right.length
+    }
+
+    #[inline(always)]
+    fn at(&self, line: usize, index: usize) -> T {
+        if index < self.left.length {
+            self.left.at(line, index)
+        } else {
+            self.right.at(line, index - self.left.length)
+        }
+    }
+
+    #[inline(always)]
+    fn write(&self, line: usize, from: usize, count: usize, room: &mut [T]) {
+        let first = count.min(self.left.length.saturating_sub(from));
+        self.left.write(line, from, first, room);
+        let start = from.saturating_sub(self.left.length);
+        self.right
+            .write(line, start, count - first, &mut room[first..]);
     }
 }

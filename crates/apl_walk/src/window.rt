@@ -27,6 +27,52 @@ pub struct Window {
 }
 
 impl Window {
+    ghost use Rattle.std.specs.Prelude.{◌↔◌, IsTrue, ℕ, ◌%◌, Some, IfSome};
+    ghost use Rattle.apl_walk.specs.Maps.{step_of, windows_step};
+
+    /// The window of an axis whose indexes each take their own.
+    pub fn whole(extent: usize, stride: usize) -> Window
+        requires some { 0 < extent }
+        requires most { extent ≤ MOST_PLACES }
+        requires near { extent * stride ≤ MOST_STEP }
+        ensures extent { result.extent ≡ extent }
+        ensures step { (i : ℕ) → i < extent → step_of result i ≡ Some (i * stride) }
+    {
+        Window {
+            extent,
+            from: 0,
+            to: extent,
+            start: 0,
+            stride,
+        }
+    }
+
+    /// Whether each index takes its own.
+    pub(crate) fn is_whole(&self) -> bool
+        ensures { IsTrue result ↔ ((self.now.from ≡ 0) × (self.now.start ≡ 0) × (self.now.to ≡ self.now.extent)) }
+    {
+        self.from == 0 && self.start == 0 && self.to == self.extent
+    }
+
+    /// The window of this axis and the next as one axis, where a step along this one is one past the end of the next.
+    pub(crate) fn joined(&self, inner: &Window) -> Option<Window>
+        requires { self.now.extent * inner.now.extent ≤ MOST_PLACES }
+        ensures extent { IfSome result (λ w. w.extent ≡ self.now.extent * inner.now.extent) }
+        ensures step { IfSome result (λ w. (place : ℕ) → step_of w (place % w.extent) ≡ windows_step self.now inner.now place) }
+    {
+        if !inner.is_whole() || inner.stride == 0 || self.stride != inner.stride * inner.extent {
+            return None;
+        }
+        let count = inner.extent;
+        Some(Window {
+            extent: self.extent * count,
+            from: self.from * count,
+            to: self.to * count,
+            start: self.start * count,
+            stride: inner.stride,
+        })
+    }
+
     /// What an index adds that has a place.
     #[inline(always)]
     fn step_within(&self, i: usize) -> usize

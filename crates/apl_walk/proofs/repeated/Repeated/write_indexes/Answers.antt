@@ -27,10 +27,10 @@ loop-done-preserved g c =
       few = omega arith;
       far = omega (arith, c.loop-done-test.true);
       each = λ k d before inside.
-          more_begun taken l.done (min l.left (length l.room - l.done)) (length l.room - l.done) l.room c.write_index.new.room
+          more_begun taken l.done (min l.left (length l.room - l.done)) (length l.room - l.done) l.room c.write_copies.new.room
           (omega (arith, c.loop-done-test.true, c.requires.room, l.auto.room)) (omega arith) (omega arith) (λ k d before. l.invariant.each k d before (omega (arith, before, c.loop-done-test.true, c.requires.room, l.auto.room)))
           (λ j d inside.
           let same : (c.args.from + (l.done + j)) / r.times ≡ l.index = quotient_there r.times l.index (c.args.from + (l.done + j)) (omega (arith, l.invariant.turn, l.invariant.most)) (omega (arith, l.invariant.turn, inside)) in
-          c.write_index.ensures.each j d (omega (arith, inside)) (omega (arith, inside)) ∙ read d ∙ ap (λ q. slice_index_or c.args.line.now (q * r.stride) d) (sym same))
+          c.write_copies.ensures.each j d (omega (arith, inside)) (omega (arith, inside)) ∙ read d ∙ ap (λ q. slice_index_or c.args.line.now (q * r.stride) d) (sym same))
           k d (omega (arith, before, inside));
     }

@@ -1,4 +1,4 @@
-use Rattle.std.proofs.Common.{◌≡◌, ℕ, ◌+◌, ◌*◌, ◌<◌, length, slice_index_or}
+use Rattle.std.proofs.Common.{◌≡◌, ℕ, ◌+◌, ◌*◌, ◌<◌, slice_index_or}
 use Rattle.std.specs.Prelude.{◌/◌, ◌%◌}
 use Rattle.apl_walk.specs.Steps.{rotated_place}
 use Rattle.apl_walk.proofs.rotated_lines.RotatedColumnsLined.write.Given as goal

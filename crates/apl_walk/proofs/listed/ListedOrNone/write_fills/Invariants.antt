@@ -1,6 +1,6 @@
 use Rattle.std.proofs.Common.{◌≡◌, ℕ, ◌+◌, ◌<◌, ◌≤◌, slice_index, slice_index_or}
 use Rattle.std.specs.Prelude.{nat_lt, if◌then◌else◌}
-use Rattle.apl_walk.proofs.listed_or_none.ListedOrNone.write_fills.Given as goal
+use Rattle.apl_walk.proofs.listed.ListedOrNone.write_fills.Given as goal
 
 abbrev pub invariant-loop-k : goal.invariant-loop-k
 invariant-loop-k g l = record {

@@ -1,7 +1,7 @@
 use Rattle.std.proofs.Common.{◌+◌, ◌-◌, ◌≤◌, arith, ◌∙◌, mul-le-mul_right}
 use Rattle.apl_walk.proofs.Lines.{part_before, part_at}
 use Rattle.apl_walk.proofs.Stepped.{values_rotated}
-use Rattle.apl_walk.proofs.rotated.RotatedAxisMap.write_line.Goals as goal
+use Rattle.apl_walk.proofs.turned.RotatedAxisMap.write_line.Goals as goal
 
 pub write_stretch-requires-clause-near : goal.write_stretch-requires-clause-near
 write_stretch-requires-clause-near g c =

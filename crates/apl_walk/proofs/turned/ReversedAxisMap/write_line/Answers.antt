@@ -1,6 +1,6 @@
 use Rattle.std.proofs.Common.{◌-◌, arith, mul-le-mul_right}
 use Rattle.apl_walk.proofs.Stepped.{values_back}
-use Rattle.apl_walk.proofs.reversed.ReversedAxisMap.write_line.Goals as goal
+use Rattle.apl_walk.proofs.turned.ReversedAxisMap.write_line.Goals as goal
 
 pub write_back-requires-else-self-eq1-clause-low : goal.write_back-requires-else-self-eq1-clause-low
 write_back-requires-else-self-eq1-clause-low g c =

@@ -1,8 +1,8 @@
 use Rattle.std.proofs.Common.{◌≡◌, ℕ, zero, suc, ◌%◌, ◌≤◌, List, [], ◌∷◌, length, slice_index_or, refl, sym, ap, ◌∙◌, arith, mod-lt}
 use Rattle.std.proofs.Math.Nat.{mod-one}
 use Rattle.apl_walk.proofs.Stepped.{get_or-within}
-use Rattle.apl_walk.proofs.cyclic.Cyclic.new.Goals as goal
-use Rattle.apl_walk.proofs.cyclic.Cyclic.new.Goals.{then-elements-gt1, else-elements-gt1}
+use Rattle.apl_walk.proofs.stretches.Cyclic.new.Goals as goal
+use Rattle.apl_walk.proofs.stretches.Cyclic.new.Goals.{then-elements-gt1, else-elements-gt1}
 
 single_value : {T : Type 0} (x : T) (k : ℕ) → slice_index_or (x ∷ []) k x ≡ x
 single_value x zero = refl

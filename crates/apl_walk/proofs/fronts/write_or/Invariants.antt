@@ -1,5 +1,5 @@
 use Rattle.std.proofs.Common.{◌≡◌, ℕ, ◌+◌, ◌<◌, slice_index_or}
-use Rattle.apl_walk.proofs.stretches.write_or.Given as goal
+use Rattle.apl_walk.proofs.fronts.write_or.Given as goal
 
 abbrev pub invariant-loop-k : goal.invariant-loop-k
 invariant-loop-k g l =

@@ -1,5 +1,5 @@
 use Rattle.std.proofs.Common.{◌≡◌, ℕ, ◌+◌, ◌*◌, ◌<◌, slice_index, slice_index_or}
-use Rattle.apl_walk.proofs.listed_or_none.ListedOrNone.write_elements.Given as goal
+use Rattle.apl_walk.proofs.listed.ListedOrNone.write_elements.Given as goal
 
 abbrev pub invariant-loop-k : goal.invariant-loop-k
 invariant-loop-k g l =

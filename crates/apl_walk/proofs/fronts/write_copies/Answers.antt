@@ -1,8 +1,0 @@
-use Rattle.std.proofs.Common.{◌-◌, arith}
-use Rattle.apl_walk.proofs.Lines.{more_begun}
-use Rattle.apl_walk.proofs.fronts.write_copies.Goals as goal
-
-pub returns-then-count-gt-COPIES-clause-each : goal.returns-then-count-gt-COPIES-clause-each
-returns-then-count-gt-COPIES-clause-each g c k d before =
-    more_begun (λ k d. c.args.value) 4 (c.args.count - 4) _ c.write_same.new.room c.write_same-then-count-gt-COPIES.new.room
-    (omega arith) (omega arith) (omega arith) c.write_same.ensures.each c.write_same-then-count-gt-COPIES.ensures.each k d (omega arith)
