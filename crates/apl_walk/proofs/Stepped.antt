@@ -1,5 +1,5 @@
 -- The elements that the indexes of an axis take.
-use Rattle.std.proofs.Common.{◌≡◌, ℕ, zero, suc, ◌+◌, ◌-◌, ◌*◌, ◌/◌, ◌<◌, ◌≤◌, List, [], ◌∷◌, length, slice_index_or, drop, refl, sym, ap, ◌∙◌, arith, inl, inr, rules, take, add_comm, div-add-mod', mul-le-mul_right, lt_of_mul-lt-mul_right}
+use Rattle.std.proofs.Common.{◌≡◌, ℕ, zero, suc, ◌+◌, ◌-◌, ◌*◌, ◌/◌, ◌<◌, ◌≤◌, List, [], ◌∷◌, length, slice_index_or, drop, refl, sym, ap, ◌∙◌, arith, inl, inr, rules, take, div-add-mod', mul-le-mul_right, lt_of_mul-lt-mul_right}
 use Rattle.std.specs.Prelude.{min, Option, Some, None}
 use Rattle.std.proofs.lemmas.List.{places}
 use Rattle.std.proofs.lemmas.Bool.Decides.{nat_tests}
@@ -18,10 +18,19 @@ get_or-within (x ∷ xs) (suc k) c d inside = get_or-within xs k c d (omega arit
 rest_at : {T : Type 0} (xs : List T) (a k : ℕ) (d : T) → slice_index_or (take (length xs - a) (drop a xs)) k d ≡ slice_index_or xs (a + k) d
 rest_at xs a k d = search (rules, places)
 
--- a line that begins at a place
-pub value_after : {T : Type 0} (elements : List T) (fill : T) (base : ℕ) (step : Option ℕ) → value_or (take (length elements - base) (drop base elements)) fill step ≡ value_or elements fill (and_step step (Some base))
-value_after elements fill base (Some s) = rest_at elements base s fill ∙ ap (λ p. slice_index_or elements p fill) (add_comm base s)
-value_after elements fill base None = refl
+past_end : {T : Type 0} (xs : List T) (k : ℕ) (d : T) → length xs ≤ k → slice_index_or xs k d ≡ d
+past_end xs k d far = search (rules, places)
+
+-- a line that begins at a place, also past the last element
+pub value_after : {T : Type 0} (elements : List T) (fill : T) (base begin : ℕ) (step : Option ℕ) → begin ≡ min base (length elements)
+    → value_or (take (length elements - begin) (drop begin elements)) fill step ≡ value_or elements fill (and_step step (Some base))
+value_after elements fill base begin (Some s) is =
+    rest_at elements begin s fill
+    ∙ elim (cases_lt base (length elements)) [
+      | inl inside ↦ ap (λ p. slice_index_or elements p fill) (omega (arith, is, inside))
+      | inr far ↦ past_end elements (begin + s) fill (omega (arith, is, far)) ∙ sym (past_end elements (s + base) fill (omega (arith, far)))
+    ]
+value_after elements fill base begin None is = refl
 
 -- a room with the elements that some indexes take
 pub values_taken : {T : Type 0} (line room : List T) (fill : T) (step : ℕ → Option ℕ) (place : ℕ → ℕ) (count : ℕ)

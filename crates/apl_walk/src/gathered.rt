@@ -55,31 +55,6 @@ impl<'a, T: ElementType, M: AxisMap> Gathered<'a, T, M> {
             count: lines * last.extent(),
         }
     }
-
-    #[inline(always)]
-    fn at_index(&self, start: usize, index: usize) -> T
-        requires start { start ≤ MOST_MAPS * MOST_STEP }
-        requires index { index < M.extent self.now.last }
-        ensures { result ≡ value_or self.now.elements.now self.now.fill (and_step (M.step self.now.last index) (Some start)) }
-    {
-        match self.last.step(index) {
-            Some(step) => element_or(self.elements, step + start, self.fill),
-            None => self.fill,
-        }
-    }
-
-    /// Writes a line's elements one by one: a place may be past the last element.
-    fn write_each(&self, start: usize, from: usize, count: usize, room: &mut [T])
-        requires start { start ≤ MOST_MAPS * MOST_STEP }
-        requires within { from + count ≤ M.extent self.now.last }
-        requires room { count ≤ length room.old }
-        ensures values { BeginsWith (λ k. value_or self.now.elements.now self.now.fill (and_step (M.step self.now.last (from + k)) (Some start))) count room.new }
-        ensures len { length room.new ≡ length room.old }
-    {
-        for k in 0..count {
-            room[k] = self.at_index(start, from + k);
-        }
-    }
 }
 
 impl<T: ElementType, M: AxisMap> Lined for Gathered<'_, T, M> {
@@ -105,9 +80,9 @@ impl<T: ElementType, M: AxisMap> Lined for Gathered<'_, T, M> {
 
     #[inline(always)]
     fn at(&self, line: usize, index: usize) -> T {
-        match start_at(self.outer, line) {
-            Some(start) => self.at_index(start, index),
-            None => self.fill,
+        match (start_at(self.outer, line), self.last.step(index)) {
+            (Some(start), Some(step)) => element_or(self.elements, step + start, self.fill),
+            _ => self.fill,
         }
     }
 
@@ -116,11 +91,11 @@ impl<T: ElementType, M: AxisMap> Lined for Gathered<'_, T, M> {
         let Some(start) = start_at(self.outer, line) else {
             return write_same(self.fill, count, room);
         };
-        if start + self.last.reach() < self.elements.len() {
-            self.last
-                .write(self.elements, start, from, count, self.fill, room);
+        let rest = &self.elements[start.min(self.elements.len())..];
+        if self.last.reach() < rest.len() {
+            self.last.write_line(rest, from, count, self.fill, room);
         } else {
-            self.write_each(start, from, count, room);
+            self.last.write_steps(rest, from, count, self.fill, room);
         }
     }
 }
@@ -144,38 +119,22 @@ fn gather_elements<T: ElementType + Send + Sync, M: AxisMap + Sync + Drop, W: Cr
     fill_array(workers, shape, &kernel)
 }
 
-/// The array of this shape with an argument's elements where the last axis has this map.
-fn gather_runs<M: AxisMap + Sync + Drop, W: Crew>(
+/// The array of this shape with an argument's elements at the places that these axes reach.
+fn gather_maps<T: ElementType + Send + Sync, W: Crew>(
     workers: &W,
     shape: Shape,
     b: &Array,
+    elements: &[T],
     outer: &[Map],
-    last: M,
-) -> Result<Array, OpFault>
-    requires few { length outer.now ≤ MOST_MAPS }
-    requires extent { extent_of outer.now * M.extent last ≡ count_of shape }
-    ensures { IsArrayAt shape b.now.kind (λ place. filled_at b.now (and_step (M.step last (place % M.extent last)) (walked outer.now (place / M.extent last)))) result }
-{
-    match (b.numbers(), b.characters()) {
-        (Some(numbers), _) => gather_elements(workers, shape, b, numbers, outer, last),
-        (_, Some(characters)) => gather_elements(workers, shape, b, characters, outer, last),
-        _ => unreachable!(),
-    }
-}
-
-/// The same by the map of the last axis, of whatever kind.
-fn gather_maps<W: Crew>(
-    workers: &W,
-    shape: Shape,
-    b: &Array,
     last: &Map,
-    outer: &[Map],
 ) -> Result<Array, OpFault>
     requires few { length outer.now ≤ MOST_MAPS }
     requires extent { extent_of (last.now ∷ outer.now) ≡ count_of shape }
+    requires kind { b.now.kind ≡ T.kind }
+    requires ravel { b.now.ravel ≡ map T.elem_of elements.now }
     ensures { IsArrayAt shape b.now.kind (λ place. filled_at b.now (walked (last.now ∷ outer.now) place)) result }
 {
-    with_kind!(last, last => gather_runs(workers, shape, b, outer, *last))
+    with_kind!(last, last => gather_elements(workers, shape, b, elements, outer, *last))
 }
 
 /// The array of this shape with an argument's elements at the places that a walk reaches, and the
@@ -185,8 +144,12 @@ pub fn gather<W: Crew>(workers: &W, shape: Shape, b: &Array, walk: Walk) -> Resu
     ensures { IsArrayAt shape b.now.kind (λ place. filled_at b.now (walked (maps_of walk.entry) place)) result }
 {
     let maps = walk.into_maps()?;
-    match maps.as_slice() {
-        [last, outer @ ..] => gather_maps(workers, shape, b, last, outer),
-        [] => unreachable!(),
+    let [last, outer @ ..] = maps.as_slice() else {
+        unreachable!()
+    };
+    match (b.numbers(), b.characters()) {
+        (Some(numbers), _) => gather_maps(workers, shape, b, numbers, outer, last),
+        (_, Some(characters)) => gather_maps(workers, shape, b, characters, outer, last),
+        _ => unreachable!(),
     }
 }

@@ -97,15 +97,6 @@ impl<'a, T: Copy> Part<'a, T> {
     }
 
     #[inline(always)]
-    fn at(&self, line: usize, index: usize) -> T
-        requires line { line ≤ MOST_PLACES }
-        requires index { index < self.now.length }
-        ensures { result ≡ slice_index_or self.now.elements.now (line * self.now.length + index) self.now.past }
-    {
-        element_or(self.elements, line * self.length + index, self.past)
-    }
-
-    #[inline(always)]
     fn write(&self, line: usize, from: usize, count: usize, room: &mut [T])
         requires line { line ≤ MOST_PLACES }
         requires within { from ≤ MOST_PLACES }
@@ -148,11 +139,12 @@ impl<T: Copy> Lined for Joined<'_, T> {
 
     #[inline(always)]
     fn at(&self, line: usize, index: usize) -> T {
-        if index < self.left.length {
-            self.left.at(line, index)
+        let (part, index) = if index < self.left.length {
+            (&self.left, index)
         } else {
-            self.right.at(line, index - self.left.length)
-        }
+            (&self.right, index - self.left.length)
+        };
+        element_or(part.elements, line * part.length + index, part.past)
     }
 
     #[inline(always)]
