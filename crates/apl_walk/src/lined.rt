@@ -129,23 +129,6 @@ impl<L: Lined> ByLines<L> {
             place = line * extent + index;
         }
     }
-
-    /// Writes the values at the places of a run tile by tile.
-    fn write_by_tiles(&self, from: usize, to: usize, room: &mut [L::Out])
-        requires order { from ≤ to }
-        requires most { to ≤ MOST_PLACES }
-        requires room { from + length room.old ≡ to }
-        ensures values { HasColumns (L.value self.now.lines) (L.extent self.now.lines) from to (L.extent self.now.lines) room.new }
-        ensures len { length room.new ≡ length room.old }
-    {
-        let extent = self.extent.number();
-        let mut first = 0;
-        while first < extent {
-            let end = first + self.tile.min(extent - first);
-            self.write_columns(from, to, first, end, room);
-            first = end;
-        }
-    }
 }
 
 impl<L: Lined> Kernel for ByLines<L> {
@@ -168,8 +151,13 @@ impl<L: Lined> Kernel for ByLines<L> {
         let extent = self.extent.number();
         if self.tile >= extent {
             self.write_columns(from, to, 0, extent, room);
-        } else {
-            self.write_by_tiles(from, to, room);
+            return to;
+        }
+        let mut first = 0;
+        while first < extent {
+            let end = first + self.tile.min(extent - first);
+            self.write_columns(from, to, first, end, room);
+            first = end;
         }
         to
     }

@@ -7,8 +7,7 @@ ghost use Rattle.apl_walk.specs.declared.maps.TheConstants.{MOST_MAPS};
 
 use crate::listed::{Listed, ListedOrNone};
 use crate::map::AxisMap;
-use crate::repeated::Repeated;
-use crate::turned::{Reversed, Rotated};
+use crate::turned::{Repeated, Reversed, Rotated};
 use crate::window::Window;
 
 /// An axis of any kind.

@@ -95,18 +95,6 @@ impl<'a, T: Copy> Part<'a, T> {
             length,
         }
     }
-
-    #[inline(always)]
-    fn write(&self, line: usize, from: usize, count: usize, room: &mut [T])
-        requires line { line ≤ MOST_PLACES }
-        requires within { from ≤ MOST_PLACES }
-        requires room { count ≤ length room.old }
-        ensures values { BeginsWith (λ k. slice_index_or self.now.elements.now (line * self.now.length + from + k) self.now.past) count room.new }
-        ensures len { length room.new ≡ length room.old }
-    {
-        let first = line * self.length + from;
-        write_or(self.elements, self.past, first, count, room);
-    }
 }
 
 /// The parts of two arguments, one after the other.
@@ -149,10 +137,12 @@ impl<T: Copy> Lined for Joined<'_, T> {
 
     #[inline(always)]
     fn write(&self, line: usize, from: usize, count: usize, room: &mut [T]) {
-        let first = count.min(self.left.length.saturating_sub(from));
-        self.left.write(line, from, first, room);
-        let start = from.saturating_sub(self.left.length);
-        self.right
-            .write(line, start, count - first, &mut room[first..]);
+        let Joined { left, right, .. } = self;
+        let first = count.min(left.length.saturating_sub(from));
+        let start = line * left.length + from;
+        write_or(left.elements, left.past, start, first, room);
+        let start = line * right.length + from.saturating_sub(left.length);
+        let rest = &mut room[first..];
+        write_or(right.elements, right.past, start, count - first, rest);
     }
 }

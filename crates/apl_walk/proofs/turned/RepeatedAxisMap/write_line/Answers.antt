@@ -1,7 +1,7 @@
 use Rattle.std.proofs.Common.{ℕ, ◌+◌, ◌-◌, ◌*◌, ◌/◌, slice_index_or, ap, ◌∙◌, arith}
 use Rattle.apl_walk.proofs.Lines.{more_begun}
 use Rattle.apl_walk.proofs.Stepped.{values_repeated}
-use Rattle.apl_walk.proofs.repeated.RepeatedAxisMap.write_line.Goals as goal
+use Rattle.apl_walk.proofs.turned.RepeatedAxisMap.write_line.Goals as goal
 
 pub returns-else-done-count-clause-values : goal.returns-else-done-count-clause-values
 returns-else-done-count-clause-values g c =

@@ -3,7 +3,7 @@ use Rattle.std.specs.Prelude.{min}
 use Rattle.std.proofs.lemmas.List.{get_or_read}
 use Rattle.apl_walk.proofs.Lines.{more_begun, quotient_there}
 use Rattle.apl_walk.proofs.Stepped.{index_within}
-use Rattle.apl_walk.proofs.repeated.Repeated.write_indexes.Goals as goal
+use Rattle.apl_walk.proofs.turned.Repeated.write_indexes.Goals as goal
 
 pub bounds-line-index : goal.bounds-line-index
 bounds-line-index g c =

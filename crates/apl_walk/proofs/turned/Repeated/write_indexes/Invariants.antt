@@ -1,5 +1,5 @@
 use Rattle.std.proofs.Common.{◌≡◌, ℕ, ◌+◌, ◌-◌, ◌*◌, ◌/◌, ◌<◌, ◌≤◌, length, slice_index_or}
-use Rattle.apl_walk.proofs.repeated.Repeated.write_indexes.Given as goal
+use Rattle.apl_walk.proofs.turned.Repeated.write_indexes.Given as goal
 
 abbrev pub invariant-loop-done : goal.invariant-loop-done
 invariant-loop-done g l = record {

@@ -1,6 +1,6 @@
 use Rattle.std.proofs.Common.{◌-◌, ◌≤◌}
 use Rattle.apl_walk.specs.Columns.{HasColumns}
-use Rattle.apl_walk.proofs.lined.ByLines.write_by_tiles.Given as goal
+use Rattle.apl_walk.proofs.lined.ByLinesKernel.write_run.Given as goal
 
 abbrev pub invariant-loop-first : goal.invariant-loop-first
 invariant-loop-first g l = record {

@@ -1,6 +1,6 @@
 use Rattle.std.proofs.Common.{◌-◌, arith}
 use Rattle.apl_walk.proofs.Lines.{more_begun}
-use Rattle.apl_walk.proofs.repeated.write_copies.Goals as goal
+use Rattle.apl_walk.proofs.turned.write_copies.Goals as goal
 
 pub returns-then-count-gt-COPIES-clause-each : goal.returns-then-count-gt-COPIES-clause-each
 returns-then-count-gt-COPIES-clause-each g c k d before _ =
