@@ -73,18 +73,6 @@ impl Window {
         })
     }
 
-    /// What an index adds that has a place.
-    #[inline(always)]
-    fn step_within(&self, i: usize) -> usize
-        requires from { self.now.from ≤ i }
-        requires to { i < self.now.to }
-        ensures value { result ≡ (i + self.now.start - self.now.from) * self.now.stride }
-        ensures reach { result ≤ (self.now.to + self.now.start - (self.now.from + 1)) * self.now.stride }
-        ensures most { result ≤ MOST_STEP }
-    {
-        (i + self.start - self.from) * self.stride
-    }
-
     /// Writes the elements of indexes that each have a place.
     #[inline(always)]
     fn write_within<T: Copy>(&self, line: &[T], from: usize, count: usize, fill: T, room: &mut [T])
@@ -98,7 +86,7 @@ impl Window {
         if count == 0 {
             return;
         }
-        let first = self.step_within(from);
+        let first = (from + self.start - self.from) * self.stride;
         write_stretch(&line[first..], self.stride, count, room);
     }
 }
@@ -122,7 +110,7 @@ impl AxisMap for Window {
     #[inline(always)]
     fn step(&self, i: usize) -> Option<usize> {
         if self.from <= i && i < self.to {
-            Some(self.step_within(i))
+            Some((i + self.start - self.from) * self.stride)
         } else {
             None
         }

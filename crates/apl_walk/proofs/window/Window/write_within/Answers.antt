@@ -12,5 +12,4 @@ write_stretch-requires-clause-near g c =
 pub returns-clause-values : goal.returns-clause-values
 returns-clause-values g c =
     let w = c.args.self.now in
-    values_within c.args.line.now _ c.args.fill w.from w.to w.start w.stride c.args.from c.args.count c.requires.from c.requires.to c.requires.near
-    (rw c.step_within-first.ensures.value at c.write_stretch.ensures.each)
+    values_within c.args.line.now _ c.args.fill w.from w.to w.start w.stride c.args.from c.args.count c.requires.from c.requires.to c.requires.near c.write_stretch.ensures.each
