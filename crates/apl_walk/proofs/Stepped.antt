@@ -1,7 +1,7 @@
 -- The elements that the indexes of an axis take.
-use Rattle.std.proofs.Common.{◌≡◌, ℕ, zero, suc, ◌+◌, ◌-◌, ◌*◌, ◌/◌, ◌<◌, ◌≤◌, List, [], ◌∷◌, length, slice_index_or, drop, refl, sym, ap, ◌∙◌, arith, inl, inr, rules, take, div-add-mod', mul-le-mul_right, lt_of_mul-lt-mul_right}
+use Rattle.std.proofs.Common.{◌≡◌, ℕ, ◌+◌, ◌-◌, ◌*◌, ◌/◌, ◌<◌, ◌≤◌, List, length, slice_index_or, drop, refl, sym, ap, ◌∙◌, arith, inl, inr, rules, take, div-add-mod', mul-le-mul_right, lt_of_mul-lt-mul_right}
 use Rattle.std.specs.Prelude.{min, Option, Some, None}
-use Rattle.std.proofs.lemmas.List.{places}
+use Rattle.std.proofs.lemmas.List.{get_or_default, get_or_past, places}
 use Rattle.std.proofs.lemmas.Bool.Decides.{nat_tests}
 use Rattle.std.proofs.lemmas.Bool.{le-leb, le-ltb, lt-leb, lt-ltb, cases_lt}
 use Rattle.apl_walk.specs.declared.map.TheConstants.{MOST_STEP}
@@ -9,17 +9,9 @@ use Rattle.apl_walk.specs.declared.window.Window.{Window}
 use Rattle.apl_walk.specs.Gathered.{value_or}
 use Rattle.apl_walk.specs.Steps.{and_step, window_step, reversed_step, rotated_step, repeated_step, wrapped, BeginsWith}
 
-pub get_or-within : {T : Type 0} (xs : List T) (k : ℕ) (c d : T) → k < length xs → slice_index_or xs k c ≡ slice_index_or xs k d
-get_or-within [] k c d inside = absurd (omega arith)
-get_or-within (x ∷ xs) zero c d inside = refl
-get_or-within (x ∷ xs) (suc k) c d inside = get_or-within xs k c d (omega arith)
-
 -- what is left of a list from a place on
 rest_at : {T : Type 0} (xs : List T) (a k : ℕ) (d : T) → slice_index_or (take (length xs - a) (drop a xs)) k d ≡ slice_index_or xs (a + k) d
 rest_at xs a k d = search (rules, places)
-
-past_end : {T : Type 0} (xs : List T) (k : ℕ) (d : T) → length xs ≤ k → slice_index_or xs k d ≡ d
-past_end xs k d far = search (rules, places)
 
 -- a line that begins at a place, also past the last element
 pub value_after : {T : Type 0} (elements : List T) (fill : T) (base begin : ℕ) (step : Option ℕ) → begin ≡ min base (length elements)
@@ -28,7 +20,7 @@ value_after elements fill base begin (Some s) is =
     rest_at elements begin s fill
     ∙ elim (cases_lt base (length elements)) [
       | inl inside ↦ ap (λ p. slice_index_or elements p fill) (omega (arith, is, inside))
-      | inr far ↦ past_end elements (begin + s) fill (omega (arith, is, far)) ∙ sym (past_end elements (s + base) fill (omega (arith, far)))
+      | inr far ↦ get_or_past elements (begin + s) fill (omega (arith, is, far)) ∙ sym (get_or_past elements (s + base) fill (omega (arith, far)))
     ]
 value_after elements fill base begin None is = refl
 
@@ -38,7 +30,7 @@ pub values_taken : {T : Type 0} (line room : List T) (fill : T) (step : ℕ → 
     → ((k : ℕ) (d : T) → k < count → slice_index_or room k d ≡ slice_index_or line (place k) d)
     → BeginsWith (λ k. value_or line fill (step k)) count room
 values_taken line room fill step place count is within each = record {
-  each = λ k d inside. ap (value_or line fill) (is k inside) ∙ get_or-within line (place k) fill d (within k inside) ∙ sym (each k d inside);
+  each = λ k d inside. ap (value_or line fill) (is k inside) ∙ get_or_default line (place k) fill d (within k inside) ∙ sym (each k d inside);
 }
 
 -- ---- windows

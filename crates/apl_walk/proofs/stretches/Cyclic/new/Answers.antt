@@ -1,6 +1,6 @@
 use Rattle.std.proofs.Common.{◌≡◌, ℕ, zero, suc, ◌%◌, ◌≤◌, List, [], ◌∷◌, length, slice_index_or, refl, sym, ap, ◌∙◌, arith, mod-lt}
 use Rattle.std.proofs.Math.Nat.{mod-one}
-use Rattle.apl_walk.proofs.Stepped.{get_or-within}
+use Rattle.std.proofs.lemmas.List.{get_or_default}
 use Rattle.apl_walk.proofs.stretches.Cyclic.new.Goals as goal
 use Rattle.apl_walk.proofs.stretches.Cyclic.new.Goals.{then-elements-gt1, else-elements-gt1}
 
@@ -23,6 +23,6 @@ returns-clause-values g c = λ place inside.
     elim c.if-elements-gt1.branch [
       | then-elements-gt1 w ↦
           let all : extent ≡ length xs = omega (arith, w.extent-is) in
-          ap (λ n. slice_index_or xs (place % n) past) all ∙ get_or-within xs (place % length xs) past c.args.fill (mod-lt place (omega (arith, w.if-elements-gt1.true)))
+          ap (λ n. slice_index_or xs (place % n) past) all ∙ get_or_default xs (place % length xs) past c.args.fill (mod-lt place (omega (arith, w.if-elements-gt1.true)))
       | else-elements-gt1 w ↦ ap (slice_index_or xs (place % extent)) c.element_or-past.ensures ∙ only_line xs c.args.fill place extent (omega (arith, w.if-elements-gt1.false))
     ]
