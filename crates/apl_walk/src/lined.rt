@@ -71,13 +71,11 @@ impl<L: Lined> ByLines<L> {
         ensures { result.lines ≡ lines }
     {
         let extent = lines.extent();
-        let tile = if lines.is_spread() { TILE } else { extent };
-        let count = lines.count();
         ByLines {
-            lines,
             extent: Divisor::new(extent),
-            count,
-            tile,
+            count: lines.count(),
+            tile: if lines.is_spread() { TILE } else { extent },
+            lines,
         }
     }
 

@@ -1,7 +1,6 @@
 //! Lines of neighbours, and past the last of them always the same.
 ghost use Rattle.std.specs.Prelude.{◌≡◌, ℕ, ◌%◌, ◌<◌, ◌≤◌, length, slice_index_or, ◌+◌, ◌*◌};
 ghost use Rattle.apl_pool.specs.declared.kernel.TheConstants.{MOST_PLACES};
-ghost use Rattle.apl_walk.specs.Steps.{BeginsWith};
 ghost use Rattle.apl_walk.specs.Seams.{joined_value};
 
 use crate::fronts::{element_or, write_or};
@@ -28,7 +27,6 @@ impl<'a, T: Copy> Cyclic<'a, T> {
         ensures elements { result.elements.now ≡ elements.now }
         ensures values { (place : ℕ) → place < count → slice_index_or elements.now (place % result.extent) result.past ≡ slice_index_or elements.now (place % length elements.now) fill }
     {
-        let past = element_or(elements, 0, fill);
         // An only element makes one line.
         let extent = if elements.len() > 1 {
             elements.len()
@@ -37,7 +35,7 @@ impl<'a, T: Copy> Cyclic<'a, T> {
         };
         Cyclic {
             elements,
-            past,
+            past: element_or(elements, 0, fill),
             extent,
             count,
         }

@@ -18,11 +18,11 @@ only_line (x ∷ y ∷ xs) fill place extent few = absurd (omega arith)
 pub returns-clause-values : goal.returns-clause-values
 returns-clause-values g c = λ place inside.
     let xs = c.args.elements.now in
-    let past = c.element_or-past.result in
+    let past = c.element_or.result in
     let extent = c.if-elements-gt1.extent in
     elim c.if-elements-gt1.branch [
       | then-elements-gt1 w ↦
           let all : extent ≡ length xs = omega (arith, w.extent-is) in
           ap (λ n. slice_index_or xs (place % n) past) all ∙ get_or_default xs (place % length xs) past c.args.fill (mod-lt place (omega (arith, w.if-elements-gt1.true)))
-      | else-elements-gt1 w ↦ ap (slice_index_or xs (place % extent)) c.element_or-past.ensures ∙ only_line xs c.args.fill place extent (omega (arith, w.if-elements-gt1.false))
+      | else-elements-gt1 w ↦ ap (slice_index_or xs (place % extent)) c.element_or.ensures ∙ only_line xs c.args.fill place extent (omega (arith, w.if-elements-gt1.false))
     ]
