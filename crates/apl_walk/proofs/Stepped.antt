@@ -14,15 +14,16 @@ rest_at : {T : Type 0} (xs : List T) (a k : ℕ) (d : T) → slice_index_or (tak
 rest_at xs a k d = search (rules, places)
 
 -- a line that begins at a place, also past the last element
-pub value_after : {T : Type 0} (elements : List T) (fill : T) (base begin : ℕ) (step : Option ℕ) → begin ≡ min base (length elements)
-    → value_or (take (length elements - begin) (drop begin elements)) fill step ≡ value_or elements fill (and_step step (Some base))
-value_after elements fill base begin (Some s) is =
-    rest_at elements begin s fill
+pub value_after : {T : Type 0} (elements : List T) (fill : T) (base begin : ℕ) (step start : Option ℕ) → Some base ≡ start → begin ≡ min base (length elements)
+    → value_or elements fill (and_step step start) ≡ value_or (take (length elements - begin) (drop begin elements)) fill step
+value_after elements fill base begin None start there is = refl
+value_after elements fill base begin (Some s) start there is =
+    ap (λ n. value_or elements fill (and_step (Some s) n)) (sym there)
     ∙ elim (cases_lt base (length elements)) [
       | inl inside ↦ ap (λ p. slice_index_or elements p fill) (omega (arith, is, inside))
-      | inr far ↦ get_or_past elements (begin + s) fill (omega (arith, is, far)) ∙ sym (get_or_past elements (s + base) fill (omega (arith, far)))
+      | inr far ↦ get_or_past elements (s + base) fill (omega (arith, far)) ∙ sym (get_or_past elements (begin + s) fill (omega (arith, is, far)))
     ]
-value_after elements fill base begin None is = refl
+    ∙ sym (rest_at elements begin s fill)
 
 -- a room with the elements that some indexes take
 pub values_taken : {T : Type 0} (line room : List T) (fill : T) (step : ℕ → Option ℕ) (place : ℕ → ℕ) (count : ℕ)
