@@ -1,5 +1,5 @@
 //! The loops that write the front of a room.
-ghost use Rattle.std.specs.Prelude.{◌≡◌, ℕ, ◌-◌, ◌*◌, ◌<◌, ◌≤◌, length, slice_index_or, ◌+◌, ◌^◌};
+ghost use Rattle.std.specs.Prelude.{◌≡◌, ℕ, ◌+◌, ◌-◌, ◌*◌, ◌^◌, ◌<◌, ◌≤◌, length, slice_index_or};
 ghost use Rattle.apl_walk.specs.Steps.{BeginsWith};
 ghost use Rattle.apl_walk.specs.declared.fronts.TheConstants.{FEW};
 

@@ -1,13 +1,13 @@
 //! Results whose elements are an argument's, at the places that a walk reaches.
-ghost use Rattle.std.specs.Prelude.{◌≡◌, ◌+◌, ◌*◌, ◌<◌, ◌≤◌, length, ◌/◌, ◌%◌, ◌∷◌, map};
+ghost use Rattle.std.specs.Prelude.{◌≡◌, ◌+◌, ◌*◌, ◌/◌, ◌%◌, ◌<◌, ◌≤◌, length, ◌∷◌, map};
 ghost use Rattle.apl_pool.specs.declared.kernel.TheConstants.{MOST_PLACES};
-ghost use Rattle.apl_walk.specs.declared.maps.TheConstants.{MOST_MAPS};
 ghost use Rattle.apl_answer.specs.Arguments.{fill_of};
+ghost use Rattle.apl_array.specs.Shape.{count_of};
+ghost use Rattle.apl_answer.specs.Pointwise.{IsArrayAt};
+ghost use Rattle.apl_walk.specs.declared.maps.TheConstants.{MOST_MAPS};
 ghost use Rattle.apl_walk.specs.Gathered.{value_or, filled_at};
 ghost use Rattle.apl_walk.specs.Maps.{extent_of, walked};
 ghost use Rattle.apl_walk.specs.Steps.{and_step};
-ghost use Rattle.apl_array.specs.Shape.{count_of};
-ghost use Rattle.apl_answer.specs.Pointwise.{IsArrayAt};
 ghost use Rattle.apl_walk.specs.Walks.{maps_of};
 
 use crate::fronts::{element_or, write_same};

@@ -1,7 +1,7 @@
 //! The axes of a result.
-ghost use Rattle.std.specs.Prelude.{◌≤◌, vec_len, ◌≡◌, ℕ, ◌+◌, ◌*◌, ◌%◌, ◌<◌, Some, IfOk, IfSome};
-ghost use Rattle.apl_walk.specs.declared.maps.TheConstants.{MOST_MAPS};
+ghost use Rattle.std.specs.Prelude.{◌≡◌, ℕ, ◌+◌, ◌*◌, ◌%◌, ◌<◌, ◌≤◌, vec_len, Some, IfOk, IfSome};
 ghost use Rattle.apl_pool.specs.declared.kernel.TheConstants.{MOST_PLACES};
+ghost use Rattle.apl_walk.specs.declared.maps.TheConstants.{MOST_MAPS};
 ghost use Rattle.apl_walk.specs.Maps.{map_extent, map_step, extent_of, maps_step};
 
 use crate::maps::{MOST_MAPS, Map};
