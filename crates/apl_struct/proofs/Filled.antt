@@ -1,11 +1,10 @@
 -- The elements along an axis, by their places.
-use Rattle.std.proofs.Common.{◌≡◌, get_or, pos, ℕ, zero, suc, ◌*◌, ◌/◌, ◌<◌, ◌≤◌, List, [], ◌∷◌, length, refl, ap, arith}
+use Rattle.std.proofs.Common.{◌≡◌, get_or, pos, ℕ, zero, suc, ◌*◌, ◌/◌, ◌<◌, ◌≤◌, List, [], ◌∷◌, length, refl, ap, arith, ◌%◌, slice_index, ◌∙◌}
 use Rattle.std.specs.Prelude.{Some}
-use Rattle.std.proofs.lemmas.List.{nil_from_length}
-use Rattle.std.proofs.Math.Nat.{mul-div_left}
+use Rattle.std.proofs.Math.Nat.{mul-div_left, div-one, mod-eq_of_lt}
 use Rattle.apl_array.specs.declared.array.Elem.TheVariants.{Int}
 use Rattle.apl_array.specs.Array.{ArrayValue, IsArray, element_at}
-use Rattle.apl_array.specs.Shape.{IsIndexOf, count_of, place_of}
+use Rattle.apl_array.specs.Shape.{IsIndexOf, count_of, place_of, index_at}
 use Rattle.apl_answer.specs.Arguments.{fill_of}
 use Rattle.apl_walk.specs.Gathered.{filled_at}
 
@@ -47,3 +46,10 @@ module _ (below : (shape index : List ℕ) → IsIndexOf shape index → place_o
   -- the fill is taken nowhere within an argument
   pub filled_within : (b : ArrayValue) (index : List ℕ) → IsArray b → IsIndexOf b.shape index → filled_at b (Some (place_of b.shape index)) ≡ element_at b index
   filled_within b index array is = get_or-within b.ravel (place_of b.shape index) (fill_of b.kind) (Int (pos 0)) (omega (arith, array.len, below b.shape index is))
+
+-- ---- the places of a vector are its indexes
+
+pub vector_index : (shape : List ℕ) (n place : ℕ) → shape ≡ n ∷ [] → place < count_of shape → (place < n) × (slice_index (index_at shape place) 0 ≡ place)
+vector_index shape n place is inside =
+    let below : place < n = omega (arith, inside, ap count_of is) in
+    (below, ap (λ s. slice_index (index_at s place) 0) is ∙ ap (λ p. p % n) (div-one place) ∙ mod-eq_of_lt below)

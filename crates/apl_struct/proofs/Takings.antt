@@ -1,12 +1,15 @@
 -- The elements of a result along an axis whose indexes are taken.
-use Rattle.std.proofs.Common.{◌≡◌, pos, ℕ, ◌+◌, ◌*◌, ◌/◌, ◌%◌, ◌<◌, ◌≤◌, false, inl, inr, [], List, length, drop, take, slice_index, refl, ap, sym, ◌∙◌, arith}
+use Rattle.std.proofs.Common.{◌≡◌, ◌↔◌, pos, ℕ, ◌+◌, ◌*◌, ◌/◌, ◌%◌, ◌<◌, ◌≤◌, true, false, inl, inr, [], List, Result, length, drop, take, slice_index, refl, ap, sym, subst, ◌∙◌, arith}
 use Rattle.std.specs.Prelude.{slice_set, Some, None, Option, IfSome, max, option_map, if◌then◌else◌}
 use Rattle.std.proofs.lemmas.Bool.{cases_Bool, eqb-true, eqb-false}
-use Rattle.std.proofs.lemmas.List.{nil_from_length, get_or-replicate}
+use Rattle.std.proofs.lemmas.List.{nil_from_length, get_or-replicate, set-get_or}
 use Rattle.std.proofs.Math.Nat.{mod-one, div-eq_of_lt, div-eq_of_eq-mul_left, div-lt_iff_lt-mul, le-mul_of_pos_right}
+use Rattle.apl_array.specs.declared.array.Elem.{Elem}
 use Rattle.apl_array.specs.declared.array.Elem.TheVariants.{Int}
 use Rattle.apl_array.specs.Array.{ArrayValue, IsArray, element_at}
-use Rattle.apl_array.specs.Shape.{IsIndexOf, count_of, place_of, index_at}
+use Rattle.apl_array.specs.Shape.{IsShape, IsIndexOf, is_shape, count_of, place_of, index_at}
+use Rattle.apl_answer.specs.declared.fault.OpFault.{OpFault}
+use Rattle.apl_answer.specs.Pointwise.{IsArrayBy}
 use Rattle.apl_answer.specs.Arguments.{rank_of, is_scalar, fill_of, only_element}
 use Rattle.apl_walk.specs.Gathered.{filled_at}
 use Rattle.apl_walk.specs.Steps.{and_step}
@@ -15,10 +18,11 @@ use Rattle.apl_struct.specs.declared.along.Taking.TheVariants.{Reversed, Rotated
 use Rattle.apl_struct.specs.Along.{taking_extent, taking_index, IsTakingOf}
 use Rattle.apl_struct.specs.Compressing.{as_vector}
 use Rattle.apl_struct.specs.Gathering.{element_or_fill}
+use Rattle.apl_struct.specs.Shaped.{IsArrayOrLimit}
 use Rattle.apl_struct.proofs.AsVectors.{entry_below}
 use Rattle.apl_struct.proofs.Filled.{get_or-within, filled_within}
 use Rattle.apl_struct.proofs.Taken.{pos_right}
-use Rattle.apl_struct.proofs.Wrapping.{wrapped_below}
+use Rattle.apl_struct.proofs.Rotations.{wrapped_below}
 
 pub taking_below : (n : ℕ) (taking : Taking) (i : ℕ) → IsTakingOf n taking → i < taking_extent n taking → IfSome (taking_index n taking i) (λ j. j < n)
 taking_below n Reversed i is inside = omega (arith, inside)
@@ -29,6 +33,15 @@ taking_below n (Listed entries) i is inside = entry_below n (slice_index entries
 -- an array that is no scalar is its own vector
 pub vector_is : (n k : ℕ) (b : ArrayValue) → k < length b.shape → as_vector n b ≡ b
 vector_is n k b axis = let vector : is_scalar b ≡ false = grind (arith, axis) in rw vector refl
+
+-- and of its own shape where as many indexes of an axis are taken as there are
+pub own_array : ((lengths : List ℕ) → (is_shape lengths ≡ true) ↔ IsShape lengths) → (n k : ℕ) (b : ArrayValue) (at_index : ArrayValue → List ℕ → Elem) (result : Result ArrayValue OpFault)
+    → k < length b.shape → n ≡ slice_index b.shape k → IsShape b.shape → IsArrayOrLimit (slice_set (as_vector n b).shape k n) b.kind (at_index (as_vector n b)) result
+    → IsArrayBy b.shape b.kind (at_index b) result
+own_array decided n k b at_index result axis n_is lawful given = λ element told.
+    let same : slice_set b.shape k n ≡ b.shape = ap (slice_set b.shape k) n_is ∙ set-get_or b.shape k 0 in
+    let own = subst (λ v. IsArrayOrLimit (slice_set v.shape k n) b.kind (at_index v) result) (vector_is n k b axis) given in
+    rw ((decided b.shape).1 lawful) at (subst (λ s. IsArrayOrLimit s b.kind (at_index b) result) same own element told)
 
 -- and what serves as a vector is as long as its axis
 pub vector_at : (b : ArrayValue) (m k n : ℕ) → k < max 1 (rank_of b) → n ≡ slice_index (as_vector m b).shape k → as_vector n b ≡ as_vector m b

@@ -1,7 +1,7 @@
 -- A\B by a table. No contract of a public function cites this file.
 use Rattle.std.specs.Prelude.{◌≡◌, ℕ, ◌<◌, ◌≤◌, ◌==◌, ℤ, List, length, map, take, if◌then◌else◌, slice_index, sum}
 use Rattle.apl_array.specs.Axes.{place_number}
-use Rattle.apl_struct.specs.declared.expanding.TheConstants.{ABSENT}
+use Rattle.apl_struct.specs.declared.compressing.TheConstants.{ABSENT}
 
 -- at each one how many ones come before it, and at each zero that there is no index
 abbrev pub expanded_entry : List ℕ → ℕ → ℕ

@@ -2,15 +2,16 @@
 ghost use Rattle.std.specs.Prelude.{◌≡◌, ℕ, ◌*◌, ◌<◌, ◌≤◌, if◌then◌else◌, IfOk, max, option_map, slice_index, slice_set};
 ghost use Rattle.apl_pool.specs.declared.kernel.TheConstants.{MOST_PLACES};
 ghost use Rattle.apl_answer.specs.Arguments.{rank_of, is_scalar};
-ghost use Rattle.apl_answer.specs.Pointwise.{IsArrayBy, IsShapeOf};
+ghost use Rattle.apl_answer.specs.Pointwise.{IsShapeOf};
 ghost use Rattle.apl_struct.specs.Along.{taking_extent, taking_index, IsTakingOf, IsWalkAlong};
 ghost use Rattle.apl_struct.specs.Compressing.{as_vector};
 ghost use Rattle.apl_struct.specs.Gathering.{element_or_fill, along_axis_or_none};
+ghost use Rattle.apl_struct.specs.Shaped.{IsArrayOrLimit};
 ghost use Rattle.apl_walk.specs.declared.map.TheConstants.{MOST_STEP};
 ghost use Rattle.apl_walk.specs.Maps.{extent_of, map_extent, map_step};
 ghost use Rattle.apl_walk.specs.Walks.{maps_of};
 
-use crate::plain::empty;
+use crate::building::empty;
 use apl_answer::OpFault;
 use apl_array::{
     Array, Shape, changed_axis_has_place, places_match_index_lists, replaced_index_has_place,
@@ -132,25 +133,26 @@ fn walk_along<'a>(
     walk.with(Map::Window(Window::whole(outer, block)))
 }
 
-/// The array of this shape, which is the argument's but for axis `k` of this length. Along it are the elements at the indexes that are
-/// taken. All those of a scalar are its only element.
+/// An argument of whose axis `k`, which has this length, as many indexes are taken. All those of a scalar are its only element. It is
+/// refused where its shape passes a limit (`Limit`).
 pub(crate) fn gather_along<W: Crew>(
     workers: &W,
-    shape: Shape,
     b: &Array,
     k: usize,
     length: usize,
+    extent: usize,
     taking: Taking,
 ) -> Result<Array, OpFault>
     requires axis { k < max 1 (rank_of b.now) }
     requires taking { IsTakingOf length taking }
     requires length { length ≡ slice_index (as_vector length b.now).shape k }
-    requires shape { shape ≡ slice_set (as_vector length b.now).shape k (taking_extent length taking) }
-    ensures { IsArrayBy shape b.now.kind (λ index. element_or_fill (as_vector length b.now) (along_axis_or_none k (taking_index length taking.entry) index)) result }
+    requires extent { extent ≡ taking_extent length taking }
+    ensures { IsArrayOrLimit (slice_set (as_vector length b.now).shape k extent) b.now.kind (λ index. element_or_fill (as_vector length b.now) (along_axis_or_none k (taking_index length taking.entry) index)) result }
 {
     places_match_index_lists();
     changed_axis_has_place();
     replaced_index_has_place();
+    let shape = shape_with_axis(workers.alloc(), b, k, extent)?;
     if shape.count() == 0 {
         return empty(workers, shape, b);
     }

@@ -3,6 +3,7 @@ ghost use Rattle.std.specs.Prelude.{◌≡◌, ◌+◌, ◌<◌, true, false, Ma
 ghost use Rattle.apl_array.specs.Array.{IsArray};
 ghost use Rattle.apl_answer.specs.declared.fault.OpFault.TheVariants.{Domain};
 ghost use Rattle.apl_answer.specs.Arguments.{is_numbers, numbers_of, is_same_shape};
+ghost use Rattle.apl_struct.specs.Axes.{axis_number_of};
 
 use apl_answer::OpFault;
 use apl_array::Array;
@@ -39,5 +40,22 @@ pub(crate) fn is_without_axis(a: &[usize], b: &[usize], k: usize) -> bool
         [first, others @ ..] if k > 0 => *first == *length
             && is_without_axis(others, lengths, k - 1),
         _ => is_same_shape(a, lengths),
+    }
+}
+
+/// The number that an axis argument is: the only element of a scalar or a vector. Its rank is judged
+/// first (`Rank`), then its length (`Length`), then its kind (`Domain`).
+pub fn axis_number(axis: &Array) -> Result<i64, OpFault>
+    ensures { result ≡ axis_number_of axis.now }
+{
+    if axis.shape().rank() > 1 {
+        return Err(OpFault::Rank);
+    }
+    if axis.shape().count() != 1 {
+        return Err(OpFault::Length);
+    }
+    match axis.numbers() {
+        Some(numbers) => Ok(numbers[0]),
+        None => Err(OpFault::Domain),
     }
 }

@@ -1,25 +1,38 @@
-//! Shapes, elements in row order, other shapes, and numbers from the origin.
-ghost use Rattle.std.specs.Prelude.{◌≡◌, ◌≤◌, ◌<◌, ◌==◌, ◌||◌, [], ◌∷◌, map, not, Ok, Some};
+//! Arrays as they are, without elements, or in other shapes, and numbers from the origin.
+ghost use Rattle.std.specs.Prelude.{◌≡◌, ◌≤◌, ◌<◌, ◌==◌, ◌||◌, [], ◌∷◌, map, not, Ok, Some, true, IfOk, ℕ, List};
 ghost use Rattle.std.specs.List.{list_all};
 ghost use Rattle.apl_array.specs.Axes.{place_number};
-ghost use Rattle.apl_array.specs.Shape.{count_of};
+ghost use Rattle.apl_array.specs.Shape.{count_of, IsShape, is_shape};
 ghost use Rattle.apl_array.specs.declared.shape.TheConstants.{MOST_ELEMENTS};
 ghost use Rattle.apl_pool.specs.declared.kernel.TheConstants.{MOST_PLACES};
 ghost use Rattle.apl_answer.specs.Arguments.{has_elements, is_natural, size_of};
-ghost use Rattle.apl_answer.specs.Pointwise.{IsArrayAt, IsShapeOf};
+ghost use Rattle.apl_answer.specs.Pointwise.{IsArrayAt, IsShapeOf, answer_of, IsAnswerOf, IsArrayBy};
 ghost use Rattle.apl_answer.specs.Rows.{Answers};
 ghost use Rattle.apl_walk.specs.Gathered.{filled_at};
 ghost use Rattle.apl_struct.specs.Building.{shape_of_row, ravel_row, reshape_source, reshape_row, iota_row};
+ghost use Rattle.apl_array.specs.declared.array.Elem.{Elem};
+ghost use Rattle.apl_array.specs.Array.{element_at};
 
 use crate::arguments::numbers_among;
-use crate::shapes::lawful_shape;
-use apl_answer::{ElementType, OpFault, fill_array};
+use apl_answer::{ElementType, OpFault, array_of_elements, fill_array};
 use apl_array::{Array, MOST_AXES, MOST_ELEMENTS, Origin, Shape, places_match_index_lists};
 use apl_pool::{Crew, Cut, Fault, Gate, Kernel, Pool, Workers};
 use apl_walk::{ByLines, Cyclic};
 use smallvec::SmallVec;
-use std::alloc::Global;
+use std::alloc::{AllocError, Global};
 use std::thread::Threads;
+
+/// The shape with these lengths, which are lawful: so memory alone can be wanting.
+pub(crate) fn lawful_shape(alloc: Global, lengths: &[usize]) -> Result<Shape, AllocError>
+    requires { IsShape lengths.now }
+    ensures shape { IfOk result (λ shape. shape ≡ lengths.now) }
+    ensures test { IfOk result (λ shape. is_shape shape ≡ true) }
+{
+    match Shape::new(alloc, lengths) {
+        Ok(shape) => Ok(shape),
+        Err(_) => Err(AllocError),
+    }
+}
 
 /// The lengths of a shape.
 #[derive(Drop)]
@@ -99,14 +112,10 @@ fn repeat_elements<T: ElementType + Send + Sync, W: Crew>(
 pub(crate) fn repeat<W: Crew>(workers: &W, shape: Shape, b: &Array) -> Result<Array, OpFault>
     ensures { IsArrayAt shape b.now.kind (λ place. filled_at b.now (Some (reshape_source (size_of b.now) place))) result }
 {
-    match b.numbers() {
-        Some(numbers) => repeat_elements(workers, shape, b, numbers),
-        None => {
-            let Some(characters) = b.characters() else {
-                unreachable!()
-            };
-            repeat_elements(workers, shape, b, characters)
-        }
+    match (b.numbers(), b.characters()) {
+        (Some(numbers), _) => repeat_elements(workers, shape, b, numbers),
+        (_, Some(characters)) => repeat_elements(workers, shape, b, characters),
+        _ => unreachable!(),
     }
 }
 
@@ -222,4 +231,21 @@ pub fn iota<R: Threads + Sync, C: Cut + Sync, G: Gate + Sync>(
     let count = shape.count();
     let first = origin.number() as usize;
     fill_array(&workers, shape, &Consecutive { count, first })
+}
+
+/// The same array again.
+pub(crate) fn unchanged<W: Crew>(workers: &W, b: &Array) -> Result<Array, OpFault>
+    ensures { IsArrayBy b.now.shape b.now.kind (element_at b.now) result }
+{
+    places_match_index_lists();
+    let shape = b.shape().copy(workers.alloc())?;
+    array_of_elements(workers, shape, b)
+}
+
+/// The array of this shape, which has no elements, of an argument's kind.
+pub(crate) fn empty<W: Crew>(workers: &W, shape: Shape, b: &Array) -> Result<Array, OpFault>
+    requires { count_of shape ≡ 0 }
+    ensures { (element : List ℕ → Elem) → IsAnswerOf (answer_of shape (λ index. Ok (element index)) b.now.kind) result }
+{
+    array_of_elements(workers, shape, b)
 }

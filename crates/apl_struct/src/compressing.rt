@@ -1,39 +1,110 @@
-//! Indexes of an axis that numbers keep and repeat.
-ghost use Rattle.std.specs.Prelude.{◌≡◌, ◌<◌, ◌≤◌, if◌then◌else◌, Err, map, max, length, replicate, slice_index};
+//! Indexes of an axis that numbers keep, repeat or leave for fills.
+ghost use Rattle.std.specs.Prelude.{◌≡◌, ◌<◌, ◌≤◌, if◌then◌else◌, Err, map, max, length, replicate, slice_index, ◌+◌, ◌++◌, true, false, IfOk, MatchOption, sum, vec_len, vec_capacity, pos};
 ghost use Rattle.std.specs.List.{list_all};
 ghost use Rattle.apl_array.specs.Axes.{place_number};
 ghost use Rattle.apl_pool.specs.declared.kernel.TheConstants.{MOST_PLACES};
-ghost use Rattle.apl_answer.specs.Arguments.{is_natural, rank_of};
+ghost use Rattle.apl_answer.specs.Arguments.{is_natural, rank_of, is_bit};
 ghost use Rattle.apl_answer.specs.Pointwise.{IsAnswerOf};
 ghost use Rattle.apl_answer.specs.Rows.{Answers};
-ghost use Rattle.apl_struct.specs.Compressing.{as_vector, repeated_indexes, replicate_row};
-ghost use Rattle.apl_struct.specs.Replicating.{replicated};
+ghost use Rattle.apl_struct.specs.Compressing.{as_vector, repeated_indexes, replicate_row, expand_row};
+ghost use Rattle.apl_struct.specs.Replicating.{replicated, IsSumOf};
+ghost use Rattle.std.specs.Ordering.{int_eq};
+ghost use Rattle.apl_struct.specs.Expanding.{AreEntriesOf};
+ghost use Rattle.apl_struct.specs.declared.compressing.TheConstants.{ABSENT};
 
 use crate::along::{Taking, gather_along, shape_with_axis, vector_length, vector_rank};
 use crate::arguments::numbers_among;
-use crate::plain::empty;
-use crate::repeating::{kept_indexes, listed_indexes, sum_of_counts};
+use crate::building::empty;
 use apl_answer::OpFault;
 use apl_array::{Array, Axis, MOST_ELEMENTS};
 use apl_pool::{Crew, Cut, Gate, Pool, Workers};
-use std::alloc::Global;
+use std::alloc::{AllocError, Global};
 use std::thread::Threads;
 
-/// The repeated indexes of axis `k`, which are listed.
-fn gather_repeated<W: Crew>(
-    workers: &W,
-    b: &Array,
-    k: usize,
-    counts: &[i64],
-    indexes: &[u32],
-) -> Result<Array, OpFault>
-    requires axis { k < max 1 (rank_of b.now) }
-    requires length { length counts.now ≡ slice_index (as_vector (length counts.now) b.now).shape k }
-    requires indexes { indexes.now ≡ repeated_indexes (map place_number counts.now) }
-    ensures { IsAnswerOf (replicated (as_vector (length counts.now) b.now) k (map place_number counts.now)) result }
+/// How many times an index is put into a table at once, whatever its count is.
+const SPARE: usize = 4;
+
+/// The sum of counts. A count below 0 is refused first (`Domain`), and then a sum past the most elements (`Limit`).
+fn sum_of_counts(counts: &[i64]) -> Result<usize, OpFault>
+    ensures { IsSumOf counts.now result }
 {
-    let shape = shape_with_axis(workers.alloc(), b, k, indexes.len())?;
-    gather_along(workers, shape, b, k, counts.len(), Taking::Listed(indexes))
+    let mut all: usize = 0;
+    for count in counts {
+        if *count < 0 {
+            return Err(OpFault::Domain);
+        }
+        all = all.saturating_add(*count as usize);
+    }
+    if all > MOST_ELEMENTS {
+        return Err(OpFault::Limit);
+    }
+    Ok(all)
+}
+
+/// Whether a number is 0 or 1.
+#[inline(always)]
+fn is_bit(number: i64) -> bool
+    ensures { result ≡ is_bit number }
+{
+    number == 0 || number == 1
+}
+
+/// Puts an index several times after others.
+#[inline(always)]
+fn push_times(table: &mut Vec<u32>, index: u32, times: usize)
+    requires { vec_len table.old + times ≤ vec_capacity table.old }
+    ensures items { table.new.items ≡ table.old.items ++ replicate times index }
+    ensures capacity { vec_capacity table.new ≡ vec_capacity table.old }
+{
+    for _again in 0..times {
+        table.push_reserved(index);
+    }
+}
+
+/// Puts an index as often behind others as its count says. It is put there `spare` times in any case, and what is past its count is
+/// taken away again. So nothing hangs on a small count, which no processor can foresee.
+#[inline(always)]
+fn append_times(table: &mut Vec<u32>, index: u32, count: usize, spare: usize)
+    requires { vec_len table.old + count + spare ≤ vec_capacity table.old }
+    ensures items { table.new.items ≡ table.old.items ++ replicate count index }
+    ensures capacity { vec_capacity table.new ≡ vec_capacity table.old }
+{
+    let end = table.len() + count;
+    push_times(table, index, spare);
+    if count > spare {
+        push_times(table, index, count - spare);
+    }
+    table.truncate(end);
+}
+
+/// The indexes of the ones, where each number is 0 or 1.
+fn kept_indexes(alloc: Global, bits: &[i64]) -> Result<Option<Vec<u32>>, AllocError>
+    requires most { length bits.now ≤ MOST_PLACES }
+    ensures { IfOk result (λ found. MatchOption found (list_all is_bit bits.now ≡ false) (λ table. (list_all is_bit bits.now ≡ true) × (table.items ≡ repeated_indexes (map place_number bits.now)))) }
+{
+    let mut table = Vec::with_capacity(alloc, bits.len() + 1)?;
+    for (i, bit) in bits.iter().enumerate() {
+        if !is_bit(*bit) {
+            return Ok(None);
+        }
+        append_times(&mut table, i as u32, *bit as usize, 1);
+    }
+    Ok(Some(table))
+}
+
+/// Each index as often as its count says, which is so often in all.
+fn listed_indexes(alloc: Global, counts: &[i64], all: usize) -> Result<Vec<u32>, AllocError>
+    requires counts { list_all is_natural counts.now ≡ true }
+    requires most { length counts.now ≤ MOST_PLACES }
+    requires all { all ≡ sum (map place_number counts.now) }
+    requires few { all ≤ MOST_PLACES }
+    ensures { IfOk result (λ table. table.items ≡ repeated_indexes (map place_number counts.now)) }
+{
+    let mut table = Vec::with_capacity(alloc, all + SPARE)?;
+    for (i, count) in counts.iter().enumerate() {
+        append_times(&mut table, i as u32, *count as usize, SPARE);
+    }
+    Ok(table)
 }
 
 /// Each index of axis `k` as often as its count says. Counts that are all 0 or 1 are listed while they are judged.
@@ -50,7 +121,8 @@ fn replicate_each<W: Crew>(
 {
     let alloc = workers.alloc();
     if let Some(indexes) = kept_indexes(alloc, counts)? {
-        return gather_repeated(workers, b, k, counts, indexes.as_slice());
+        let taking = Taking::Listed(indexes.as_slice());
+        return gather_along(workers, b, k, counts.len(), indexes.len(), taking);
     }
     let extent = sum_of_counts(counts)?;
     let shape = shape_with_axis(alloc, b, k, extent)?;
@@ -58,7 +130,8 @@ fn replicate_each<W: Crew>(
         return empty(workers, shape, b);
     }
     let indexes = listed_indexes(alloc, counts, extent)?;
-    gather_repeated(workers, b, k, counts, indexes.as_slice())
+    let taking = Taking::Listed(indexes.as_slice());
+    gather_along(workers, b, k, counts.len(), indexes.len(), taking)
 }
 
 /// Each index of axis `k`, which has this length, several times.
@@ -82,8 +155,7 @@ fn replicate_all<W: Crew>(
     if extent > MOST_ELEMENTS {
         return Err(OpFault::Limit);
     }
-    let shape = shape_with_axis(workers.alloc(), b, k, extent)?;
-    gather_along(workers, shape, b, k, length, Taking::Repeated(times))
+    gather_along(workers, b, k, length, extent, Taking::Repeated(times))
 }
 
 /// `A/B`, compress and replicate: each index of an axis as often as its number in `A` says, in order.
@@ -117,4 +189,66 @@ pub fn compress<R: Threads + Sync, C: Cut + Sync, G: Gate + Sync>(
         return replicate_all(&workers, b, k, length, counts[0]);
     }
     replicate_each(&workers, b, k, counts)
+}
+
+/// Stands in a list of entries where there is no index: more than any index.
+const ABSENT: u32 = u32::MAX;
+
+/// The entry at a bit, after a count of ones. Both entries are at hand, so no jump depends on a bit that no processor can foresee.
+#[inline(always)]
+fn entry_at(bit: i64, ones: u32) -> u32
+    ensures { result ≡ (if int_eq bit (pos 1) then ones else ABSENT) }
+{
+    if bit == 1 { ones } else { ABSENT }
+}
+
+/// How many ones are before each one, and `ABSENT` at each zero, and how many there are, where each number is 0 or 1.
+fn expanded_entries(alloc: Global, bits: &[i64]) -> Result<Option<(Vec<u32>, usize)>, AllocError>
+    requires most { length bits.now ≤ MOST_PLACES }
+    ensures { IfOk result (λ found. MatchOption found
+        (list_all is_bit bits.now ≡ false)
+        (λ made. (list_all is_bit bits.now ≡ true) × AreEntriesOf bits.now made.0.items made.1)) }
+{
+    let mut entries = Vec::with_capacity(alloc, bits.len())?;
+    let mut ones = 0;
+    for bit in bits {
+        if !is_bit(*bit) {
+            return Ok(None);
+        }
+        entries.push_reserved(entry_at(*bit, ones));
+        ones += *bit as u32;
+    }
+    Ok(Some((entries, ones as usize)))
+}
+
+/// `A\B`, expand: the next index of an axis at each one of `A`, and a fill at each zero.
+/// Shape: that of `B`, where the axis has `A`'s count. A scalar `B` serves as a vector of as many elements as `A` has ones.
+/// Errors in order: INDEX of the axis, RANK of `A`, DOMAIN of its kind and its numbers, LENGTH of the ones, LIMIT.
+/// Source: APL\360 User's Manual, expansion; the order of errors is this calculator's own.
+pub fn expand<R: Threads + Sync, C: Cut + Sync, G: Gate + Sync>(
+    rt: &R,
+    alloc: Global,
+    pool: &Pool<C, G>,
+    a: &Array,
+    b: &Array,
+    axis: Axis,
+) -> Result<Array, OpFault>
+    ensures { Answers (expand_row a.now b.now axis) result }
+{
+    let workers = Workers { rt, alloc, pool };
+    let Some(k) = axis.resolve(vector_rank(b)) else {
+        return Err(OpFault::Index);
+    };
+    if a.shape().rank() > 1 {
+        return Err(OpFault::Rank);
+    }
+    let bits = numbers_among(a)?;
+    let Some((entries, ones)) = expanded_entries(alloc, bits)? else {
+        return Err(OpFault::Domain);
+    };
+    if ones != vector_length(b, k, ones) {
+        return Err(OpFault::Length);
+    }
+    let taking = Taking::Listed(entries.as_slice());
+    gather_along(&workers, b, k, ones, bits.len(), taking)
 }

@@ -6,9 +6,8 @@ ghost use Rattle.apl_answer.specs.Rows.{Answers};
 ghost use Rattle.apl_struct.specs.Indexing.{are_slots_within, selected_shape, selection_checks, select_row};
 ghost use Rattle.apl_struct.specs.Selecting.{IsCheckedResult, IsSelection};
 
-use crate::plain::empty;
-use crate::selecting::selected_walk;
-use crate::slots::{NumberArray, push_slots};
+use crate::building::empty;
+use crate::selecting::{NumberArray, push_slots, selected_walk};
 use apl_answer::OpFault;
 use apl_array::{Array, Origin, Shape, places_match_index_lists};
 use apl_pool::{Cut, Gate, Pool, Workers};
@@ -27,12 +26,9 @@ fn is_index(number: i64, origin: Origin, axis_length: usize) -> bool
 fn are_indexes(numbers: &[i64], origin: Origin, axis_length: usize) -> bool
     ensures { result ≡ list_all (λ number. is_below axis_length (from_origin origin number)) numbers.now }
 {
-    for number in numbers {
-        if !is_index(*number, origin, axis_length) {
-            return false;
-        }
-    }
-    true
+    numbers
+        .iter()
+        .all(|number| is_index(*number, origin, axis_length))
 }
 
 /// Whether each number of the slots, less the origin, is an index of the slot's axis.

@@ -9,34 +9,24 @@
 
 mod along;
 mod arguments;
-mod axes;
 mod building;
 mod compressing;
-mod expanding;
 mod indexing;
 mod joining;
 mod laws;
-mod named;
 mod permuting;
-mod plain;
-mod repeating;
 mod replacing;
-mod reversing;
 mod rotating;
 mod selecting;
-mod shapes;
-mod slots;
 mod taking;
 
-pub use axes::axis_number;
+pub use arguments::axis_number;
 pub use building::{iota, ravel, reshape, shape_of};
-pub use compressing::compress;
-pub use expanding::expand;
+pub use compressing::{compress, expand};
 pub use indexing::select;
 pub use joining::catenate;
 pub use laws::structural_answers_are_within_limits;
 pub use permuting::{transpose, transpose_by};
 pub use replacing::replace;
-pub use reversing::reverse;
-pub use rotating::rotate;
+pub use rotating::{reverse, rotate};
 pub use taking::{drop, take};

@@ -1,6 +1,6 @@
-//! Permuted axes, and diagonals.
-ghost use Rattle.std.specs.Prelude.{◌≡◌, ℕ, ◌+◌, ◌*◌, ◌^◌, ◌<◌, [], All, Ok, Some, IfOk, MatchOption, true, length, sum, reverse};
-ghost use Rattle.std.specs.List.{range_with_len};
+//! Permuted axes, diagonals, and the axes that numbers name.
+ghost use Rattle.std.specs.Prelude.{◌≡◌, ℕ, ◌+◌, ◌*◌, ◌^◌, ◌<◌, [], All, Ok, Some, IfOk, MatchOption, true, length, sum, reverse, ◌==◌, map};
+ghost use Rattle.std.specs.List.{range_with_len, list_all, list_any};
 ghost use Rattle.apl_array.specs.Array.{element_at};
 ghost use Rattle.apl_array.specs.Shape.{IsShape, count_of, index_at};
 ghost use Rattle.apl_array.specs.Transposition.{AreAxesInto, strides, items_onto, least, inner_product, source_index, transposed_shape, source_strides};
@@ -9,11 +9,11 @@ ghost use Rattle.apl_answer.specs.Rows.{Answers};
 ghost use Rattle.apl_struct.specs.Rearranging.{are_all_named, named_axes, transpose_row, transpose_by_row};
 ghost use Rattle.apl_walk.specs.Maps.{extent_of, walked};
 ghost use Rattle.apl_walk.specs.Walks.{maps_of};
+ghost use Rattle.apl_array.specs.Axes.{from_origin, place_number};
+ghost use Rattle.apl_answer.specs.Arguments.{is_natural};
 
 use crate::arguments::numbers_among;
-use crate::named::{are_all_named, are_from_origin, axes_named, named_axes};
-use crate::plain::empty;
-use crate::shapes::lawful_shape;
+use crate::building::{empty, lawful_shape};
 use apl_answer::OpFault;
 use apl_array::{
     Array, Origin, Shape, places_match_index_lists, reversed_index_is_lawful,
@@ -23,6 +23,67 @@ use apl_pool::{Crew, Cut, Gate, Pool, Workers};
 use apl_walk::{Map, Walk, Window, gather};
 use std::alloc::{AllocError, Global};
 use std::thread::Threads;
+
+/// The axis that a number names, counted from 0, and 0 for a number below the origin.
+fn axis_named(number: i64, origin: Origin) -> usize
+    ensures axis { result ≡ place_number (from_origin origin number) }
+    ensures below { result < 2 ^ 63 }
+{
+    let first = origin.number();
+    if number < first {
+        0
+    } else {
+        (number - first) as usize
+    }
+}
+
+/// Whether no number is below the origin.
+fn are_from_origin(numbers: &[i64], origin: Origin) -> bool
+    ensures { result ≡ list_all is_natural (map (from_origin origin) numbers.now) }
+{
+    let first = origin.number();
+    match numbers {
+        [] => true,
+        [number, numbers @ ..] => *number >= first && are_from_origin(numbers, origin),
+    }
+}
+
+/// The axes that these numbers name.
+fn axes_named(alloc: Global, numbers: &[i64], origin: Origin) -> Result<Vec<usize>, AllocError>
+    ensures axes { IfOk result (λ axes. axes.items ≡ map place_number (map (from_origin origin) numbers.now)) }
+    ensures below { IfOk result (λ axes. All (λ axis. axis < 2 ^ 63) axes.items) }
+{
+    numbers
+        .iter()
+        .map(|number| axis_named(*number, origin))
+        .collect(alloc)
+}
+
+/// How many axes are named: one more than the greatest.
+fn named_axes(axes: &[usize]) -> usize
+    requires { All (λ axis. axis < 2 ^ 63) axes.now }
+    ensures { result ≡ named_axes axes.now }
+{
+    match axes {
+        [] => 0,
+        [axis, axes @ ..] => (*axis + 1).max(named_axes(axes)),
+    }
+}
+
+fn is_named(j: usize, axes: &[usize]) -> bool
+    ensures { result ≡ list_any (λ axis. axis == j) axes.now }
+{
+    axes.iter().any(|axis| *axis == j)
+}
+
+/// Whether each axis up to the greatest is named. It looks for no more axes than there are names,
+/// and one.
+fn are_all_named(axes: &[usize]) -> bool
+    requires { All (λ axis. axis < 2 ^ 63) axes.now }
+    ensures { result ≡ are_all_named axes.now }
+{
+    (0..named_axes(axes)).all(|j| is_named(j, axes))
+}
 
 /// By how much a step along axis `j` of the result moves the place in the argument. It is a step along
 /// each axis that becomes it.

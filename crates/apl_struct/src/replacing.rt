@@ -15,10 +15,9 @@ ghost use Rattle.apl_struct.specs.Selecting.{IsCheckedResult, IsSelection};
 ghost use Rattle.apl_struct.specs.Numbering.{place_or_zero, chosen_at, number_at, AreWithin, HaveValues, AreWrittenOver, IsReached, value_numbered, element_numbered, replacement_checks, value_step, IsReplacement};
 
 use crate::arguments::is_same_shape;
+use crate::building::unchanged;
 use crate::indexing::selection;
-use crate::plain::unchanged;
-use crate::selecting::selected_walk;
-use crate::slots::NumberArray;
+use crate::selecting::{NumberArray, selected_walk};
 use apl_answer::{ElementType, OpFault, array_from_fill};
 use apl_array::{Array, Origin, Shape, places_match_index_lists};
 use apl_pool::{Crew, Cut, Gate, Pool, Stop, Workers, fill};

@@ -1,4 +1,4 @@
-//! Rotated lines.
+//! Reversed and rotated lines.
 ghost use Rattle.std.specs.Prelude.{◌≡◌, ◌||◌, ◌==◌, ◌⊎◌, true, ℕ, ◌+◌, ◌%◌, ◌<◌, ◌≤◌, Some, IfOk, map, length, slice_index, remove};
 ghost use Rattle.apl_array.specs.Array.{element_at};
 ghost use Rattle.apl_array.specs.Shape.{IsIndexOf};
@@ -7,24 +7,48 @@ ghost use Rattle.apl_answer.specs.Arguments.{is_same_shape, has_one_element, ran
 ghost use Rattle.apl_answer.specs.Pointwise.{IsArrayAt, IsArrayBy};
 ghost use Rattle.apl_answer.specs.Rows.{Answers};
 ghost use Rattle.apl_struct.specs.Gathering.{along_axis};
-ghost use Rattle.apl_struct.specs.Rearranging.{rotated_index, rotate_row};
+ghost use Rattle.apl_struct.specs.Rearranging.{rotated_index, rotate_row, reverse_row};
 ghost use Rattle.apl_struct.specs.Rotation.{rotation_of, turned_place, rotated_source};
 ghost use Rattle.apl_walk.specs.Gathered.{filled_at};
 ghost use Rattle.apl_walk.specs.Steps.{wrapped};
 
 use crate::along::{Taking, gather_along};
 use crate::arguments::{is_without_axis, numbers_among};
-use crate::plain::{empty, unchanged};
+use crate::building::{empty, unchanged};
 use apl_answer::{ElementType, OpFault, fill_array};
 use apl_array::{
     Array, Axis, Shape, inserted_index_has_place, places_match_index_lists,
-    replaced_index_has_place, split_index_has_place,
+    replaced_index_has_place, shape_is_decided, split_index_has_place,
 };
 use apl_divisor::Divisor;
 use apl_pool::{Crew, Cut, Gate, Pool, Workers};
 use apl_walk::{ByLines, RotatedColumns, RotatedRows, Rotations};
 use std::alloc::{AllocError, Global};
 use std::thread::Threads;
+
+/// `⌽B` and `⊖B`, reverse: the elements along an axis, the last one first.
+/// Shape and kind: those of `B`. Errors: INDEX of the axis. A scalar is answered as it is.
+/// Source: APL\360 User's Manual, reversal.
+pub fn reverse<R: Threads + Sync, C: Cut + Sync, G: Gate + Sync>(
+    rt: &R,
+    alloc: Global,
+    pool: &Pool<C, G>,
+    b: &Array,
+    axis: Axis,
+) -> Result<Array, OpFault>
+    ensures { Answers (reverse_row b.now axis) result }
+{
+    let workers = Workers { rt, alloc, pool };
+    let Some(k) = axis.resolve(b.shape().rank()) else {
+        return Err(OpFault::Index);
+    };
+    if b.shape().rank() == 0 {
+        return unchanged(&workers, b);
+    }
+    shape_is_decided();
+    let length = b.shape().axis(k);
+    gather_along(&workers, b, k, length, length, Taking::Reversed)
+}
 
 /// By how many indexes an axis of this length is rotated, counted from 0.
 fn rotation_within(rotation: i64, length: usize) -> usize
@@ -59,10 +83,10 @@ fn rotate_all<W: Crew>(workers: &W, b: &Array, k: usize, rotation: i64) -> Resul
     requires { k < length b.now.shape }
     ensures { IsArrayBy b.now.shape b.now.kind (λ index. element_at b.now (along_axis k (rotated_index rotation (slice_index b.now.shape k)) index)) result }
 {
-    let shape = b.shape().copy(workers.alloc())?;
-    let length = shape.axis(k);
+    shape_is_decided();
+    let length = b.shape().axis(k);
     let by = rotation_within(rotation, length);
-    gather_along(workers, shape, b, k, length, Taking::Rotated(by))
+    gather_along(workers, b, k, length, length, Taking::Rotated(by))
 }
 
 /// An argument whose lines along an axis are rotated, where neighbours along it are `inner` apart.
@@ -114,14 +138,10 @@ fn rotate_lines<W: Crew>(
     requires most { inner ≤ MOST_PLACES }
     ensures { IsArrayAt shape b.now.kind (λ place. filled_at b.now (Some (turned_place rotations.entry.length inner rotations.entry.by.now place))) result }
 {
-    match b.numbers() {
-        Some(numbers) => rotate_elements(workers, shape, b, numbers, rotations, inner),
-        None => {
-            let Some(characters) = b.characters() else {
-                unreachable!()
-            };
-            rotate_elements(workers, shape, b, characters, rotations, inner)
-        }
+    match (b.numbers(), b.characters()) {
+        (Some(numbers), _) => rotate_elements(workers, shape, b, numbers, rotations, inner),
+        (_, Some(characters)) => rotate_elements(workers, shape, b, characters, rotations, inner),
+        _ => unreachable!(),
     }
 }
 

@@ -1,5 +1,5 @@
-//! The walk over an array of which the slots of an index choose.
-ghost use Rattle.std.specs.Prelude.{◌≡◌, ℕ, ◌+◌, ◌*◌, ◌<◌, ◌≤◌, true, Some, IfOk, length, vec_len};
+//! The slots of an index, each of them empty or of numbers, and the walk over an array of which they choose.
+ghost use Rattle.std.specs.Prelude.{◌≡◌, ℕ, ◌+◌, ◌*◌, ◌<◌, ◌≤◌, true, Some, IfOk, length, vec_len, ◌++◌, ◌∷◌, [], map, Ok, Err, option_copied, if◌then◌else◌, vec_capacity};
 ghost use Rattle.apl_array.specs.declared.shape.TheConstants.{MOST_AXES};
 ghost use Rattle.apl_array.specs.Shape.{IsIndexOf, count_of};
 ghost use Rattle.apl_pool.specs.declared.kernel.TheConstants.{MOST_PLACES};
@@ -7,13 +7,62 @@ ghost use Rattle.apl_walk.specs.declared.map.TheConstants.{MOST_STEP};
 ghost use Rattle.apl_walk.specs.declared.maps.TheConstants.{MOST_MAPS};
 ghost use Rattle.apl_walk.specs.Maps.{extent_of, map_extent, map_step, walked};
 ghost use Rattle.apl_walk.specs.Walks.{maps_of};
-ghost use Rattle.apl_struct.specs.Indexing.{is_slot_within, selected_shape};
-ghost use Rattle.apl_struct.specs.Selecting.{reached_from, reached_with, slot_count, slot_index, chosen_index, chosen_place, AreSelectable, IsSelection};
+ghost use Rattle.apl_struct.specs.Indexing.{is_slot_within, selected_shape, is_slot_of_numbers};
+ghost use Rattle.apl_struct.specs.Selecting.{reached_from, reached_with, slot_count, slot_index, chosen_index, chosen_place, AreSelectable, IsSelection, AreArrays, IsCheckedResult};
+ghost use Rattle.std.specs.List.{list_all};
+ghost use Rattle.apl_array.specs.Array.{ArrayValue, IsArray};
+ghost use Rattle.apl_answer.specs.Arguments.{numbers_of};
+ghost use Rattle.apl_answer.specs.declared.fault.OpFault.TheVariants.{Domain};
 
-use crate::slots::NumberArray;
+use crate::arguments::numbers_among;
+use apl_answer::OpFault;
 use apl_array::{Array, Origin, Shape, places_match_index_lists};
 use apl_walk::{AxisMap, Listed, Map, Walk, Window};
 use std::alloc::{AllocError, Global};
+use std::marker::Model;
+
+/// An array of numbers, or without elements, and its numbers in row order.
+#[derive(Drop)]
+pub(crate) struct NumberArray<'a> {
+    pub array: &'a Array,
+    pub numbers: &'a [i64],
+}
+
+impl<'a> Model for NumberArray<'a> {
+    ghost Value = { ArrayValue };
+
+    ghost view = { λ n. n.array.now };
+
+    ghost invariant = { λ n. IsArray n.array.now × (numbers_of n.array.now ≡ n.numbers.now) };
+}
+
+/// A slot that is empty or of numbers, and no other (`Domain`).
+fn slot_of_numbers<'a>(slot: Option<&'a Array>) -> Result<Option<NumberArray<'a>>, OpFault>
+    ensures slot { result ≡ (if is_slot_of_numbers (option_copied slot.entry) then Ok (option_copied slot.entry) else Err Domain) }
+    ensures lawful { AreArrays (option_copied slot.entry ∷ []) }
+{
+    let Some(array) = slot else {
+        return Ok(None);
+    };
+    let numbers = numbers_among(array)?;
+    Ok(Some(NumberArray { array, numbers }))
+}
+
+/// Adds the slots, each of which is empty or of numbers (`Domain`).
+pub(crate) fn push_slots<'a>(
+    slots: &[Option<&'a Array>],
+    judged: &mut Vec<Option<NumberArray<'a>>>,
+) -> Result<(), OpFault>
+    requires { vec_len judged.old + length slots.now ≤ vec_capacity judged.old }
+    ensures { let all = map option_copied slots.now in
+        IsCheckedResult ((list_all is_slot_of_numbers all, Domain) ∷ []) (λ u. (judged.new.items ≡ judged.old.items ++ all) × AreArrays all) result }
+{
+    let [slot, slots @ ..] = slots else {
+        return Ok(());
+    };
+    judged.push_reserved(slot_of_numbers(*slot)?);
+    push_slots(slots, judged)
+}
 
 /// The indexes that a slot chooses of an axis whose neighbours are `stride` apart.
 fn slot_map<'a>(

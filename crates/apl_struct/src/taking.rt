@@ -12,8 +12,7 @@ ghost use Rattle.apl_walk.specs.Walks.{maps_of};
 ghost use Rattle.apl_struct.specs.Shaped.{with_shape, left_number, left_numbers, HavePassedButLimit, IsArrayOrLimit};
 
 use crate::arguments::numbers_among;
-use crate::building::repeat;
-use crate::shapes::lawful_shape;
+use crate::building::{lawful_shape, repeat};
 use apl_answer::OpFault;
 use apl_array::{Array, MOST_AXES, Shape, places_match_index_lists};
 use apl_pool::{Crew, Cut, Gate, Pool, Workers};

@@ -11,7 +11,7 @@ use Rattle.apl_answer.specs.Arguments.{rank_of, size_of, has_one_element, is_lis
 use Rattle.apl_answer.specs.Pointwise.{IsAnswerOf}
 use Rattle.apl_struct.specs.Compressing.{as_vector}
 use Rattle.apl_struct.specs.Replicating.{replicated}
-use Rattle.apl_struct.proofs.Naturals.{single_natural}
+use Rattle.apl_struct.proofs.Counts.{single_natural}
 use Rattle.apl_struct.proofs.Rotations.{number_in}
 use Rattle.apl_struct.proofs.compressing.compress.Given.{Over}
 use Rattle.apl_struct.proofs.compressing.compress.Goals as goal

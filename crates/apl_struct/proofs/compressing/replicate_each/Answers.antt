@@ -1,15 +1,19 @@
 use Rattle.std.proofs.Common.{◌≡◌, length, map, Err, inl, inr, ap, ◌∙◌, sym, rules}
+use Rattle.std.proofs.lemmas.List.{length-map}
 use Rattle.apl_array.specs.Axes.{place_number}
 use Rattle.apl_struct.specs.Compressing.{as_vector}
 use Rattle.apl_struct.proofs.AsVectors.{axis_of_vector}
-use Rattle.apl_struct.proofs.Replicated.{shape_refused, sum_refused}
-use Rattle.apl_struct.proofs.Naturals.{bits_natural}
+use Rattle.apl_struct.proofs.Counts.{repeated_answer, shape_refused, sum_refused, bits_natural}
 use Rattle.apl_struct.proofs.compressing.replicate_each.Goals as goal
 
 pub returns-in-Some : goal.returns-in-Some
 returns-in-Some g c =
+    let counts = c.args.counts.now in
+    let n = length counts in
     let kept = rw c.in-Some.is at c.in_ok-indexes.ensures in
-    rw (bits_natural c.args.counts.now kept.0) c.gather_repeated.ensures
+    rw (bits_natural counts kept.0)
+    (repeated_answer (as_vector n c.args.b.now) c.args.k n c.len.result (map place_number counts) c.as_slice.result.now c.gather_along.result (axis_of_vector n c.args.k c.args.b.now c.requires.axis)
+    (length-map counts place_number) (search rules) (c.as_slice.ensures.value ∙ kept.1) c.gather_along.ensures)
 
 pub returns-in_err-extent : goal.returns-in_err-extent
 returns-in_err-extent g c =
@@ -37,4 +41,9 @@ returns-then-count-eq0 g c =
     rw (summed.0, made.0, sym made.1) (c.empty.ensures _)
 
 pub returns : goal.returns
-returns g c = rw c.in_ok-extent.ensures.0 c.gather_repeated-2.ensures
+returns g c =
+    let counts = c.args.counts.now in
+    let n = length counts in
+    rw c.in_ok-extent.ensures.0
+    (repeated_answer (as_vector n c.args.b.now) c.args.k n c.len-2.result (map place_number counts) c.as_slice-2.result.now c.gather_along-2.result (axis_of_vector n c.args.k c.args.b.now c.requires.axis)
+    (length-map counts place_number) (search rules) (c.as_slice-2.ensures.value ∙ c.in_ok-indexes-2.ensures) c.gather_along-2.ensures)

@@ -2,7 +2,7 @@ use Rattle.std.proofs.Common.{ℕ, List, ap, sym, subst, ◌∙◌}
 use Rattle.std.proofs.lemmas.Result.{IfOk-weaker}
 use Rattle.apl_array.specs.Transposition.{AreAxesInto, transposed_shape}
 use Rattle.apl_struct.specs.Rearranging.{named_axes}
-use Rattle.apl_struct.proofs.NamedAxes.{lawful_transposed, names_below}
+use Rattle.apl_struct.proofs.Permuted.{lawful_transposed, names_below}
 use Rattle.apl_struct.proofs.permuting.transposed_shape.Goals as goal
 
 pub lawful_shape-requires : goal.lawful_shape-requires

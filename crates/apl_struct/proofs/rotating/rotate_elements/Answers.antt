@@ -3,7 +3,7 @@ use Rattle.apl_answer.specs.Arguments.{fill_of}
 use Rattle.apl_walk.specs.Gathered.{filled_at}
 use Rattle.apl_walk.specs.Steps.{rotated_place}
 use Rattle.apl_struct.proofs.Elements.{filled_value}
-use Rattle.apl_struct.proofs.Wrapping.{turned_row, turned_column}
+use Rattle.apl_struct.proofs.Rotations.{turned_row, turned_column}
 use Rattle.apl_struct.proofs.rotating.rotate_elements.Given.{Over}
 use Rattle.apl_struct.proofs.rotating.rotate_elements.Goals as goal
 use Rattle.apl_struct.proofs.rotating.rotate_elements.Goals.{After-fill-past}

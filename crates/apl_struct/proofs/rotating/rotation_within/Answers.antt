@@ -1,6 +1,6 @@
 use Rattle.std.proofs.Common.{◌≡◌, pos, to_z, of_z, w64, arith, rules}
 use Rattle.std.specs.Int.{int_rem_euclid}
-use Rattle.apl_struct.proofs.Wrapping.{rotated_wrapped}
+use Rattle.apl_struct.proofs.Rotations.{rotated_wrapped}
 use Rattle.apl_struct.proofs.rotating.rotation_within.Goals as goal
 
 pub returns-clause-each : goal.returns-clause-each

@@ -1,5 +1,0 @@
-use Rattle.std.proofs.Common.{length}
-use Rattle.apl_struct.proofs.slots.+push_slots.Given as goal
-
-abbrev pub decreases-push_slots : goal.decreases-push_slots
-decreases-push_slots l = length l.slots.now
