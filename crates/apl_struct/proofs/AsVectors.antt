@@ -9,7 +9,7 @@ use Rattle.apl_array.specs.Array.{ArrayValue}
 use Rattle.apl_answer.specs.Arguments.{is_scalar, only_element}
 use Rattle.apl_struct.specs.Compressing.{as_vector}
 use Rattle.apl_struct.specs.Along.{entry_index}
-use Rattle.apl_struct.proofs.Ranges.{element_in_in}
+use Rattle.apl_struct.proofs.Limits.{element_in_in}
 
 pub axis_of_vector : (n k : ℕ) (b : ArrayValue) → k < max 1 (length b.shape) → k < length (as_vector n b).shape
 axis_of_vector n k b axis = by_test (is_scalar b) refl

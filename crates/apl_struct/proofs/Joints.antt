@@ -17,7 +17,7 @@ use Rattle.apl_answer.specs.Arguments.{rank_of, is_scalar, is_same_shape, fill_o
 use Rattle.apl_walk.specs.Seams.{joined_value}
 use Rattle.apl_struct.specs.Joined.{joined_at}
 use Rattle.apl_struct.specs.Joining.{joined_rank, can_join, joined_kind, slices_shape, slices_source, catenated_element}
-use Rattle.apl_struct.proofs.Filled.{get_or-within, axis_facts}
+use Rattle.apl_struct.proofs.Elements.{get_or-within, axis_facts}
 
 -- ---- values of one type as elements
 

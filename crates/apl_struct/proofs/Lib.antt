@@ -1,7 +1,6 @@
 pub mod Examples
-pub mod Filled
-pub mod Takings
 pub mod Elements
+pub mod Takings
 pub mod Joints
 pub mod Passing
 pub mod Rotations
@@ -9,7 +8,6 @@ pub mod Sources
 pub mod Replacement
 pub mod Taken
 pub mod Permuted
-pub mod LawfulShapes
-pub mod Ranges
+pub mod Limits
 pub mod Counts
 pub mod AsVectors

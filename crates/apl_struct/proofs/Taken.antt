@@ -17,7 +17,7 @@ use Rattle.apl_struct.specs.Shaped.{with_shape, left_number, left_numbers}
 use Rattle.apl_struct.specs.Taking.{taken_index, take_source, dropped_shape, drop_source}
 use Rattle.apl_walk.specs.Steps.{and_step}
 use Rattle.apl_walk.specs.Maps.{step_of}
-use Rattle.apl_struct.proofs.Filled.{filled_within}
+use Rattle.apl_struct.proofs.Elements.{filled_within}
 
 -- ---- lengths
 

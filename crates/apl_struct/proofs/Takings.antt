@@ -20,7 +20,7 @@ use Rattle.apl_struct.specs.Compressing.{as_vector}
 use Rattle.apl_struct.specs.Gathering.{element_or_fill}
 use Rattle.apl_struct.specs.Shaped.{IsArrayOrLimit}
 use Rattle.apl_struct.proofs.AsVectors.{entry_below}
-use Rattle.apl_struct.proofs.Filled.{get_or-within, filled_within}
+use Rattle.apl_struct.proofs.Elements.{get_or-within, filled_within}
 use Rattle.apl_struct.proofs.Taken.{pos_right}
 use Rattle.apl_struct.proofs.Rotations.{wrapped_below}
 

@@ -1,5 +1,5 @@
 //! Joined arrays.
-ghost use Rattle.std.specs.Prelude.{◌≡◌, ◌+◌, ◌*◌, ◌<◌, ◌≤◌, ◌==◌, ◌&&◌, ◌||◌, map, length, not, true, Ok, IfOk, slice_index, slice_set, insert, remove, drop};
+ghost use Rattle.std.specs.Prelude.{MatchOption, [], ◌≡◌, ◌+◌, ◌*◌, ◌<◌, ◌≤◌, ◌==◌, ◌&&◌, ◌||◌, map, length, not, true, Ok, IfOk, slice_index, slice_set, insert, remove, drop};
 ghost use Rattle.apl_array.specs.declared.array.Elem.TheVariants.{Int, Chr};
 ghost use Rattle.apl_array.specs.Shape.{count_of};
 ghost use Rattle.apl_array.specs.declared.shape.TheConstants.{MOST_ELEMENTS};
@@ -70,8 +70,7 @@ struct Joint {
     right: usize,
 }
 
-/// The lengths of two arguments that are joined along axis `k` of `rank` axes. Other axes that
-/// differ are refused (`Length`).
+/// The lengths of two arguments that are joined along axis `k` of `rank` axes. Other axes that differ are refused (`Length`).
 fn joint_of(alloc: Global, a: &Array, b: &Array, rank: usize, k: usize) -> Result<Joint, OpFault>
     requires rank { rank ≡ joined_rank a.now b.now }
     requires axis { k < rank }
@@ -90,20 +89,6 @@ fn joint_of(alloc: Global, a: &Array, b: &Array, rank: usize, k: usize) -> Resul
         left,
         right,
     })
-}
-
-/// The numbers of an array in row order, none where it is of characters.
-fn numbers_in(a: &Array) -> &[i64]
-    ensures { is_numbers a.now ≡ true → a.now.ravel ≡ map Int result.now }
-{
-    a.numbers().unwrap_or(&[])
-}
-
-/// The characters of an array in row order, none where it is of numbers.
-fn characters_in(a: &Array) -> &[char]
-    ensures { (not (is_number_kind a.now.kind) || not (has_elements a.now)) ≡ true → a.now.ravel ≡ map Chr result.now }
-{
-    a.characters().unwrap_or(&[])
 }
 
 /// The kind of the argument that has elements, else the left one's.
@@ -141,8 +126,7 @@ fn can_join(a: &Array, b: &Array) -> bool
     left == 0 || right == 0 || (left <= right + 1 && right <= left + 1)
 }
 
-/// How many elements of each argument there are in a line: in all that has one index list of the axes
-/// to the left.
+/// How many elements of each argument there are in a line: in all that has one index list of the axes to the left.
 #[derive(Clone, Copy)]
 struct Seam {
     left: usize,
@@ -177,19 +161,19 @@ fn join_elements<T: ElementType + Send + Sync, W: Crew>(
     shape: Shape,
     a: &Array,
     b: &Array,
-    left: &[T],
-    right: &[T],
+    left: Option<&[T]>,
+    right: Option<&[T]>,
     seam: Seam,
 ) -> Result<Array, OpFault>
     requires kind { joined_kind a.now b.now ≡ T.kind }
-    requires left { a.now.ravel ≡ map T.elem_of left.now }
-    requires right { b.now.ravel ≡ map T.elem_of right.now }
+    requires left { MatchOption left (a.now.ravel ≡ []) (λ elements. a.now.ravel ≡ map T.elem_of elements.now) }
+    requires right { MatchOption right (b.now.ravel ≡ []) (λ elements. b.now.ravel ≡ map T.elem_of elements.now) }
     ensures { IsArrayAt shape (joined_kind a.now b.now) (joined_at a.now b.now seam.left seam.right) result }
 {
     let fill = T::fill();
     let kernel = ByLines::new(Joined {
-        left: Part::new(left, fill, seam.left),
-        right: Part::new(right, fill, seam.right),
+        left: Part::new(left.unwrap_or(&[]), fill, seam.left),
+        right: Part::new(right.unwrap_or(&[]), fill, seam.right),
         count: shape.count(),
     });
     fill_array(workers, shape, &kernel)
@@ -221,12 +205,16 @@ fn join_along<W: Crew>(
     let _kinds = (a.kind(), b.kind());
     let seam = seam_along(&shape, k, left, right);
     match joined_kind(a, b) {
-        Kind::Number => join_elements(workers, shape, a, b, numbers_in(a), numbers_in(b), seam),
-        Kind::Character => {
-            let first = characters_in(a);
-            let second = characters_in(b);
-            join_elements(workers, shape, a, b, first, second, seam)
-        }
+        Kind::Number => join_elements(workers, shape, a, b, a.numbers(), b.numbers(), seam),
+        Kind::Character => join_elements(
+            workers,
+            shape,
+            a,
+            b,
+            a.characters(),
+            b.characters(),
+            seam,
+        ),
     }
 }
 

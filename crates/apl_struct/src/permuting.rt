@@ -76,8 +76,7 @@ fn is_named(j: usize, axes: &[usize]) -> bool
     axes.iter().any(|axis| *axis == j)
 }
 
-/// Whether each axis up to the greatest is named. It looks for no more axes than there are names,
-/// and one.
+/// Whether each axis up to the greatest is named. It looks for no more axes than there are names, and one.
 fn are_all_named(axes: &[usize]) -> bool
     requires { All (λ axis. axis < 2 ^ 63) axes.now }
     ensures { result ≡ are_all_named axes.now }
@@ -85,8 +84,7 @@ fn are_all_named(axes: &[usize]) -> bool
     (0..named_axes(axes)).all(|j| is_named(j, axes))
 }
 
-/// By how much a step along axis `j` of the result moves the place in the argument. It is a step along
-/// each axis that becomes it.
+/// By how much a step along axis `j` of the result moves the place in the argument. It is a step along each axis that becomes it.
 fn stride_along(argument: &Shape, axes: &[usize], j: usize) -> usize
     requires some { 0 < count_of argument.now }
     requires len { length axes.now ≡ length argument.now }

@@ -131,22 +131,19 @@ fn replace_chosen<W: Crew>(
 {
     // An array that was asked something is known to be lawful.
     let _kind = a.kind();
-    if let Some(elements) = a.numbers()
-        && let Some(values) = b.numbers()
-    {
-        return replace_elements(workers, shape, elements, values, choices);
+    match (a.numbers(), b.numbers(), a.characters(), b.characters()) {
+        (Some(elements), Some(values), ..) => replace_elements(
+            workers, shape, elements, values, choices,
+        ),
+        (.., Some(elements), Some(values)) => replace_elements(
+            workers, shape, elements, values, choices,
+        ),
+        _ => unreachable!(),
     }
-    if let Some(elements) = a.characters()
-        && let Some(values) = b.characters()
-    {
-        return replace_elements(workers, shape, elements, values, choices);
-    }
-    unreachable!()
 }
 
-/// Values go in the place of the chosen elements: one for all, or an array of the selected shape. Its rank
-/// is judged first (`Rank`), then its lengths (`Length`). They are of the kind of the elements,
-/// unless there are none (`Domain`).
+/// Values go in the place of the chosen elements: one for all, or an array of the selected shape. Its rank is judged first (`Rank`),
+/// then its lengths (`Length`). They are of the kind of the elements, unless there are none (`Domain`).
 fn judge_values(a: &Array, b: &Array, selected: &Shape) -> Result<(), OpFault>
     ensures { IsCheckedResult (replacement_checks a.now b.now selected.now) (λ u. IsReplacement a.now b.now selected.now) result }
 {

@@ -20,8 +20,7 @@ use apl_walk::{Map, Walk, Window, gather};
 use std::alloc::{AllocError, Global};
 use std::thread::Threads;
 
-/// The window of an axis of which the first `number` elements are taken, or the last for a negative
-/// number.
+/// The window of an axis of which the first `number` elements are taken, or the last for a negative number.
 fn taken_window(number: i64, length: usize, stride: usize) -> Window
     requires some { 0 < nat_abs number }
     requires most { nat_abs number ≤ MOST_PLACES }
@@ -67,8 +66,7 @@ fn taken_walk(alloc: Global, numbers: &[i64], argument: &Shape) -> Result<Walk<'
     Ok(walk)
 }
 
-/// How many elements are left, as the number that takes them: `number` are dropped from the front, or from the
-/// end if it is negative.
+/// How many elements are left, as the number that takes them: `number` are dropped from the front, or from the end if it is negative.
 fn left_number(number: i64, length: usize) -> i64
     requires { length ≤ MOST_PLACES }
     ensures { result ≡ left_number number length }

@@ -8,9 +8,8 @@ use Rattle.apl_array.specs.Axes.{origin_number, place_number}
 use Rattle.apl_array.specs.Shape.{is_shape}
 use Rattle.apl_answer.specs.Arguments.{has_one_element, is_list, is_natural, number_of, numbers_of, only_element, size_of}
 use Rattle.apl_struct.specs.Building.{iota_row}
-use Rattle.apl_struct.proofs.Elements.{only_number}
+use Rattle.apl_struct.proofs.Elements.{only_number, vector_index}
 use Rattle.apl_struct.proofs.Passing.{answered}
-use Rattle.apl_struct.proofs.Filled.{vector_index}
 use Rattle.apl_struct.proofs.building.iota.Goals as goal
 
 origin_cast : (origin : Origin) (number : ℤ) → number ≡ pos (origin_number origin) → unsigned_abs (to_z w64 (of_z w64 number)) ≡ origin_number origin

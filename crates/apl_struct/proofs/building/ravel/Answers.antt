@@ -2,8 +2,7 @@ use Rattle.std.proofs.Common.{◌≡◌, ◌%◌, [], ◌∷◌, slice_index, sy
 use Rattle.std.proofs.Math.Nat.{mod-eq_of_lt, mod-lt}
 use Rattle.apl_array.specs.Array.{element_in}
 use Rattle.apl_answer.specs.Arguments.{size_of}
-use Rattle.apl_struct.proofs.Elements.{filled_in}
-use Rattle.apl_struct.proofs.Filled.{vector_index}
+use Rattle.apl_struct.proofs.Elements.{filled_in, vector_index}
 use Rattle.apl_struct.proofs.building.ravel.Goals as goal
 
 pub returns : goal.returns

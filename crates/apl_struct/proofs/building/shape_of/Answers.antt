@@ -1,7 +1,7 @@
 use Rattle.std.proofs.Common.{◌≡◌, pos, [], ◌∷◌, length, slice_index, sym, ap, ◌∙◌, rules}
 use Rattle.std.specs.Prelude.{Ok}
 use Rattle.apl_array.specs.declared.array.Elem.TheVariants.{Int}
-use Rattle.apl_struct.proofs.Filled.{vector_index}
+use Rattle.apl_struct.proofs.Elements.{vector_index}
 use Rattle.apl_struct.proofs.building.shape_of.Goals as goal
 
 pub returns : goal.returns

@@ -5,7 +5,7 @@ use Rattle.apl_answer.specs.declared.fault.OpFault.{OpFault}
 use Rattle.apl_answer.specs.Pointwise.{answer_of, IsAnswerOf}
 use Rattle.apl_struct.specs.Indexing.{Slots, select_source, selected_shape}
 use Rattle.apl_struct.specs.Selecting.{chosen_index}
-use Rattle.apl_struct.proofs.Filled.{filled_within}
+use Rattle.apl_struct.proofs.Elements.{filled_within}
 use Rattle.apl_struct.proofs.indexing.select.Goals as goal
 
 abbrev IsSelected : ArrayValue → (List ℕ → List ℕ) → Result ArrayValue OpFault → List ℕ → Type 0

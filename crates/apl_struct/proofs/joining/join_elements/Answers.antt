@@ -1,4 +1,4 @@
-use Rattle.std.proofs.Common.{◌≡◌, Ok, map, slice_index_or, sym, ap, ◌∙◌}
+use Rattle.std.proofs.Common.{◌≡◌, Ok, map, slice_index_or, sym, ap, ◌∙◌, rules}
 use Rattle.apl_answer.specs.Arguments.{fill_of}
 use Rattle.apl_struct.specs.Joined.{joined_at}
 use Rattle.apl_struct.specs.Joining.{joined_kind}
@@ -16,8 +16,8 @@ returns g c = λ element same.
     let left = c.new.ensures in
     let right = c.new-2.ensures in
     let fill_is : f fill ≡ fill_of (joined_kind a b) = c.fill-fill.ensures ∙ ap fill_of (sym c.requires.kind) in
-    let ravel_a : a.ravel ≡ map f l.elements.now = c.requires.left ∙ ap (map f) (sym left.elements) in
-    let ravel_b : b.ravel ≡ map f r.elements.now = c.requires.right ∙ ap (map f) (sym right.elements) in
+    let ravel_a : a.ravel ≡ map f l.elements.now = search rules in
+    let ravel_b : b.ravel ≡ map f r.elements.now = search rules in
     let past_a : l.past ≡ slice_index_or l.elements.now 0 fill = left.past ∙ ap (λ xs. slice_index_or xs 0 fill) (sym left.elements) in
     let past_b : r.past ≡ slice_index_or r.elements.now 0 fill = right.past ∙ ap (λ xs. slice_index_or xs 0 fill) (sym right.elements) in
     rw c.requires.kind

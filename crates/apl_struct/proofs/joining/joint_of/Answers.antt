@@ -2,7 +2,7 @@ use Rattle.std.proofs.Common.{◌≡◌, ◌+◌, ◌<◌, true, length, slice_i
 use Rattle.std.specs.Prelude.{remove}
 use Rattle.apl_answer.specs.Arguments.{is_same_shape}
 use Rattle.apl_struct.specs.Joining.{slices_shape}
-use Rattle.apl_struct.proofs.Filled.{get_or-within}
+use Rattle.apl_struct.proofs.Elements.{get_or-within}
 use Rattle.apl_struct.proofs.Joints.{slices_length, set_by_insert}
 use Rattle.apl_struct.proofs.joining.joint_of.Goals as goal
 

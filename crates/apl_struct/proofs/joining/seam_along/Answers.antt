@@ -1,7 +1,7 @@
 use Rattle.std.proofs.Common.{◌≡◌, ◌+◌, ◌*◌, take, arith}
 use Rattle.std.proofs.Math.Nat.{mul-pos}
 use Rattle.apl_array.specs.Shape.{count_of}
-use Rattle.apl_struct.proofs.Filled.{AxisFacts, axis_facts}
+use Rattle.apl_struct.proofs.Elements.{AxisFacts, axis_facts}
 use Rattle.apl_struct.proofs.Joints.{parts_of_line}
 use Rattle.apl_struct.proofs.joining.seam_along.Goals as goal
 

@@ -11,9 +11,8 @@ use Rattle.apl_struct.specs.Taking.{take_row, drop_row}
 use Rattle.apl_struct.specs.Rearranging.{reverse_row, rotate_row, transpose_row, are_all_named, transpose_by_row}
 use Rattle.apl_struct.specs.Compressing.{as_vector, replicate_row, expand_row}
 use Rattle.apl_struct.specs.Indexing.{selected_shape, last_choice, select_row, replace_row}
-use Rattle.apl_struct.proofs.LawfulShapes.{lawful_vector, lawful_reverse, axis_most}
+use Rattle.apl_struct.proofs.Limits.{lawful_vector, lawful_reverse, axis_most, natural_in, origin_most, element_in_in, element_at_in, element_or_fill_in, catenated_in, replaced_in}
 use Rattle.apl_struct.proofs.Permuted.{lawful_transposed}
-use Rattle.apl_struct.proofs.Ranges.{natural_in, origin_most, element_in_in, element_at_in, element_or_fill_in, catenated_in, replaced_in}
 use Rattle.apl_struct.proofs.AsVectors.{as_vector_in}
 use Rattle.apl_struct.proofs.laws.structural_answers_are_within_limits.Goals as goal
 

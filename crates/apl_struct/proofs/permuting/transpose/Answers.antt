@@ -2,7 +2,7 @@ use Rattle.std.proofs.Common.{◌≡◌, length, reverse, ap, ◌∙◌}
 use Rattle.std.specs.List.{range_with_len}
 use Rattle.std.proofs.lemmas.List.{length-reverse}
 use Rattle.apl_array.specs.Array.{element_at}
-use Rattle.apl_struct.proofs.LawfulShapes.{lawful_reverse}
+use Rattle.apl_struct.proofs.Limits.{lawful_reverse}
 use Rattle.apl_struct.proofs.Permuted.{AreAxesInto-reverse}
 use Rattle.apl_struct.proofs.permuting.transpose.Goals as goal
 

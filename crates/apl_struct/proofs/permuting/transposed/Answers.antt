@@ -1,7 +1,7 @@
 use Rattle.std.proofs.Common.{◌<◌, ap, ◌∙◌, arith}
 use Rattle.apl_array.specs.Shape.{count_of, index_at}
 use Rattle.apl_array.specs.Transposition.{source_index}
-use Rattle.apl_struct.proofs.Filled.{filled_within}
+use Rattle.apl_struct.proofs.Elements.{filled_within}
 use Rattle.apl_struct.proofs.Permuted.{axes_below}
 use Rattle.apl_struct.proofs.permuting.transposed.Goals as goal
 

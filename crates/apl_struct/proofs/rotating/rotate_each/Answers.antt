@@ -7,7 +7,7 @@ use Rattle.apl_struct.specs.Rearranging.{rotated_index}
 use Rattle.apl_struct.specs.Rotation.{rotation_of}
 use Rattle.apl_walk.specs.Gathered.{filled_at}
 use Rattle.apl_walk.specs.Steps.{wrapped}
-use Rattle.apl_struct.proofs.Filled.{AxisFacts, axis_facts, filled_within}
+use Rattle.apl_struct.proofs.Elements.{AxisFacts, axis_facts, filled_within}
 use Rattle.apl_struct.proofs.Rotations.{line_is, rotated_by, rotation_at_line, rotation_at_line_most, wrapped_below}
 use Rattle.apl_struct.proofs.rotating.rotate_each.Given.{Over}
 use Rattle.apl_struct.proofs.rotating.rotate_each.Goals as goal
