@@ -4,7 +4,7 @@
 //!
 //! Below it: `apl_walk`, which makes most results, `apl_answer` for the rows and the answers, `apl_array` for arrays, and `apl_pool` for
 //! passes over them. `smallvec` has the lengths of a shape, and `apl_divisor` divides places.
-//! Begin with `specs/Rearranging.antt`, and then `reversing.rt` and `along.rt`. The other functions are made likewise.
+//! Begin with `specs/Rearranging.antt`, and then `rotating.rt` and `along.rt`. The other functions are made likewise.
 #![tactic(auto)]
 
 mod along;
