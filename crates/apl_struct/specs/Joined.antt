@@ -15,9 +15,9 @@ joined_at a b left right place =
     let fill = fill_of (joined_kind a b) in
     joined_value a.ravel b.ravel (slice_index_or a.ravel 0 fill) (slice_index_or b.ravel 0 fill) left right (place / (left + right)) (place % (left + right))
 
--- the lengths of two arguments that are joined along axis k, and the length of each there. Other axes that differ are `Length`
+-- the lengths of two arguments that are joined along axis k, and the length of the left one there. Other axes that differ are `Length`
 abbrev pub IsJoint : (left right : List ℕ) → (k : ℕ) → Result Joint OpFault → Type 0
 IsJoint left right k result = MatchResult result
     (λ joint. (is_same_shape (remove left k) (remove right k) ≡ true) × (joint.lengths.items ≡ slice_set left k (slice_index left k + slice_index right k))
-    × (joint.left ≡ slice_index left k) × (joint.right ≡ slice_index right k))
+    × (joint.left ≡ slice_index left k))
     (λ fault. (fault ≡ Memory) ⊎ ((fault ≡ Length) × (is_same_shape (remove left k) (remove right k) ≡ false)))

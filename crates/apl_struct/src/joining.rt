@@ -1,5 +1,5 @@
 //! Joined arrays.
-ghost use Rattle.std.specs.Prelude.{MatchOption, [], ◌≡◌, ◌+◌, ◌*◌, ◌<◌, ◌≤◌, ◌==◌, ◌&&◌, ◌||◌, map, length, not, true, Ok, IfOk, slice_index, slice_set, insert, remove, drop};
+ghost use Rattle.std.specs.Prelude.{◌-◌, MatchOption, [], ◌≡◌, ◌+◌, ◌*◌, ◌<◌, ◌≤◌, ◌==◌, ◌&&◌, ◌||◌, map, length, not, true, Ok, IfOk, slice_index, slice_set, insert, remove, drop};
 ghost use Rattle.apl_array.specs.declared.array.Elem.TheVariants.{Int, Chr};
 ghost use Rattle.apl_array.specs.Shape.{count_of};
 ghost use Rattle.apl_array.specs.declared.shape.TheConstants.{MOST_ELEMENTS};
@@ -62,12 +62,11 @@ fn slices_lengths(
     Ok(lengths)
 }
 
-/// The lengths of a joined array, and how many indexes along the axis are each argument's.
+/// The lengths of a joined array, and how many indexes along the axis are the left argument's.
 #[derive(Drop)]
 struct Joint {
     lengths: SmallVec<usize, MOST_AXES>,
     left: usize,
-    right: usize,
 }
 
 /// The lengths of two arguments that are joined along axis `k` of `rank` axes. Other axes that differ are refused (`Length`).
@@ -84,11 +83,7 @@ fn joint_of(alloc: Global, a: &Array, b: &Array, rank: usize, k: usize) -> Resul
         return Err(OpFault::Length);
     }
     let lengths = with_axis(lengths, k, left + right)?;
-    Ok(Joint {
-        lengths,
-        left,
-        right,
-    })
+    Ok(Joint { lengths, left })
 }
 
 /// The kind of the argument that has elements, else the left one's.
@@ -135,20 +130,19 @@ struct Seam {
     ghost most: { left + right ≤ MOST_PLACES },
 }
 
-/// The lines along axis `k` of a joined array that has `left` and `right` indexes of the arguments.
-fn seam_along(shape: &Shape, k: usize, left: usize, right: usize) -> Seam
+/// The lines along axis `k` of a joined array, of whose indexes the first `left` are the left argument's.
+fn seam_along(shape: &Shape, k: usize, left: usize) -> Seam
     requires axis { k < length shape.now }
-    requires whole { left + right ≡ slice_index shape.now k }
+    requires part { left ≤ slice_index shape.now k }
     ensures left { 0 < count_of shape.now → result.left ≡ left * count_of (drop (k + 1) shape.now) }
-    ensures right { 0 < count_of shape.now → result.right ≡ right * count_of (drop (k + 1) shape.now) }
+    ensures right { 0 < count_of shape.now → result.right ≡ (slice_index shape.now k - left) * count_of (drop (k + 1) shape.now) }
 {
     replaced_index_has_place();
     if shape.count() == 0 {
         return Seam { left: 1, right: 0 };
     }
     let inner = shape.inner(k);
-    // An axis that was asked for is known to be its length.
-    let _length = shape.axis(k);
+    let right = shape.axis(k) - left;
     Seam {
         left: left * inner,
         right: right * inner,
@@ -179,7 +173,7 @@ fn join_elements<T: ElementType + Send + Sync, W: Crew>(
     fill_array(workers, shape, &kernel)
 }
 
-/// The two arguments joined along axis `k`, of whose indexes `left` and `right` are theirs.
+/// The two arguments joined along axis `k`, of whose indexes the first `left` are the left argument's.
 fn join_along<W: Crew>(
     workers: &W,
     shape: Shape,
@@ -187,7 +181,6 @@ fn join_along<W: Crew>(
     b: &Array,
     k: usize,
     left: usize,
-    right: usize,
 ) -> Result<Array, OpFault>
     requires axis { k < joined_rank a.now b.now }
     requires ranks { can_join a.now b.now ≡ true }
@@ -195,15 +188,14 @@ fn join_along<W: Crew>(
         is_same_shape (remove (slices_shape rank k a.now b.now) k) (remove (slices_shape rank k b.now a.now) k) ≡ true }
     requires kinds { (not (has_elements a.now && has_elements b.now) || is_same_kind a.now.kind b.now.kind) ≡ true }
     requires left { left ≡ slice_index (slices_shape (joined_rank a.now b.now) k a.now b.now) k }
-    requires right { right ≡ slice_index (slices_shape (joined_rank a.now b.now) k b.now a.now) k }
-    requires shape { shape ≡ slice_set (slices_shape (joined_rank a.now b.now) k a.now b.now) k (left + right) }
+    requires shape { shape ≡ slice_set (slices_shape (joined_rank a.now b.now) k a.now b.now) k (left + slice_index (slices_shape (joined_rank a.now b.now) k b.now a.now) k) }
     ensures { IsAnswerOf (answer_of shape (λ index. Ok (catenated_element (joined_rank a.now b.now) k left a.now b.now index)) (joined_kind a.now b.now)) result }
 {
     places_match_index_lists();
     changed_axis_has_place();
     // An array that was asked something is known to be lawful.
     let _kinds = (a.kind(), b.kind());
-    let seam = seam_along(&shape, k, left, right);
+    let seam = seam_along(&shape, k, left);
     match joined_kind(a, b) {
         Kind::Number => join_elements(workers, shape, a, b, a.numbers(), b.numbers(), seam),
         Kind::Character => join_elements(
@@ -245,5 +237,5 @@ pub fn catenate<R: Threads + Sync, C: Cut + Sync, G: Gate + Sync>(
         return Err(OpFault::Domain);
     }
     let shape = Shape::new(alloc, joint.lengths.as_slice())?;
-    join_along(&workers, shape, a, b, k, joint.left, joint.right)
+    join_along(&workers, shape, a, b, k, joint.left)
 }

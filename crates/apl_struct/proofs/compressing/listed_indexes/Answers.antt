@@ -12,8 +12,7 @@ append_times-requires c =
     let kept = c.loop-i.invariant in
     let inside = c.loop-i-test.true in
     let z = slice_index_or counts i (pos 0) in
-    let turned : to_z w64 (of_z w64 z) ≡ z = grind (arith, to_z-of_z) in
-    let held : nat_abs (to_z w64 (of_z w64 z)) ≡ place_number z = cast_is z (natural_at counts i c.requires.counts) turned in
+    let held : nat_abs (to_z w64 (of_z w64 z)) ≡ place_number z = cast_is z (natural_at counts i c.requires.counts) (grind (arith, to_z-of_z)) in
     let numbers = map place_number counts in
     let so_far : length c.loop-i.table.items ≡ sum (take i numbers) = ap length kept.kept ∙ repeated_length (take i numbers) in
     let all : sum (take (i + 1) numbers) ≤ sum numbers = sum_by-take-le (λ n. n) numbers (i + 1) in
@@ -27,8 +26,7 @@ loop-i-preserved c =
     let kept = c.loop-i.invariant in
     let inside = c.loop-i-test.true in
     let z = slice_index_or counts i (pos 0) in
-    let turned : to_z w64 (of_z w64 z) ≡ z = grind (arith, to_z-of_z) in
-    let held : nat_abs (to_z w64 (of_z w64 z)) ≡ place_number z = cast_is z (natural_at counts i c.requires.counts) turned in
+    let held : nat_abs (to_z w64 (of_z w64 z)) ≡ place_number z = cast_is z (natural_at counts i c.requires.counts) (grind (arith, to_z-of_z)) in
     record {
       kept = c.append_times.ensures.items
           ∙ ap (λ n. c.loop-i.table.items ++ replicate n i) held

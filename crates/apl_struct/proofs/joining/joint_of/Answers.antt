@@ -28,5 +28,4 @@ returns c =
       same,
       (rw (kept, lefts, rights) at c.in_ok-lengths-2.ensures) ∙ sym (set_by_insert own k (slice_index own k + slice_index other k) axis),
       lefts,
-      rights,
     )
