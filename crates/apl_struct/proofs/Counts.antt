@@ -16,7 +16,7 @@ use Rattle.apl_answer.specs.Arguments.{is_bit, is_natural}
 use Rattle.apl_struct.specs.Expanding.{expanded_entry}
 use Rattle.apl_struct.specs.declared.compressing.TheConstants.{ABSENT}
 use Rattle.apl_struct.specs.Along.{entry_index}
-use Rattle.apl_struct.proofs.AsVectors.{entry_there}
+use Rattle.apl_struct.proofs.Takings.{entry_there}
 use Rattle.std.proofs.lemmas.Grind.{get_or-set_at}
 use Rattle.apl_array.specs.Shape.{is_shape, most_axes, most_elements}
 use Rattle.apl_array.specs.Array.{ArrayValue, element_at}

@@ -10,4 +10,3 @@ pub mod Taken
 pub mod Permuted
 pub mod Limits
 pub mod Counts
-pub mod AsVectors

@@ -1,28 +1,55 @@
--- The elements of a result along an axis whose indexes are taken.
-use Rattle.std.proofs.Common.{◌≡◌, ◌↔◌, pos, ℕ, ◌+◌, ◌*◌, ◌/◌, ◌%◌, ◌<◌, ◌≤◌, true, false, inl, inr, [], List, Result, length, drop, take, slice_index, refl, ap, sym, subst, ◌∙◌, arith}
-use Rattle.std.specs.Prelude.{slice_set, Some, None, Option, IfSome, max, option_map, if◌then◌else◌}
+-- Scalars that serve as vectors, and the elements of a result along an axis whose indexes are taken.
+use Rattle.std.proofs.Common.{◌≡◌, ℕ, ◌<◌, true, false, Bool, List, [], ◌∷◌, length, refl, arith, ◌↔◌, pos, ◌+◌, ◌*◌, ◌/◌, ◌%◌, ◌≤◌, inl, inr, Result, drop, take, slice_index, ap, sym, subst, ◌∙◌}
+use Rattle.std.specs.Prelude.{Some, IfSome, max, All, replicate, if◌then◌else◌, slice_set, None, Option, option_map}
+use Rattle.std.proofs.lemmas.Bool.Decides.{nat_tests}
+use Rattle.std.proofs.lemmas.List.Elements.{All-replicate}
+use Rattle.apl_array.specs.declared.array.Elem.{Elem}
+use Rattle.apl_array.specs.Range.{IsElementInRange, HasNumbersInRange}
+use Rattle.apl_array.specs.Array.{ArrayValue, IsArray, element_at}
+use Rattle.apl_answer.specs.Arguments.{is_scalar, only_element, rank_of, fill_of}
+use Rattle.apl_struct.specs.Compressing.{as_vector}
+use Rattle.apl_struct.specs.Along.{entry_index, taking_extent, taking_index, IsTakingOf}
+use Rattle.apl_struct.proofs.Limits.{element_in_in}
 use Rattle.std.proofs.lemmas.Bool.{cases_Bool, eqb-true, eqb-false}
 use Rattle.std.proofs.lemmas.List.{nil_from_length, get_or-replicate, set-get_or}
 use Rattle.std.proofs.Math.Nat.{mod-one, div-eq_of_lt, div-eq_of_eq-mul_left, div-lt_iff_lt-mul, le-mul_of_pos_right}
-use Rattle.apl_array.specs.declared.array.Elem.{Elem}
 use Rattle.apl_array.specs.declared.array.Elem.TheVariants.{Int}
-use Rattle.apl_array.specs.Array.{ArrayValue, IsArray, element_at}
 use Rattle.apl_array.specs.Shape.{IsShape, IsIndexOf, is_shape, count_of, place_of, index_at}
 use Rattle.apl_answer.specs.declared.fault.OpFault.{OpFault}
 use Rattle.apl_answer.specs.Pointwise.{IsArrayBy}
-use Rattle.apl_answer.specs.Arguments.{rank_of, is_scalar, fill_of, only_element}
 use Rattle.apl_walk.specs.Gathered.{filled_at}
 use Rattle.apl_walk.specs.Steps.{and_step}
 use Rattle.apl_struct.specs.declared.along.Taking.{Taking}
 use Rattle.apl_struct.specs.declared.along.Taking.TheVariants.{Reversed, Rotated, Repeated, Listed}
-use Rattle.apl_struct.specs.Along.{taking_extent, taking_index, IsTakingOf}
-use Rattle.apl_struct.specs.Compressing.{as_vector}
 use Rattle.apl_struct.specs.Gathering.{element_or_fill}
 use Rattle.apl_struct.specs.Shaped.{IsArrayOrLimit}
-use Rattle.apl_struct.proofs.AsVectors.{entry_below}
 use Rattle.apl_struct.proofs.Elements.{get_or-within, filled_within}
 use Rattle.apl_struct.proofs.Taken.{pos_right}
 use Rattle.apl_struct.proofs.Rotations.{wrapped_below}
+
+-- ---- scalars that serve as vectors
+
+pub axis_of_vector : (n k : ℕ) (b : ArrayValue) → k < max 1 (length b.shape) → k < length (as_vector n b).shape
+axis_of_vector n k b axis = by_test (is_scalar b) refl
+  where
+    by_test : (scalar : Bool) → is_scalar b ≡ scalar → k < length (if scalar then n ∷ [] else b.shape)
+    by_test true is = grind (arith, nat_tests)
+    by_test false is = grind (arith, nat_tests)
+
+pub entry_below : (n entry : ℕ) → IfSome (entry_index n entry) (λ j. j < n)
+entry_below n entry = grind (arith, nat_tests)
+
+pub entry_there : (n entry : ℕ) → entry < n → entry_index n entry ≡ Some entry
+entry_there n entry below = grind (arith, nat_tests)
+
+either_all : (c : Bool) (xs ys : List Elem) → All IsElementInRange xs → All IsElementInRange ys → All IsElementInRange (if c then xs else ys)
+either_all true xs ys h k = h
+either_all false xs ys h k = k
+
+pub as_vector_in : (n : ℕ) (b : ArrayValue) → HasNumbersInRange b → HasNumbersInRange (as_vector n b)
+as_vector_in n b h = either_all (is_scalar b) (replicate n (only_element b)) b.ravel (All-replicate IsElementInRange n (only_element b) (element_in_in b 0 h)) h
+
+-- ---- indexes that are taken
 
 pub taking_below : (n : ℕ) (taking : Taking) (i : ℕ) → IsTakingOf n taking → i < taking_extent n taking → IfSome (taking_index n taking i) (λ j. j < n)
 taking_below n Reversed i is inside = omega (arith, inside)

@@ -15,8 +15,7 @@ ghost use Rattle.apl_struct.specs.Indexing.{Slots, select_row, replace_row};
 use apl_answer::answer_is_within_limits;
 use apl_array::{reversed_index_is_lawful, shape_is_decided, transposed_index_has_place};
 
-/// The answers to arguments within all limits are within all limits, whatever the axis, the origin
-/// and the slots.
+/// The answers to arguments within all limits are within all limits, whatever the axis, the origin and the slots.
 pub fn structural_answers_are_within_limits()
     ensures shape_of { (b answer : ArrayValue) → IsWithinLimits b
         → result_of (shape_of_row b) ≡ Ok answer → IsWithinLimits answer }

@@ -8,9 +8,8 @@ use Rattle.apl_walk.specs.Maps.{map_extent, map_step}
 use Rattle.apl_struct.specs.Along.{taking_index}
 use Rattle.apl_struct.specs.Compressing.{as_vector}
 use Rattle.apl_struct.specs.Gathering.{element_or_fill}
-use Rattle.apl_struct.proofs.AsVectors.{axis_of_vector}
+use Rattle.apl_struct.proofs.Takings.{axis_of_vector, stride_of, stride_most, along_element, taking_below}
 use Rattle.apl_struct.proofs.Elements.{AxisFacts, axis_facts}
-use Rattle.apl_struct.proofs.Takings.{stride_of, stride_most, along_element, taking_below}
 use Rattle.apl_struct.proofs.along.gather_along.Given.{Over}
 use Rattle.apl_struct.proofs.along.gather_along.Goals as goal
 use Rattle.apl_struct.proofs.along.gather_along.Goals.{After-axis}

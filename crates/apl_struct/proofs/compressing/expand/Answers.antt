@@ -7,7 +7,7 @@ use Rattle.apl_array.specs.Shape.{count_of}
 use Rattle.apl_answer.specs.Arguments.{rank_of, is_list, is_numbers, is_bit, number_of, numbers_of}
 use Rattle.apl_struct.specs.Compressing.{as_vector, expanded_index}
 use Rattle.apl_struct.specs.Gathering.{element_or_fill, along_axis_or_none}
-use Rattle.apl_struct.proofs.AsVectors.{axis_of_vector}
+use Rattle.apl_struct.proofs.Takings.{axis_of_vector}
 use Rattle.apl_struct.proofs.Counts.{entry_is}
 use Rattle.apl_struct.proofs.compressing.expand.Goals as goal
 

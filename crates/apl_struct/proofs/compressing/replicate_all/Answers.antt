@@ -6,9 +6,8 @@ use Rattle.apl_array.specs.Shape.{most_elements}
 use Rattle.apl_array.specs.Axes.{place_number}
 use Rattle.apl_struct.specs.Compressing.{as_vector}
 use Rattle.apl_struct.specs.Shaped.{IsArrayOrLimit}
-use Rattle.apl_struct.proofs.AsVectors.{axis_of_vector}
+use Rattle.apl_struct.proofs.Takings.{axis_of_vector, vector_at}
 use Rattle.apl_struct.proofs.Counts.{repeated_same, sum_refused, is_count}
-use Rattle.apl_struct.proofs.Takings.{vector_at}
 use Rattle.apl_struct.proofs.compressing.replicate_all.Goals as goal
 
 pub returns-then-extent-gt-MOST_ELEMENTS : goal.returns-then-extent-gt-MOST_ELEMENTS

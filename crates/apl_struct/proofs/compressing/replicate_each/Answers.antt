@@ -2,7 +2,7 @@ use Rattle.std.proofs.Common.{◌≡◌, length, map, Err, inl, inr, ap, ◌∙�
 use Rattle.std.proofs.lemmas.List.{length-map}
 use Rattle.apl_array.specs.Axes.{place_number}
 use Rattle.apl_struct.specs.Compressing.{as_vector}
-use Rattle.apl_struct.proofs.AsVectors.{axis_of_vector}
+use Rattle.apl_struct.proofs.Takings.{axis_of_vector}
 use Rattle.apl_struct.proofs.Counts.{repeated_answer, shape_refused, sum_refused, bits_natural}
 use Rattle.apl_struct.proofs.compressing.replicate_each.Goals as goal
 

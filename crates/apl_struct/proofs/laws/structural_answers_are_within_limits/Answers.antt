@@ -13,7 +13,7 @@ use Rattle.apl_struct.specs.Compressing.{as_vector, replicate_row, expand_row}
 use Rattle.apl_struct.specs.Indexing.{selected_shape, last_choice, select_row, replace_row}
 use Rattle.apl_struct.proofs.Limits.{lawful_vector, lawful_reverse, axis_most, natural_in, origin_most, element_in_in, element_at_in, element_or_fill_in, catenated_in, replaced_in}
 use Rattle.apl_struct.proofs.Permuted.{lawful_transposed}
-use Rattle.apl_struct.proofs.AsVectors.{as_vector_in}
+use Rattle.apl_struct.proofs.Takings.{as_vector_in}
 use Rattle.apl_struct.proofs.laws.structural_answers_are_within_limits.Goals as goal
 
 pub returns : goal.returns
