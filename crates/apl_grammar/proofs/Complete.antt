@@ -1,5 +1,5 @@
 -- Each tree is answered from its own tokens.
-use Rattle.std.proofs.Common.{◌≡◌, ◌++◌, ◌∷◌, [], List, Some, refl, ◌∙◌, ap}
+use Rattle.std.proofs.Common.{◌≡◌, ◌++◌, ◌∷◌, [], List, Option, Some, None, refl, ◌∙◌, ap}
 use Rattle.std.specs.Prelude.{ℕ, Bool, true, false, IsTrue, ◌&&◌, option_and_then}
 use Rattle.apl_tokens.specs.declared.token.TokenKind.TheVariants as kind
 use Rattle.apl_array.specs.declared.function.ScalarFunction.{ScalarFunction}
@@ -9,16 +9,16 @@ use Rattle.apl_grammar.specs.declared.forms.DefaultAxis.TheVariants.{First, Last
 use Rattle.apl_grammar.specs.declared.forms.MonadicFunction.TheVariants as of_one
 use Rattle.apl_grammar.specs.declared.forms.DyadicFunction.TheVariants as of_two
 use Rattle.apl_grammar.specs.declared.forms.AxisFunction.{AxisFunction}
-use Rattle.apl_grammar.specs.declared.forms.AxisFunction.TheVariants.{Catenate, Rotate, Replicate, Expand}
+use Rattle.apl_grammar.specs.declared.forms.AxisFunction.TheVariants.{Rotate, Replicate, Expand}
 use Rattle.apl_grammar.specs.declared.forms.Operator.{Operator}
 use Rattle.apl_grammar.specs.declared.forms.Operator.TheVariants.{Reduction, Scan}
 use Rattle.apl_grammar.specs.declared.forms.MonadicForm.{MonadicForm}
 use Rattle.apl_grammar.specs.declared.forms.MonadicForm.TheVariants as one
 use Rattle.apl_grammar.specs.declared.forms.DyadicForm.{DyadicForm}
 use Rattle.apl_grammar.specs.declared.forms.DyadicForm.TheVariants as two
-use Rattle.apl_grammar.specs.Functions.{operator_glyph, may_be_monadic, may_be_dyadic}
+use Rattle.apl_grammar.specs.Functions.{dyadic_glyph, axis_glyph, operator_glyph, may_be_monadic, may_be_dyadic}
 use Rattle.apl_grammar.specs.Tree.{Expr, value, dyadic, monadic, assign, assign_at, Operand, constant, name, group, index, Slots, last, more, Slot, nothing, given, Axis, none, along, has_axis, IsTree, IsOperand, IsList, IsSlot, IsAxis, token_at, spells, spells_operand, spells_list, spells_slot, spells_axis, spells_monadic, spells_dyadic}
-use Rattle.apl_grammar.proofs.Partial.{Wanted, alone, applied, indexed, fill, Level, operand_wanted, expression, leading_dot, leading_arrow, leading_brackets, leading_slots, no_slots, slots, Frame, open_group, open_index, open_axis_or_index, open_indexed_assignment, as_dyadic, with_index, as_wanted, at_operand, at_name, at_close, at_slice, at_close_bracket, at_function, slot_of, sliced_by, at_semicolon, wanted_by, at_open_bracket, step, run_from, run_from-parts}
+use Rattle.apl_grammar.proofs.Partial.{Wanted, alone, applied, indexed, fill, Level, operand_wanted, expression, leading_dot, leading_arrow, leading_brackets, leading_slots, level_for, no_slots, slots, Frame, open_group, open_index, open_axis_or_index, open_indexed_assignment, as_dyadic, with_index, as_wanted, at_operand, at_name, at_close, at_slice, at_close_bracket, at_function, slot_of, sliced_by, at_semicolon, wanted_by, at_open_bracket, step, run_from, run_from-parts}
 
 both_true : (a b : Bool) → IsTrue (a && b) → IsTrue a × IsTrue b
 both_true true b h = (refl, h)
@@ -67,34 +67,22 @@ dot_read : (fr : List Frame) (d c : ℕ) (f : ScalarFunction) (e : Expr) → IsT
 dot_read fr d c f e h true is = rw (is, h) refl
 dot_read fr d c f e h false is = rw (is, h) refl
 
--- a function of two arguments and its axis, read before an expression
+-- what a symbol and its axis are before an expression
+abbrev level_or_expression : Option Level → Expr → Level
+level_or_expression (Some l) e = l
+level_or_expression None e = expression e
+
+-- a function of two arguments and its axis, read before an expression. All plain functions have one line
 wants : (f : DyadicForm) (a : Axis) (e : Expr) (fr : List Frame) → IsTrue (may_be_dyadic f (has_axis a)) → Wants f a e fr
 wants (two.Plain c (of_two.Scalar f)) none e fr h = scalar_wants c f e fr h (has_monadic f) refl
-wants (two.Plain c of_two.Reshape) none e fr h = record { level = expression (monadic (one.Plain c of_one.Shape) none e); read = refl; wanted = refl }
-wants (two.Plain c of_two.IndexOf) none e fr h = record { level = expression (monadic (one.Plain c of_one.Iota) none e); read = refl; wanted = refl }
-wants (two.Plain c of_two.TransposeBy) none e fr h = record { level = expression (monadic (one.Plain c of_one.Transpose) none e); read = refl; wanted = refl }
-wants (two.Plain c of_two.Member) none e fr h = record { level = operand_wanted (applied (two.Plain c of_two.Member) none e); read = refl; wanted = refl }
-wants (two.Plain c of_two.Take) none e fr h = record { level = operand_wanted (applied (two.Plain c of_two.Take) none e); read = refl; wanted = refl }
-wants (two.Plain c of_two.Drop) none e fr h = record { level = operand_wanted (applied (two.Plain c of_two.Drop) none e); read = refl; wanted = refl }
-wants (two.Plain c of_two.Decode) none e fr h = record { level = operand_wanted (applied (two.Plain c of_two.Decode) none e); read = refl; wanted = refl }
-wants (two.Plain c of_two.Encode) none e fr h = record { level = operand_wanted (applied (two.Plain c of_two.Encode) none e); read = refl; wanted = refl }
+wants (two.Plain c f) none e fr h = record { level = level_or_expression (level_for c (dyadic_glyph f) none e) e; read = refl; wanted = refl }
 wants (two.Plain c f) (along l x r) e fr h = absurd cc
-wants (two.Along c Catenate) none e fr h = record { level = expression (monadic (one.Plain c of_one.Ravel) none e); read = refl; wanted = refl }
-wants (two.Along c Catenate) (along l x r) e fr h = record { level = operand_wanted (applied (two.Along c Catenate) (along l x r) e); read = refl; wanted = refl }
-wants (two.Along c (Rotate First)) a e fr h = axis_wants a
-  where
-    axis_wants : (a : Axis) → Wants (two.Along c (Rotate First)) a e fr
-    axis_wants none = record { level = expression (monadic (one.Reverse c First) none e); read = refl; wanted = refl }
-    axis_wants (along l x r) = record { level = expression (monadic (one.Reverse c First) (along l x r) e); read = refl; wanted = refl }
-wants (two.Along c (Rotate Last)) a e fr h = axis_wants a
-  where
-    axis_wants : (a : Axis) → Wants (two.Along c (Rotate Last)) a e fr
-    axis_wants none = record { level = expression (monadic (one.Reverse c Last) none e); read = refl; wanted = refl }
-    axis_wants (along l x r) = record { level = expression (monadic (one.Reverse c Last) (along l x r) e); read = refl; wanted = refl }
-wants (two.Along c (Replicate First)) a e fr h = slash_wants fr c (Reduction First) a e
-wants (two.Along c (Replicate Last)) a e fr h = slash_wants fr c (Reduction Last) a e
-wants (two.Along c (Expand First)) a e fr h = slash_wants fr c (Scan First) a e
-wants (two.Along c (Expand Last)) a e fr h = slash_wants fr c (Scan Last) a e
+wants (two.Along c (Replicate axis)) a e fr h = slash_wants fr c (Reduction axis) a e
+wants (two.Along c (Expand axis)) a e fr h = slash_wants fr c (Scan axis) a e
+wants (two.Along c (Rotate First)) none e fr h = record { level = expression (monadic (one.Reverse c First) none e); read = refl; wanted = refl }
+wants (two.Along c (Rotate First)) (along l x r) e fr h = record { level = expression (monadic (one.Reverse c First) (along l x r) e); read = refl; wanted = refl }
+wants (two.Along c f) none e fr h = record { level = level_or_expression (level_for c (axis_glyph f) none e) e; read = refl; wanted = refl }
+wants (two.Along c f) (along l x r) e fr h = record { level = level_or_expression (level_for c (axis_glyph f) (along l x r) e) e; read = refl; wanted = refl }
 wants (two.Inner c f d k g) none e fr h =
     let both : IsTrue (has_dyadic f) × IsTrue (has_dyadic g) = both_true (has_dyadic f) (has_dyadic g) h in
     record {
@@ -113,12 +101,7 @@ wants (two.Outer j d c g) (along l x r) e fr h = absurd cc
 -- a function of one argument and its axis, read before an expression
 monadic_read : (f : MonadicForm) (a : Axis) (e : Expr) (fr : List Frame) → IsTrue (may_be_monadic f (has_axis a)) → run_from (fr, level_axis a e) (spells_monadic f) ≡ Some (fr, expression (monadic f a e))
 monadic_read (one.Plain c (of_one.Scalar f)) none e fr h = rw h refl
-monadic_read (one.Plain c of_one.Shape) none e fr h = refl
-monadic_read (one.Plain c of_one.Ravel) none e fr h = refl
-monadic_read (one.Plain c of_one.Iota) none e fr h = refl
-monadic_read (one.Plain c of_one.Transpose) none e fr h = refl
-monadic_read (one.Plain c of_one.GradeUp) none e fr h = refl
-monadic_read (one.Plain c of_one.GradeDown) none e fr h = refl
+monadic_read (one.Plain c f) none e fr h = refl
 monadic_read (one.Plain c f) (along l x r) e fr h = absurd cc
 monadic_read (one.Reverse c First) none e fr h = refl
 monadic_read (one.Reverse c Last) none e fr h = refl

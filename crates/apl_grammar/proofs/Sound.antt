@@ -1,5 +1,5 @@
 -- What was read is spelled by partial trees, and some tree ends with it.
-use Rattle.std.proofs.Common.{◌≡◌, ◌++◌, ◌∷◌, [], List, Option, Some, None, refl, sym, ◌∙◌, ap, subst, append_assoc}
+use Rattle.std.proofs.Common.{◌≡◌, ◌++◌, ◌∷◌, [], List, Option, Some, None, refl, sym, ◌∙◌, ap, subst, append_assoc, rules}
 use Rattle.std.specs.Prelude.{ℕ, Bool, true, false, IsTrue, option_map, option_and_then, if◌then◌else◌}
 use Rattle.apl_array.specs.declared.function.ScalarFunction.{ScalarFunction}
 use Rattle.apl_array.specs.Valences.{has_monadic, has_dyadic}
@@ -109,16 +109,8 @@ monadic_scalar_at c f false is = tt
 
 monadic_at : (c : ℕ) (g : Glyph) (b : Bool) → IfSome (monadic_form c g b) (IsMonadicAt c g b)
 monadic_at c (glyph.Scalar f) false = monadic_scalar_at c f (has_monadic f) refl
-monadic_at c glyph.Rho false = (refl, refl)
-monadic_at c glyph.Comma false = (refl, refl)
-monadic_at c glyph.Iota false = (refl, refl)
-monadic_at c glyph.Transpose false = (refl, refl)
-monadic_at c glyph.GradeUp false = (refl, refl)
-monadic_at c glyph.GradeDown false = (refl, refl)
-monadic_at c glyph.CircleStile b = (refl, refl)
-monadic_at c glyph.CircleBar b = (refl, refl)
-monadic_at c _ false = tt
-monadic_at c _ true = tt
+monadic_at c g false = search rules
+monadic_at c g true = search rules
 
 dyadic_scalar_at : (c : ℕ) (f : ScalarFunction) (b : Bool) → has_dyadic f ≡ b → IfSome (option_map (Plain c) (if b then Some (of_two.Scalar f) else None)) (IsDyadicAt c (glyph.Scalar f) false)
 dyadic_scalar_at c f true is = (is, refl)
@@ -126,23 +118,8 @@ dyadic_scalar_at c f false is = tt
 
 dyadic_at : (c : ℕ) (g : Glyph) (b : Bool) → IfSome (dyadic_form c g b) (IsDyadicAt c g b)
 dyadic_at c (glyph.Scalar f) false = dyadic_scalar_at c f (has_dyadic f) refl
-dyadic_at c glyph.Rho false = (refl, refl)
-dyadic_at c glyph.Iota false = (refl, refl)
-dyadic_at c glyph.Epsilon false = (refl, refl)
-dyadic_at c glyph.UpArrow false = (refl, refl)
-dyadic_at c glyph.DownArrow false = (refl, refl)
-dyadic_at c glyph.Transpose false = (refl, refl)
-dyadic_at c glyph.UpTack false = (refl, refl)
-dyadic_at c glyph.DownTack false = (refl, refl)
-dyadic_at c glyph.Comma b = (refl, refl)
-dyadic_at c glyph.CircleStile b = (refl, refl)
-dyadic_at c glyph.CircleBar b = (refl, refl)
-dyadic_at c glyph.Slash b = (refl, refl)
-dyadic_at c glyph.SlashBar b = (refl, refl)
-dyadic_at c glyph.Backslash b = (refl, refl)
-dyadic_at c glyph.BackslashBar b = (refl, refl)
-dyadic_at c _ false = tt
-dyadic_at c _ true = tt
+dyadic_at c g false = search rules
+dyadic_at c g true = search rules
 
 -- the same tokens are a function of two arguments
 abbrev IsCounterpart : MonadicForm → Bool → DyadicForm → Type 0
