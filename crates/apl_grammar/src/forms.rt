@@ -1,8 +1,10 @@
-//! The functions of statements, with the columns of their tokens.
+//! The functions of statements, with their symbols and the columns of their tokens.
 ghost use Rattle.std.specs.Prelude.{◌≡◌, IsTrue, Option, Some, None, if◌then◌else◌};
 ghost use Rattle.apl_array.specs.Valences.{has_monadic, has_dyadic};
+ghost use Rattle.apl_grammar.specs.Functions.{monadic_glyph, monadic_function, dyadic_function, axis_function};
 
 use apl_array::ScalarFunction;
+use apl_tokens::Glyph;
 use std::marker::Model;
 
 /// A scalar function of one argument.
@@ -100,6 +102,42 @@ pub enum MonadicFunction {
     GradeDown,
 }
 
+impl MonadicFunction {
+    /// The function of one argument that takes no axis, if the symbol is one.
+    pub(crate) fn of(glyph: Glyph) -> Option<MonadicFunction>
+        ensures { result ≡ monadic_function glyph }
+    {
+        match glyph {
+            Glyph::Scalar(function) => match MonadicScalar::new(function) {
+                Some(scalar) => Some(MonadicFunction::Scalar(scalar)),
+                None => None,
+            },
+            Glyph::Rho => Some(MonadicFunction::Shape),
+            Glyph::Comma => Some(MonadicFunction::Ravel),
+            Glyph::Iota => Some(MonadicFunction::Iota),
+            Glyph::Transpose => Some(MonadicFunction::Transpose),
+            Glyph::GradeUp => Some(MonadicFunction::GradeUp),
+            Glyph::GradeDown => Some(MonadicFunction::GradeDown),
+            _ => None,
+        }
+    }
+
+    /// The symbol of the function.
+    pub(crate) fn glyph(&self) -> Glyph
+        ensures { result ≡ monadic_glyph self.now }
+    {
+        match self {
+            MonadicFunction::Scalar(scalar) => Glyph::Scalar(scalar.function()),
+            MonadicFunction::Shape => Glyph::Rho,
+            MonadicFunction::Ravel => Glyph::Comma,
+            MonadicFunction::Iota => Glyph::Iota,
+            MonadicFunction::Transpose => Glyph::Transpose,
+            MonadicFunction::GradeUp => Glyph::GradeUp,
+            MonadicFunction::GradeDown => Glyph::GradeDown,
+        }
+    }
+}
+
 /// A function of two arguments that takes no axis.
 #[derive(Drop)]
 pub enum DyadicFunction {
@@ -114,6 +152,29 @@ pub enum DyadicFunction {
     Encode,
 }
 
+impl DyadicFunction {
+    /// The function of two arguments that takes no axis, if the symbol is one.
+    pub(crate) fn of(glyph: Glyph) -> Option<DyadicFunction>
+        ensures { result ≡ dyadic_function glyph }
+    {
+        match glyph {
+            Glyph::Scalar(function) => match DyadicScalar::new(function) {
+                Some(scalar) => Some(DyadicFunction::Scalar(scalar)),
+                None => None,
+            },
+            Glyph::Rho => Some(DyadicFunction::Reshape),
+            Glyph::Iota => Some(DyadicFunction::IndexOf),
+            Glyph::Epsilon => Some(DyadicFunction::Member),
+            Glyph::UpArrow => Some(DyadicFunction::Take),
+            Glyph::DownArrow => Some(DyadicFunction::Drop),
+            Glyph::Transpose => Some(DyadicFunction::TransposeBy),
+            Glyph::UpTack => Some(DyadicFunction::Decode),
+            Glyph::DownTack => Some(DyadicFunction::Encode),
+            _ => None,
+        }
+    }
+}
+
 /// A function of two arguments that takes an axis. Catenation works along the last if none is given.
 #[derive(Clone, Copy, Debug, PartialEq, Eq, Drop)]
 pub enum AxisFunction {
@@ -121,6 +182,24 @@ pub enum AxisFunction {
     Rotate(DefaultAxis),
     Replicate(DefaultAxis),
     Expand(DefaultAxis),
+}
+
+impl AxisFunction {
+    /// The function of two arguments that takes an axis, if the symbol is one.
+    pub(crate) fn of(glyph: Glyph) -> Option<AxisFunction>
+        ensures { result ≡ axis_function glyph }
+    {
+        match glyph {
+            Glyph::Comma => Some(AxisFunction::Catenate),
+            Glyph::CircleStile => Some(AxisFunction::Rotate(DefaultAxis::Last)),
+            Glyph::CircleBar => Some(AxisFunction::Rotate(DefaultAxis::First)),
+            Glyph::Slash => Some(AxisFunction::Replicate(DefaultAxis::Last)),
+            Glyph::SlashBar => Some(AxisFunction::Replicate(DefaultAxis::First)),
+            Glyph::Backslash => Some(AxisFunction::Expand(DefaultAxis::Last)),
+            Glyph::BackslashBar => Some(AxisFunction::Expand(DefaultAxis::First)),
+            _ => None,
+        }
+    }
 }
 
 /// What a slash after a scalar function makes of it.

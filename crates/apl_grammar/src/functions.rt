@@ -1,10 +1,10 @@
 //! Which function a symbol is.
 ghost use Rattle.std.specs.Prelude.{◌≡◌};
-ghost use Rattle.apl_grammar.specs.Functions.{dyadic_scalar, monadic_glyph, reversal_glyph, monadic_function, dyadic_function, reversal, axis_function, monadic_form, dyadic_form, dyadic_counterpart, operator_of, reduced};
+ghost use Rattle.apl_grammar.specs.Functions.{dyadic_scalar, reversal_glyph, reversal, monadic_form, dyadic_form, dyadic_counterpart, operator_of, reduced};
 
 use crate::forms::{
     AxisFunction, DefaultAxis, DyadicForm, DyadicFunction, DyadicScalar, MonadicForm,
-    MonadicFunction, MonadicScalar, Operator,
+    MonadicFunction, Operator,
 };
 use apl_tokens::Glyph;
 
@@ -18,21 +18,6 @@ pub(crate) fn dyadic_scalar(glyph: Glyph) -> Option<DyadicScalar>
     }
 }
 
-/// The symbol of a function of one argument that takes no axis.
-fn monadic_glyph(function: &MonadicFunction) -> Glyph
-    ensures { result ≡ monadic_glyph function.now }
-{
-    match function {
-        MonadicFunction::Scalar(scalar) => Glyph::Scalar(scalar.function()),
-        MonadicFunction::Shape => Glyph::Rho,
-        MonadicFunction::Ravel => Glyph::Comma,
-        MonadicFunction::Iota => Glyph::Iota,
-        MonadicFunction::Transpose => Glyph::Transpose,
-        MonadicFunction::GradeUp => Glyph::GradeUp,
-        MonadicFunction::GradeDown => Glyph::GradeDown,
-    }
-}
-
 /// The symbol of a reversal.
 fn reversal_glyph(axis: DefaultAxis) -> Glyph
     ensures { result ≡ reversal_glyph axis }
@@ -40,46 +25,6 @@ fn reversal_glyph(axis: DefaultAxis) -> Glyph
     match axis {
         DefaultAxis::Last => Glyph::CircleStile,
         DefaultAxis::First => Glyph::CircleBar,
-    }
-}
-
-/// The function of one argument that takes no axis, if the symbol is one.
-fn monadic_function(glyph: Glyph) -> Option<MonadicFunction>
-    ensures { result ≡ monadic_function glyph }
-{
-    match glyph {
-        Glyph::Scalar(function) => match MonadicScalar::new(function) {
-            Some(scalar) => Some(MonadicFunction::Scalar(scalar)),
-            None => None,
-        },
-        Glyph::Rho => Some(MonadicFunction::Shape),
-        Glyph::Comma => Some(MonadicFunction::Ravel),
-        Glyph::Iota => Some(MonadicFunction::Iota),
-        Glyph::Transpose => Some(MonadicFunction::Transpose),
-        Glyph::GradeUp => Some(MonadicFunction::GradeUp),
-        Glyph::GradeDown => Some(MonadicFunction::GradeDown),
-        _ => None,
-    }
-}
-
-/// The function of two arguments that takes no axis, if the symbol is one.
-fn dyadic_function(glyph: Glyph) -> Option<DyadicFunction>
-    ensures { result ≡ dyadic_function glyph }
-{
-    match glyph {
-        Glyph::Scalar(function) => match DyadicScalar::new(function) {
-            Some(scalar) => Some(DyadicFunction::Scalar(scalar)),
-            None => None,
-        },
-        Glyph::Rho => Some(DyadicFunction::Reshape),
-        Glyph::Iota => Some(DyadicFunction::IndexOf),
-        Glyph::Epsilon => Some(DyadicFunction::Member),
-        Glyph::UpArrow => Some(DyadicFunction::Take),
-        Glyph::DownArrow => Some(DyadicFunction::Drop),
-        Glyph::Transpose => Some(DyadicFunction::TransposeBy),
-        Glyph::UpTack => Some(DyadicFunction::Decode),
-        Glyph::DownTack => Some(DyadicFunction::Encode),
-        _ => None,
     }
 }
 
@@ -94,22 +39,6 @@ fn reversal(glyph: Glyph) -> Option<DefaultAxis>
     }
 }
 
-/// The function of two arguments that takes an axis, if the symbol is one.
-fn axis_function(glyph: Glyph) -> Option<AxisFunction>
-    ensures { result ≡ axis_function glyph }
-{
-    match glyph {
-        Glyph::Comma => Some(AxisFunction::Catenate),
-        Glyph::CircleStile => Some(AxisFunction::Rotate(DefaultAxis::Last)),
-        Glyph::CircleBar => Some(AxisFunction::Rotate(DefaultAxis::First)),
-        Glyph::Slash => Some(AxisFunction::Replicate(DefaultAxis::Last)),
-        Glyph::SlashBar => Some(AxisFunction::Replicate(DefaultAxis::First)),
-        Glyph::Backslash => Some(AxisFunction::Expand(DefaultAxis::Last)),
-        Glyph::BackslashBar => Some(AxisFunction::Expand(DefaultAxis::First)),
-        _ => None,
-    }
-}
-
 /// The symbol as a function of one argument, without or with an axis, if it is one.
 pub(crate) fn monadic_form(column: usize, glyph: Glyph, has_axis: bool) -> Option<MonadicForm>
     ensures { result ≡ monadic_form column glyph has_axis }
@@ -120,7 +49,7 @@ pub(crate) fn monadic_form(column: usize, glyph: Glyph, has_axis: bool) -> Optio
     if has_axis {
         return None;
     }
-    match monadic_function(glyph) {
+    match MonadicFunction::of(glyph) {
         Some(function) => Some(MonadicForm::Plain { column, function }),
         None => None,
     }
@@ -130,13 +59,13 @@ pub(crate) fn monadic_form(column: usize, glyph: Glyph, has_axis: bool) -> Optio
 pub(crate) fn dyadic_form(column: usize, glyph: Glyph, has_axis: bool) -> Option<DyadicForm>
     ensures { result ≡ dyadic_form column glyph has_axis }
 {
-    if let Some(function) = axis_function(glyph) {
+    if let Some(function) = AxisFunction::of(glyph) {
         return Some(DyadicForm::Along { column, function });
     }
     if has_axis {
         return None;
     }
-    match dyadic_function(glyph) {
+    match DyadicFunction::of(glyph) {
         Some(function) => Some(DyadicForm::Plain { column, function }),
         None => None,
     }
@@ -148,7 +77,7 @@ pub(crate) fn dyadic_counterpart(form: &MonadicForm, has_axis: bool) -> Option<D
 {
     match form {
         MonadicForm::Plain { column, function } => {
-            dyadic_form(*column, monadic_glyph(function), has_axis)
+            dyadic_form(*column, function.glyph(), has_axis)
         }
         MonadicForm::Reverse { column, axis } => {
             dyadic_form(*column, reversal_glyph(*axis), has_axis)
