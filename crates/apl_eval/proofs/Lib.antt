@@ -3,6 +3,5 @@ pub mod StackLemmas
 pub mod StepLemmas
 pub mod Endings
 pub mod LawfulLemmas
-pub mod LimitLemmas
 pub mod ReportLemmas
 mod Examples

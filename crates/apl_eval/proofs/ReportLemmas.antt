@@ -6,12 +6,6 @@ use Rattle.apl_array.specs.declared.axis.Axis.TheVariants.{At}
 use Rattle.apl_array.specs.declared.axis.Origin.{Origin}
 use Rattle.apl_array.specs.declared.function.ScalarFunction.{ScalarFunction}
 use Rattle.apl_array.specs.Array.{ArrayValue}
-use Rattle.apl_grammar.specs.declared.forms.MonadicFunction.{MonadicFunction}
-use Rattle.apl_grammar.specs.declared.forms.MonadicFunction.TheVariants as one_argument
-use Rattle.apl_grammar.specs.declared.forms.DyadicFunction.{DyadicFunction}
-use Rattle.apl_grammar.specs.declared.forms.DyadicFunction.TheVariants as two_arguments
-use Rattle.apl_grammar.specs.declared.forms.AxisFunction.{AxisFunction}
-use Rattle.apl_grammar.specs.declared.forms.AxisFunction.TheVariants.{Catenate, Rotate, Replicate, Expand}
 use Rattle.apl_grammar.specs.declared.forms.Operator.{Operator}
 use Rattle.apl_grammar.specs.declared.forms.Operator.TheVariants.{Reduction, Scan}
 use Rattle.apl_grammar.specs.declared.forms.MonadicForm.{MonadicForm}
@@ -22,21 +16,11 @@ use Rattle.apl_grammar.specs.Tree.{Expr, value, dyadic, monadic, assign, assign_
 use Rattle.apl_answer.specs.declared.fault.OpFault.{OpFault}
 use Rattle.apl_answer.specs.declared.fault.OpFault.TheVariants as fault
 use Rattle.apl_answer.specs.Rows as rows
-use Rattle.apl_scalar.specs.Monadic.{monadic_answer}
-use Rattle.apl_scalar.specs.Dyadic.{dyadic_answer}
-use Rattle.apl_search.specs.Searching.{index_of_row, member_row}
-use Rattle.apl_search.specs.Ordering.{grade_up_row, grade_down_row}
 use Rattle.apl_struct.specs.Axes.{axis_number_of}
-use Rattle.apl_struct.specs.Building.{shape_of_row, reshape_row, ravel_row, iota_row}
-use Rattle.apl_struct.specs.Joining.{catenate_row}
-use Rattle.apl_struct.specs.Taking.{take_row, drop_row}
-use Rattle.apl_struct.specs.Rearranging.{reverse_row, rotate_row, transpose_row, transpose_by_row}
-use Rattle.apl_struct.specs.Compressing.{replicate_row, expand_row}
+use Rattle.apl_struct.specs.Rearranging.{reverse_row}
 use Rattle.apl_struct.specs.Indexing.{select_row, replace_row}
 use Rattle.apl_reduce.specs.Reducing.{reduce_row}
 use Rattle.apl_reduce.specs.Products.{outer_row, inner_row}
-use Rattle.apl_reduce.specs.Decoding.{decode_row}
-use Rattle.apl_reduce.specs.Encoding.{encode_row}
 use Rattle.apl_scan.specs.Scanning.{scan_row}
 use Rattle.apl_print.specs.declared.reports.Report.{Report}
 use Rattle.apl_eval.specs.Workspace.{WorkspaceValue, value_of}
@@ -75,15 +59,6 @@ along_reported : (origin : Origin) (default : WorkAxis) (axis : Option ArrayValu
 along_reported origin default None result h = h default
 along_reported origin default (Some axis) result h = along_number_reported origin (axis_number_of axis) result h
 
-monadic_plain_reported : (origin : Origin) (f : MonadicFunction) (b : ArrayValue) → IsReported (monadic_plain origin f b)
-monadic_plain_reported origin (one_argument.Scalar f) b = answer_reported (monadic_answer f b)
-monadic_plain_reported origin one_argument.Shape b = row_reported (shape_of_row b)
-monadic_plain_reported origin one_argument.Ravel b = row_reported (ravel_row b)
-monadic_plain_reported origin one_argument.Iota b = row_reported (iota_row b origin)
-monadic_plain_reported origin one_argument.Transpose b = row_reported (transpose_row b)
-monadic_plain_reported origin one_argument.GradeUp b = row_reported (grade_up_row b origin)
-monadic_plain_reported origin one_argument.GradeDown b = row_reported (grade_down_row b origin)
-
 reversed_reported : (axis : WorkAxis) (b : ArrayValue) → IsReported (reversed_along axis b)
 unfolding reversed_along
 reversed_reported axis b = row_reported (reverse_row b axis)
@@ -94,33 +69,16 @@ reduced_reported (Scan default) f axis b = row_reported (scan_row f b axis)
 
 monadic_reported : (origin : Origin) (f : MonadicForm) (axis : Option ArrayValue) (b : ArrayValue) → IsReported (monadic_result origin f axis b)
 unfolding monadic_result
-monadic_reported origin (one.Plain column f) axis b = monadic_plain_reported origin f b
+monadic_reported origin (one.Plain column f) axis b = answer_reported (monadic_plain origin f b)
 monadic_reported origin (one.Reverse column default) axis b = along_reported origin (default_axis default) axis (λ axis. reversed_along axis b) (λ axis. reversed_reported axis b)
 monadic_reported origin (one.Reduce column f slash_column operator) axis b =
     along_reported origin (operator_axis operator) axis (λ axis. reduced_along operator f axis b) (λ axis. reduced_reported operator f axis b)
 
-dyadic_plain_reported : (origin : Origin) (f : DyadicFunction) (a b : ArrayValue) → IsReported (dyadic_plain origin f a b)
-dyadic_plain_reported origin (two_arguments.Scalar f) a b = answer_reported (dyadic_answer f a b)
-dyadic_plain_reported origin two_arguments.Reshape a b = row_reported (reshape_row a b)
-dyadic_plain_reported origin two_arguments.IndexOf a b = row_reported (index_of_row a b origin)
-dyadic_plain_reported origin two_arguments.Member a b = row_reported (member_row a b)
-dyadic_plain_reported origin two_arguments.Take a b = row_reported (take_row a b)
-dyadic_plain_reported origin two_arguments.Drop a b = row_reported (drop_row a b)
-dyadic_plain_reported origin two_arguments.TransposeBy a b = row_reported (transpose_by_row a b origin)
-dyadic_plain_reported origin two_arguments.Decode a b = row_reported (decode_row a b)
-dyadic_plain_reported origin two_arguments.Encode a b = row_reported (encode_row a b)
-
-dyadic_along_reported : (f : AxisFunction) (axis : WorkAxis) (a b : ArrayValue) → IsReported (dyadic_along f axis a b)
-dyadic_along_reported Catenate axis a b = row_reported (catenate_row a b axis)
-dyadic_along_reported (Rotate default) axis a b = row_reported (rotate_row a b axis)
-dyadic_along_reported (Replicate default) axis a b = row_reported (replicate_row a b axis)
-dyadic_along_reported (Expand default) axis a b = row_reported (expand_row a b axis)
-
 dyadic_reported : (origin : Origin) (f : DyadicForm) (axis : Option ArrayValue) (a b : ArrayValue) → IsReported (dyadic_result origin f axis a b)
 unfolding dyadic_result
-dyadic_reported origin (two.Plain column f) axis a b = dyadic_plain_reported origin f a b
+dyadic_reported origin (two.Plain column f) axis a b = answer_reported (dyadic_plain origin f a b)
 dyadic_reported origin (two.Along column f) axis a b =
-    along_reported origin (function_axis f) axis (λ axis. dyadic_along f axis a b) (λ axis. dyadic_along_reported f axis a b)
+    along_reported origin (function_axis f) axis (λ axis. result_of (dyadic_along f axis a b)) (λ axis. answer_reported (dyadic_along f axis a b))
 dyadic_reported origin (two.Inner left_column f dot right_column g) axis a b = row_reported (inner_row f g a b)
 dyadic_reported origin (two.Outer jot dot column f) axis a b = row_reported (outer_row f a b)
 

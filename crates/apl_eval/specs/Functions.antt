@@ -103,15 +103,15 @@ along origin default (Some axis) result = along_number origin (axis_number_of ax
 
 -- ---- functions of one argument
 
--- what takes no axis
-abbrev pub monadic_plain : Origin → MonadicFunction → (right : ArrayValue) → Result ArrayValue Report
-monadic_plain origin (monadic.Scalar f) b = result_of (monadic_answer f b)
-monadic_plain origin monadic.Shape b = result_by (shape_of_row b)
-monadic_plain origin monadic.Ravel b = result_by (ravel_row b)
-monadic_plain origin monadic.Iota b = result_by (iota_row b origin)
-monadic_plain origin monadic.Transpose b = result_by (transpose_row b)
-monadic_plain origin monadic.GradeUp b = result_by (grade_up_row b origin)
-monadic_plain origin monadic.GradeDown b = result_by (grade_down_row b origin)
+-- the answer of what takes no axis
+abbrev pub monadic_plain : Origin → MonadicFunction → (right : ArrayValue) → Result ArrayValue OpFault
+monadic_plain origin (monadic.Scalar f) b = monadic_answer f b
+monadic_plain origin monadic.Shape b = rows.result_of (shape_of_row b)
+monadic_plain origin monadic.Ravel b = rows.result_of (ravel_row b)
+monadic_plain origin monadic.Iota b = rows.result_of (iota_row b origin)
+monadic_plain origin monadic.Transpose b = rows.result_of (transpose_row b)
+monadic_plain origin monadic.GradeUp b = rows.result_of (grade_up_row b origin)
+monadic_plain origin monadic.GradeDown b = rows.result_of (grade_down_row b origin)
 
 -- reversal along an axis
 unfoldable pub reversed_along : Axis → (right : ArrayValue) → Result ArrayValue Report
@@ -124,35 +124,35 @@ reduced_along (Scan default) f axis b = result_by (scan_row f b axis)
 
 -- of one argument, perhaps along an axis; a tree gives none to what takes none
 unfoldable pub monadic_result : Origin → MonadicForm → (axis : Option ArrayValue) → (right : ArrayValue) → Result ArrayValue Report
-monadic_result origin (one.Plain column f) axis right = monadic_plain origin f right
+monadic_result origin (one.Plain column f) axis right = result_of (monadic_plain origin f right)
 monadic_result origin (one.Reverse column default) axis right = along origin (default_axis default) axis (λ axis. reversed_along axis right)
 monadic_result origin (one.Reduce column f slash_column operator) axis right = along origin (operator_axis operator) axis (λ axis. reduced_along operator f axis right)
 
 -- ---- functions of two arguments
 
--- what takes no axis
-abbrev pub dyadic_plain : Origin → DyadicFunction → (left right : ArrayValue) → Result ArrayValue Report
-dyadic_plain origin (dyadic.Scalar f) a b = result_of (dyadic_answer f a b)
-dyadic_plain origin dyadic.Reshape a b = result_by (reshape_row a b)
-dyadic_plain origin dyadic.IndexOf a b = result_by (index_of_row a b origin)
-dyadic_plain origin dyadic.Member a b = result_by (member_row a b)
-dyadic_plain origin dyadic.Take a b = result_by (take_row a b)
-dyadic_plain origin dyadic.Drop a b = result_by (drop_row a b)
-dyadic_plain origin dyadic.TransposeBy a b = result_by (transpose_by_row a b origin)
-dyadic_plain origin dyadic.Decode a b = result_by (decode_row a b)
-dyadic_plain origin dyadic.Encode a b = result_by (encode_row a b)
+-- the answer of what takes no axis
+abbrev pub dyadic_plain : Origin → DyadicFunction → (left right : ArrayValue) → Result ArrayValue OpFault
+dyadic_plain origin (dyadic.Scalar f) a b = dyadic_answer f a b
+dyadic_plain origin dyadic.Reshape a b = rows.result_of (reshape_row a b)
+dyadic_plain origin dyadic.IndexOf a b = rows.result_of (index_of_row a b origin)
+dyadic_plain origin dyadic.Member a b = rows.result_of (member_row a b)
+dyadic_plain origin dyadic.Take a b = rows.result_of (take_row a b)
+dyadic_plain origin dyadic.Drop a b = rows.result_of (drop_row a b)
+dyadic_plain origin dyadic.TransposeBy a b = rows.result_of (transpose_by_row a b origin)
+dyadic_plain origin dyadic.Decode a b = rows.result_of (decode_row a b)
+dyadic_plain origin dyadic.Encode a b = rows.result_of (encode_row a b)
 
--- along an axis
-abbrev pub dyadic_along : AxisFunction → Axis → (left right : ArrayValue) → Result ArrayValue Report
-dyadic_along Catenate axis a b = result_by (catenate_row a b axis)
-dyadic_along (Rotate default) axis a b = result_by (rotate_row a b axis)
-dyadic_along (Replicate default) axis a b = result_by (replicate_row a b axis)
-dyadic_along (Expand default) axis a b = result_by (expand_row a b axis)
+-- the answer along an axis
+abbrev pub dyadic_along : AxisFunction → Axis → (left right : ArrayValue) → Result ArrayValue OpFault
+dyadic_along Catenate axis a b = rows.result_of (catenate_row a b axis)
+dyadic_along (Rotate default) axis a b = rows.result_of (rotate_row a b axis)
+dyadic_along (Replicate default) axis a b = rows.result_of (replicate_row a b axis)
+dyadic_along (Expand default) axis a b = rows.result_of (expand_row a b axis)
 
 -- of two arguments, perhaps along an axis; a tree gives none to what takes none
 unfoldable pub dyadic_result : Origin → DyadicForm → (axis : Option ArrayValue) → (left right : ArrayValue) → Result ArrayValue Report
-dyadic_result origin (two.Plain column f) axis left right = dyadic_plain origin f left right
-dyadic_result origin (two.Along column f) axis left right = along origin (function_axis f) axis (λ axis. dyadic_along f axis left right)
+dyadic_result origin (two.Plain column f) axis left right = result_of (dyadic_plain origin f left right)
+dyadic_result origin (two.Along column f) axis left right = along origin (function_axis f) axis (λ axis. result_of (dyadic_along f axis left right))
 dyadic_result origin (two.Inner left_column f dot right_column g) axis left right = result_by (inner_row f g left right)
 dyadic_result origin (two.Outer jot dot column f) axis left right = result_by (outer_row f left right)
 

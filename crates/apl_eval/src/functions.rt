@@ -143,26 +143,31 @@ impl<'a, W: Crew> Context<'a, W> {
         }
     }
 
-    /// A function of one array that takes no axis.
-    fn monadic_plain(&self, function: &MonadicFunction, b: &Array) -> Result<Array, FunctionRefusal>
-        ensures { Answers (monadic_plain self.now.workspace.now.origin function.now b.now) result }
+    /// The answer of a function of one array that takes no axis.
+    fn monadic_plain_answer(&self, function: &MonadicFunction, b: &Array) -> Result<Array, OpFault>
+        ensures { IsAnswerOf (monadic_plain self.now.workspace.now.origin function.now b.now) result }
     {
         let (rt, alloc, pool) = self.parts();
         let origin = self.workspace.origin();
         match function {
             MonadicFunction::Scalar(scalar) => {
                 let f = scalar.function();
-                result_of(apl_scalar::monadic(rt, alloc, pool, f, b))
+                apl_scalar::monadic(rt, alloc, pool, f, b)
             }
-            MonadicFunction::Shape => result_of(apl_struct::shape_of(rt, alloc, pool, b)),
-            MonadicFunction::Ravel => result_of(apl_struct::ravel(rt, alloc, pool, b)),
-            MonadicFunction::Iota => result_of(apl_struct::iota(rt, alloc, pool, b, origin)),
-            MonadicFunction::Transpose => result_of(apl_struct::transpose(rt, alloc, pool, b)),
-            MonadicFunction::GradeUp => result_of(apl_search::grade_up(rt, alloc, pool, b, origin)),
-            MonadicFunction::GradeDown => {
-                result_of(apl_search::grade_down(rt, alloc, pool, b, origin))
-            }
+            MonadicFunction::Shape => apl_struct::shape_of(rt, alloc, pool, b),
+            MonadicFunction::Ravel => apl_struct::ravel(rt, alloc, pool, b),
+            MonadicFunction::Iota => apl_struct::iota(rt, alloc, pool, b, origin),
+            MonadicFunction::Transpose => apl_struct::transpose(rt, alloc, pool, b),
+            MonadicFunction::GradeUp => apl_search::grade_up(rt, alloc, pool, b, origin),
+            MonadicFunction::GradeDown => apl_search::grade_down(rt, alloc, pool, b, origin),
         }
+    }
+
+    /// A function of one array that takes no axis.
+    fn monadic_plain(&self, function: &MonadicFunction, b: &Array) -> Result<Array, FunctionRefusal>
+        ensures { Answers (result_of (monadic_plain self.now.workspace.now.origin function.now b.now)) result }
+    {
+        result_of(self.monadic_plain_answer(function, b))
     }
 
     /// The reversal of an array along an axis.
@@ -191,6 +196,35 @@ impl<'a, W: Crew> Context<'a, W> {
         }
     }
 
+    /// The answer of a function of two arrays that takes no axis.
+    fn dyadic_plain_answer(
+        &self,
+        function: &DyadicFunction,
+        a: &Array,
+        b: &Array,
+    ) -> Result<Array, OpFault>
+        ensures { IsAnswerOf (dyadic_plain self.now.workspace.now.origin function.now a.now b.now) result }
+    {
+        let (rt, alloc, pool) = self.parts();
+        let origin = self.workspace.origin();
+        match function {
+            DyadicFunction::Scalar(scalar) => {
+                let f = scalar.function();
+                apl_scalar::dyadic(rt, alloc, pool, f, a, b)
+            }
+            DyadicFunction::Reshape => apl_struct::reshape(rt, alloc, pool, a, b),
+            DyadicFunction::IndexOf => apl_search::index_of(rt, alloc, pool, a, b, origin),
+            DyadicFunction::Member => apl_search::member(rt, alloc, pool, a, b),
+            DyadicFunction::Take => apl_struct::take(rt, alloc, pool, a, b),
+            DyadicFunction::Drop => apl_struct::drop(rt, alloc, pool, a, b),
+            DyadicFunction::TransposeBy => {
+                apl_struct::transpose_by(rt, alloc, pool, a, b, origin)
+            }
+            DyadicFunction::Decode => apl_reduce::decode(rt, alloc, pool, a, b),
+            DyadicFunction::Encode => apl_reduce::encode(rt, alloc, pool, a, b),
+        }
+    }
+
     /// A function of two arrays that takes no axis.
     fn dyadic_plain(
         &self,
@@ -198,27 +232,27 @@ impl<'a, W: Crew> Context<'a, W> {
         a: &Array,
         b: &Array,
     ) -> Result<Array, FunctionRefusal>
-        ensures { Answers (dyadic_plain self.now.workspace.now.origin function.now a.now b.now) result }
+        ensures { Answers (result_of (dyadic_plain self.now.workspace.now.origin function.now a.now b.now)) result }
+    {
+        result_of(self.dyadic_plain_answer(function, a, b))
+    }
+
+    /// The answer of a function of two arrays along an axis.
+    fn dyadic_along_answer(
+        &self,
+        function: AxisFunction,
+        axis: Axis,
+        a: &Array,
+        b: &Array,
+    ) -> Result<Array, OpFault>
+        ensures { IsAnswerOf (dyadic_along function axis a.now b.now) result }
     {
         let (rt, alloc, pool) = self.parts();
-        let origin = self.workspace.origin();
         match function {
-            DyadicFunction::Scalar(scalar) => {
-                let f = scalar.function();
-                result_of(apl_scalar::dyadic(rt, alloc, pool, f, a, b))
-            }
-            DyadicFunction::Reshape => result_of(apl_struct::reshape(rt, alloc, pool, a, b)),
-            DyadicFunction::IndexOf => {
-                result_of(apl_search::index_of(rt, alloc, pool, a, b, origin))
-            }
-            DyadicFunction::Member => result_of(apl_search::member(rt, alloc, pool, a, b)),
-            DyadicFunction::Take => result_of(apl_struct::take(rt, alloc, pool, a, b)),
-            DyadicFunction::Drop => result_of(apl_struct::drop(rt, alloc, pool, a, b)),
-            DyadicFunction::TransposeBy => {
-                result_of(apl_struct::transpose_by(rt, alloc, pool, a, b, origin))
-            }
-            DyadicFunction::Decode => result_of(apl_reduce::decode(rt, alloc, pool, a, b)),
-            DyadicFunction::Encode => result_of(apl_reduce::encode(rt, alloc, pool, a, b)),
+            AxisFunction::Catenate => apl_struct::catenate(rt, alloc, pool, a, b, axis),
+            AxisFunction::Rotate(_) => apl_struct::rotate(rt, alloc, pool, a, b, axis),
+            AxisFunction::Replicate(_) => apl_struct::compress(rt, alloc, pool, a, b, axis),
+            AxisFunction::Expand(_) => apl_struct::expand(rt, alloc, pool, a, b, axis),
         }
     }
 
@@ -230,19 +264,9 @@ impl<'a, W: Crew> Context<'a, W> {
         a: &Array,
         b: &Array,
     ) -> Result<Array, FunctionRefusal>
-        ensures { Answers (dyadic_along function axis a.now b.now) result }
+        ensures { Answers (result_of (dyadic_along function axis a.now b.now)) result }
     {
-        let (rt, alloc, pool) = self.parts();
-        match function {
-            AxisFunction::Catenate => {
-                result_of(apl_struct::catenate(rt, alloc, pool, a, b, axis))
-            }
-            AxisFunction::Rotate(_) => result_of(apl_struct::rotate(rt, alloc, pool, a, b, axis)),
-            AxisFunction::Replicate(_) => {
-                result_of(apl_struct::compress(rt, alloc, pool, a, b, axis))
-            }
-            AxisFunction::Expand(_) => result_of(apl_struct::expand(rt, alloc, pool, a, b, axis)),
-        }
+        result_of(self.dyadic_along_answer(function, axis, a, b))
     }
 
     /// The outer product of two arrays.

@@ -54,8 +54,8 @@ graded_most precedes values i =
     (λ k. omega (arith, position_most (has_before k) all, length-range_with_len 0 (length values))) all i
 
 module _ (law : RowLaw) where
-  pub index_of_within : (a b r : ArrayValue) (origin : Origin) → IsWithinLimits a → IsWithinLimits b → result_of (index_of_row a b origin) ≡ Ok r → IsWithinLimits r
-  index_of_within a b r origin g h =
+  pub index_of_within : (origin : Origin) (a b r : ArrayValue) → IsWithinLimits a → IsWithinLimits b → result_of (index_of_row a b origin) ≡ Ok r → IsWithinLimits r
+  index_of_within origin a b r g h =
       law (index_of_row a b origin) r (λ passed. h.shape)
       (λ passed index inside.
       let p : Elem → Bool = λ x. is_same_element x (element_at b index) in
@@ -65,16 +65,16 @@ module _ (law : RowLaw) where
   member_within a b r g h =
       law (member_row a b) r (λ passed. g.shape) (λ passed index inside. bit_in (list_any (λ x. is_same_element x (element_at a index)) b.ravel))
 
-  grade_within : (precedes : ℤ → ℤ → Bool) (v r : ArrayValue) (origin : Origin) → IsWithinLimits v → result_of (grade_row precedes v origin) ≡ Ok r → IsWithinLimits r
-  grade_within precedes v r origin h =
+  grade_within : (precedes : ℤ → ℤ → Bool) (origin : Origin) (v r : ArrayValue) → IsWithinLimits v → result_of (grade_row precedes v origin) ≡ Ok r → IsWithinLimits r
+  grade_within precedes origin v r h =
       law (grade_row precedes v origin) r (λ passed. h.shape)
       (λ passed index inside.
       let place = slice_index index 0 in
       natural_in (origin_number origin + slice_index (grade_of precedes (numbers_of v)) place)
       (omega (arith, origin_most origin, graded_most precedes (numbers_of v) place, length-map v.ravel number_of, h.len, h.shape.count)))
 
-  pub grade_up_within : (v r : ArrayValue) (origin : Origin) → IsWithinLimits v → result_of (grade_up_row v origin) ≡ Ok r → IsWithinLimits r
-  grade_up_within v r origin h = grade_within upwards v r origin h
+  pub grade_up_within : (origin : Origin) (v r : ArrayValue) → IsWithinLimits v → result_of (grade_up_row v origin) ≡ Ok r → IsWithinLimits r
+  grade_up_within origin v r h = grade_within upwards origin v r h
 
-  pub grade_down_within : (v r : ArrayValue) (origin : Origin) → IsWithinLimits v → result_of (grade_down_row v origin) ≡ Ok r → IsWithinLimits r
-  grade_down_within v r origin h = grade_within downwards v r origin h
+  pub grade_down_within : (origin : Origin) (v r : ArrayValue) → IsWithinLimits v → result_of (grade_down_row v origin) ≡ Ok r → IsWithinLimits r
+  grade_down_within origin v r h = grade_within downwards origin v r h

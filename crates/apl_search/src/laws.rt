@@ -18,13 +18,13 @@ pub fn one_grade()
 
 /// The answers to arguments within all limits are within all limits, whatever the origin.
 pub fn search_answers_are_within_limits()
-    ensures index_of { (a b answer : ArrayValue) (origin : Origin) → IsWithinLimits a → IsWithinLimits b
+    ensures index_of { (origin : Origin) (a b answer : ArrayValue) → IsWithinLimits a → IsWithinLimits b
         → result_of (index_of_row a b origin) ≡ Ok answer → IsWithinLimits answer }
     ensures member { (a b answer : ArrayValue) → IsWithinLimits a → IsWithinLimits b
         → result_of (member_row a b) ≡ Ok answer → IsWithinLimits answer }
-    ensures grade_up { (v answer : ArrayValue) (origin : Origin) → IsWithinLimits v
+    ensures grade_up { (origin : Origin) (v answer : ArrayValue) → IsWithinLimits v
         → result_of (grade_up_row v origin) ≡ Ok answer → IsWithinLimits answer }
-    ensures grade_down { (v answer : ArrayValue) (origin : Origin) → IsWithinLimits v
+    ensures grade_down { (origin : Origin) (v answer : ArrayValue) → IsWithinLimits v
         → result_of (grade_down_row v origin) ≡ Ok answer → IsWithinLimits answer }
 {
     answer_is_within_limits();

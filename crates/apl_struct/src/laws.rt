@@ -23,25 +23,25 @@ pub fn structural_answers_are_within_limits()
         → result_of (ravel_row b) ≡ Ok answer → IsWithinLimits answer }
     ensures reshape { (a b answer : ArrayValue) → IsWithinLimits a → IsWithinLimits b
         → result_of (reshape_row a b) ≡ Ok answer → IsWithinLimits answer }
-    ensures iota { (n answer : ArrayValue) (origin : Origin) → IsWithinLimits n
+    ensures iota { (origin : Origin) (n answer : ArrayValue) → IsWithinLimits n
         → result_of (iota_row n origin) ≡ Ok answer → IsWithinLimits answer }
-    ensures catenate { (a b answer : ArrayValue) (axis : Axis) → IsWithinLimits a → IsWithinLimits b
+    ensures catenate { (axis : Axis) (a b answer : ArrayValue) → IsWithinLimits a → IsWithinLimits b
         → result_of (catenate_row a b axis) ≡ Ok answer → IsWithinLimits answer }
     ensures take { (a b answer : ArrayValue) → IsWithinLimits a → IsWithinLimits b
         → result_of (take_row a b) ≡ Ok answer → IsWithinLimits answer }
     ensures drop { (a b answer : ArrayValue) → IsWithinLimits a → IsWithinLimits b
         → result_of (drop_row a b) ≡ Ok answer → IsWithinLimits answer }
-    ensures reverse { (b answer : ArrayValue) (axis : Axis) → IsWithinLimits b
+    ensures reverse { (axis : Axis) (b answer : ArrayValue) → IsWithinLimits b
         → result_of (reverse_row b axis) ≡ Ok answer → IsWithinLimits answer }
-    ensures rotate { (a b answer : ArrayValue) (axis : Axis) → IsWithinLimits a → IsWithinLimits b
+    ensures rotate { (axis : Axis) (a b answer : ArrayValue) → IsWithinLimits a → IsWithinLimits b
         → result_of (rotate_row a b axis) ≡ Ok answer → IsWithinLimits answer }
     ensures transpose { (b answer : ArrayValue) → IsWithinLimits b
         → result_of (transpose_row b) ≡ Ok answer → IsWithinLimits answer }
-    ensures transpose_by { (a b answer : ArrayValue) (origin : Origin) → IsWithinLimits a → IsWithinLimits b
+    ensures transpose_by { (origin : Origin) (a b answer : ArrayValue) → IsWithinLimits a → IsWithinLimits b
         → result_of (transpose_by_row a b origin) ≡ Ok answer → IsWithinLimits answer }
-    ensures replicate { (a b answer : ArrayValue) (axis : Axis) → IsWithinLimits a → IsWithinLimits b
+    ensures replicate { (axis : Axis) (a b answer : ArrayValue) → IsWithinLimits a → IsWithinLimits b
         → result_of (replicate_row a b axis) ≡ Ok answer → IsWithinLimits answer }
-    ensures expand { (a b answer : ArrayValue) (axis : Axis) → IsWithinLimits a → IsWithinLimits b
+    ensures expand { (axis : Axis) (a b answer : ArrayValue) → IsWithinLimits a → IsWithinLimits b
         → result_of (expand_row a b axis) ≡ Ok answer → IsWithinLimits answer }
     ensures select { (a answer : ArrayValue) (slots : Slots) (origin : Origin) → IsWithinLimits a
         → result_of (select_row a slots origin) ≡ Ok answer → IsWithinLimits answer }

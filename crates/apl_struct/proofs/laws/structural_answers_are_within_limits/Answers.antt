@@ -26,24 +26,24 @@ returns c =
           (λ passed index inside. natural_in (slice_index b.shape (slice_index index 0)) (omega (arith, axis_most b.shape (slice_index index 0) h.shape)));
       ravel = λ b r h. law (ravel_row b) r (λ passed. lawful_vector (size_of b) h.shape.count) (λ passed index inside. element_in_in b (slice_index index 0) h.numbers);
       reshape = λ a b r g h. law (reshape_row a b) r (λ passed. (decided _).0 passed.1.1.1.0) (λ passed index inside. element_in_in b _ h.numbers);
-      iota = λ n r origin h.
+      iota = λ origin n r h.
           law (iota_row n origin) r (λ passed. (decided _).0 passed.1.1.1.1.0)
           (λ passed index inside.
           let most = ((decided (iota_row n origin).shape).0 passed.1.1.1.1.0).axes 0 0 (omega arith) in
           natural_in (origin_number origin + slice_index index 0) (omega (arith, origin_most origin, inside.below 0 (omega arith), most)));
-      catenate = λ a b r axis g h.
+      catenate = λ axis a b r g h.
           let rank = joined_rank a b in
           let k = axis_of axis rank in
           law (catenate_row a b axis) r (λ passed. (decided _).0 passed.1.1.1.1.0)
           (λ passed index inside. catenated_in rank k (slice_index (slices_shape rank k a b) k) a b index g.numbers h.numbers);
       take = λ a b r g h. law (take_row a b) r (λ passed. (decided _).0 passed.1.1.1.1.0) (λ passed index inside. element_or_fill_in _ _ h.numbers);
       drop = λ a b r g h. law (drop_row a b) r (λ passed. (decided _).0 passed.1.1.1.1.0) (λ passed index inside. element_in_in b _ h.numbers);
-      reverse = λ b r axis h. law (reverse_row b axis) r (λ passed. h.shape) (λ passed index inside. element_at_in b _ h.numbers);
-      rotate = λ a b r axis g h. law (rotate_row a b axis) r (λ passed. h.shape) (λ passed index inside. element_at_in b _ h.numbers);
+      reverse = λ axis b r h. law (reverse_row b axis) r (λ passed. h.shape) (λ passed index inside. element_at_in b _ h.numbers);
+      rotate = λ axis a b r g h. law (rotate_row a b axis) r (λ passed. h.shape) (λ passed index inside. element_at_in b _ h.numbers);
       transpose = λ b r h.
           law (transpose_row b) r (λ passed. lawful_reverse b.shape (c.reversed_index_is_lawful.ensures.count b.shape) h.shape)
           (λ passed index inside. element_at_in b (reverse index) h.numbers);
-      transpose_by = λ a b r origin g h.
+      transpose_by = λ origin a b r g h.
           let numbers = map (from_origin origin) (numbers_of a) in
           let axes = map place_number numbers in
           law (transpose_by_row a b origin) r
@@ -53,10 +53,10 @@ returns c =
           let named = and_parts (list_all is_natural numbers) (are_all_named axes) passed.1.1.1.0 in
           lawful_transposed c.transposed_index_has_place.ensures.shape axes b.shape (long ∙ g.len ∙ same) named.1 h.shape)
           (λ passed index inside. element_at_in b _ h.numbers);
-      replicate = λ a b r axis g h.
+      replicate = λ axis a b r g h.
           law (replicate_row a b axis) r (λ passed. (decided _).0 passed.1.1.1.1.0)
           (λ passed index inside. element_at_in (as_vector (size_of a) b) _ (as_vector_in (size_of a) b h.numbers));
-      expand = λ a b r axis g h.
+      expand = λ axis a b r g h.
           let n = sum (map place_number (numbers_of a)) in
           law (expand_row a b axis) r (λ passed. (decided _).0 passed.1.1.1.1.0)
           (λ passed index inside. element_or_fill_in (as_vector n b) _ (as_vector_in n b h.numbers));
