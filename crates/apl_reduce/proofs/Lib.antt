@@ -33,6 +33,5 @@ pub mod Passing
 pub mod Distances
 pub mod Adding
 pub mod NearFolds
-pub mod Signs
 pub mod Reordered
 pub mod Examples

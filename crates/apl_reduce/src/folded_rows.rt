@@ -10,7 +10,6 @@ ghost use Rattle.apl_reduce.specs.Items.{item_in};
 use crate::folding::{element_at, fold_step};
 use crate::line_folds::Foldable;
 use crate::run_folds::adds;
-use crate::wrapped::wrapped;
 use apl_answer::ElementType;
 use apl_pool::Fault;
 use apl_scalar::dyadic_elements;
@@ -88,13 +87,13 @@ fn add_row<F: Function>(row: &[i64], totals: &mut [i64]) -> bool
     ensures values { result ≡ true → AreWritten (λ j. number_step F.FUNCTION (item_in (map Int row.now) j) (Ok (slice_index_or totals.old j (pos 0)))) 0 (length totals.old) totals.new }
     ensures len { length totals.new ≡ length totals.old }
 {
-    let mut doubt = 0;
+    let mut all_doubts = 0;
     for j in 0..totals.len() {
-        let (total, doubt_here) = wrapped::<F>(row[j], totals[j]);
+        let (total, doubts) = F::likely(row[j], totals[j]);
         put(totals, j, total);
-        doubt |= doubt_here;
+        all_doubts |= doubts;
     }
-    doubt < 1 << 63
+    all_doubts == 0
 }
 
 /// Folds the items of one more row on the left into the totals, one by one. It says whether no place has a fault.

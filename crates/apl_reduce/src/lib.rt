@@ -36,7 +36,6 @@ mod run_folds;
 mod shapes;
 mod sharing;
 mod sums;
-mod wrapped;
 
 pub use decoding::decode;
 pub use digit_laws::{digits_are_the_only_ones, value_is_sum_of_place_values};

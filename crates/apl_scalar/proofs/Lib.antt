@@ -1,5 +1,6 @@
 pub mod Exact
 pub mod Bits
+pub mod Signs
 pub mod Counting
 pub mod Powers
 pub mod Residues

@@ -1,6 +1,6 @@
 //! Exact arithmetic, refused only if the exact result leaves the range. No loop runs once for
 //! each unit of a large number.
-ghost use Rattle.std.specs.Prelude.{◌≡◌, true, Ok, pos, negsuc, ◌*ℤ◌, FitsSigned, unsigned_abs, ◌+◌, ◌%◌, ◌^◌, ◌<◌, ◌≤◌, ◌==◌, if◌then◌else◌};
+ghost use Rattle.std.specs.Prelude.{◌≡◌, true, Ok, pos, negsuc, ◌+ℤ◌, ◌-ℤ◌, ◌*ℤ◌, FitsSigned, unsigned_abs, ◌+◌, ◌%◌, ◌^◌, ◌<◌, ◌≤◌, ◌==◌, if◌then◌else◌};
 ghost use Rattle.std.specs.Int.{int_pow, int_signum, w32};
 ghost use Rattle.apl_scalar.specs.Arithmetic.{factorial, binomial, residue};
 ghost use Rattle.apl_scalar.specs.Scalar.{exact, reciprocal, quotient, power, factorial_of, combinations};
@@ -31,15 +31,38 @@ pub(crate) fn product(x: i64, y: i64) -> Result<i64, Fault>
     limited(x.checked_mul(y))
 }
 
-/// The value and no doubts, or else the other number and all bits. If the other number is computed as the value is, nothing is chosen.
+/// The value and no doubts, or else 0 and all bits.
 #[inline(always)]
-pub(crate) fn likely_value(outcome: Result<i64, Fault>, other: i64) -> (i64, u64)
+pub(crate) fn likely_value(outcome: Result<i64, Fault>) -> (i64, u64)
     ensures { result.1 ≡ 0 → outcome ≡ Ok result.0 }
 {
     match outcome {
         Ok(value) => (value, 0),
-        Err(_) => (other, u64::MAX),
+        Err(_) => (0, u64::MAX),
     }
+}
+
+/// `x` plus `y`, wrapped, and doubts if it leaves the range. Then its sign is that of neither number.
+#[inline(always)]
+pub(crate) fn likely_sum(x: i64, y: i64) -> (i64, u64)
+    ensures { result.1 ≡ 0 → exact (x +ℤ y) ≡ Ok result.0 }
+{
+    range_is_decided();
+    let (left, right) = (x.cast_unsigned(), y.cast_unsigned());
+    let sum = left.wrapping_add(right);
+    (sum.cast_signed(), ((left ^ sum) & (right ^ sum)) >> 63)
+}
+
+/// `x` minus `y`, wrapped, and doubts if it leaves the range. Then the signs of both numbers differ, and its sign is not that of `x`.
+#[inline(always)]
+pub(crate) fn likely_difference(x: i64, y: i64) -> (i64, u64)
+    ensures { result.1 ≡ 0 → exact (x -ℤ y) ≡ Ok result.0 }
+{
+    range_is_decided();
+    let (left, right) = (x.cast_unsigned(), y.cast_unsigned());
+    let difference = left.wrapping_sub(right);
+    let doubts = (left ^ right) & (left ^ difference);
+    (difference.cast_signed(), doubts >> 63)
 }
 
 /// The number that the lower 32 bits of `x` are.

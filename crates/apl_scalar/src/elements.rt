@@ -40,7 +40,7 @@ pub(crate) fn likely_elements<F: Function>(x: Elem, y: Elem) -> (i64, u64)
 {
     match (x, y) {
         (Elem::Int(x), Elem::Int(y)) => F::likely(x, y),
-        (x, y) => likely_value(dyadic_elements::<F>(x, y), 0),
+        (x, y) => likely_value(dyadic_elements::<F>(x, y)),
     }
 }
 

@@ -3,8 +3,8 @@
 ghost use Rattle.apl_scalar.specs.Scalar.{bit};
 
 use crate::arithmetic::{
-    combinations, factorial, likely_magnitude, likely_product, likely_value, limited, power,
-    product, quotient, reciprocal, residue, sign,
+    combinations, factorial, likely_difference, likely_magnitude, likely_product, likely_sum,
+    likely_value, limited, power, product, quotient, reciprocal, residue, sign,
 };
 use crate::truth::{
     and, bit, likely_and, likely_nand, likely_negation, likely_nor, likely_or, nand, negation, nor,
@@ -42,7 +42,7 @@ pub trait Function {
     fn likely(left: i64, right: i64) -> (i64, u64)
         ensures { result.1 ≡ 0 → dyadic_numbers FUNCTION left right ≡ Ok result.0 }
     {
-        likely_value(Self::apply(left, right), 0)
+        likely_value(Self::apply(left, right))
     }
 
     /// A likely result of the monadic function, and the doubts whether it is the result. It takes no memory.
@@ -50,7 +50,7 @@ pub trait Function {
     fn likely_monadic(right: i64) -> (i64, u64)
         ensures { result.1 ≡ 0 → monadic_number FUNCTION right ≡ Ok result.0 }
     {
-        likely_value(Self::apply_monadic(right), 0)
+        likely_value(Self::apply_monadic(right))
     }
 }
 
@@ -139,7 +139,7 @@ impl Function for Plus {
 
     #[inline(always)]
     fn likely(left: i64, right: i64) -> (i64, u64) {
-        likely_value(Self::apply(left, right), left.wrapping_add(right))
+        likely_sum(left, right)
     }
 }
 
@@ -170,7 +170,7 @@ impl Function for Minus {
 
     #[inline(always)]
     fn likely(left: i64, right: i64) -> (i64, u64) {
-        likely_value(Self::apply(left, right), left.wrapping_sub(right))
+        likely_difference(left, right)
     }
 }
 

@@ -17,21 +17,21 @@ loop-j-preserved g c =
     let j = c.loop-j.j in
     let x = slice_index_or row j (pos 0) in
     let t = slice_index_or totals j (pos 0) in
-    let next = c.wrapped-total.result in
+    let next = c.likely-total.result in
     let kept : to_z w64 (of_z w64 next.0) ≡ next.0 = search rules in
     let fits_x : FitsSigned w64 x = search rules in
     let fits_t : FitsSigned w64 t = search rules in
     let before = c.loop-j.invariant.rest j (omega arith) in
     record {
-      values = λ low.
-          let doubt_low : c.loop-j.doubt < 2 ^ 63 = omega (arith, le_or_l c.loop-j.doubt next.1) in
-          let own_low : next.1 < 2 ^ 63 = omega (arith, le_or_r c.loop-j.doubt next.1) in
+      values = λ none.
+          let before_none : c.loop-j.all_doubts ≡ 0 = omega (arith, none, le_or_l c.loop-j.all_doubts next.1) in
+          let own_none : next.1 ≡ 0 = omega (arith, none, le_or_r c.loop-j.all_doubts next.1) in
           let is = ap (λ e. number_step f e (Ok (slice_index_or c.args.totals.now j (pos 0)))) (get_or-map Int row j (pos 0))
           ∙ ap (dyadic_numbers f x) (sym before)
           ∙ ap (λ z. dyadic_numbers f z t) (sym (to_z-of_z w64 x fits_x))
           ∙ ap (dyadic_numbers f (to_z w64 (of_z w64 x))) (sym (to_z-of_z w64 t fits_t))
-          ∙ c.wrapped-total.ensures own_low in
-          rw (c.put.ensures, kept) (written_more _ j _ _ (omega arith) (c.loop-j.invariant.values doubt_low) is);
+          ∙ c.likely-total.ensures own_none in
+          rw (c.put.ensures, kept) (written_more _ j _ _ (omega arith) (c.loop-j.invariant.values before_none) is);
       len = search rules;
       rest = λ i above. rw (c.put.ensures, kept) (get_or-set_other totals j i next.0 (pos 0) (λ same. absurd (omega (arith, same, above))) ∙ c.loop-j.invariant.rest i (omega (arith, above)));
     }
