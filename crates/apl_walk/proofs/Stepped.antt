@@ -1,29 +1,17 @@
 -- The elements that the indexes of an axis take.
 use Rattle.std.proofs.Common.{◌≡◌, ℕ, ◌+◌, ◌-◌, ◌*◌, ◌/◌, ◌<◌, ◌≤◌, List, length, slice_index_or, drop, refl, sym, ap, ◌∙◌, arith, inl, inr, rules, take, div-add-mod', mul-le-mul_right, lt_of_mul-lt-mul_right}
 use Rattle.std.specs.Prelude.{min, Option, Some, None}
-use Rattle.std.proofs.lemmas.List.{get_or_default, get_or_past, places}
+use Rattle.std.proofs.lemmas.List.{get_or_default, places}
 use Rattle.std.proofs.lemmas.Bool.Decides.{nat_tests}
 use Rattle.std.proofs.lemmas.Bool.{le-leb, le-ltb, lt-leb, lt-ltb, cases_lt}
 use Rattle.apl_walk.specs.declared.map.TheConstants.{MOST_STEP}
 use Rattle.apl_walk.specs.declared.window.Window.{Window}
 use Rattle.apl_walk.specs.Gathered.{value_or}
-use Rattle.apl_walk.specs.Steps.{and_step, window_step, reversed_step, rotated_step, repeated_step, wrapped, BeginsWith}
+use Rattle.apl_walk.specs.Steps.{window_step, reversed_step, rotated_step, repeated_step, wrapped, BeginsWith}
 
 -- what is left of a list from a place on
 rest_at : {T : Type 0} (xs : List T) (a k : ℕ) (d : T) → slice_index_or (take (length xs - a) (drop a xs)) k d ≡ slice_index_or xs (a + k) d
 rest_at xs a k d = search (rules, places)
-
--- a line that begins at a place, also past the last element
-pub value_after : {T : Type 0} (elements : List T) (fill : T) (base begin : ℕ) (step start : Option ℕ) → Some base ≡ start → begin ≡ min base (length elements)
-    → value_or elements fill (and_step step start) ≡ value_or (take (length elements - begin) (drop begin elements)) fill step
-value_after elements fill base begin None start there is = refl
-value_after elements fill base begin (Some s) start there is =
-    ap (λ n. value_or elements fill (and_step (Some s) n)) (sym there)
-    ∙ elim (cases_lt base (length elements)) [
-      | inl inside ↦ ap (λ p. slice_index_or elements p fill) (omega (arith, is, inside))
-      | inr far ↦ get_or_past elements (s + base) fill (omega (arith, far)) ∙ sym (get_or_past elements (begin + s) fill (omega (arith, is, far)))
-    ]
-    ∙ sym (rest_at elements begin s fill)
 
 -- a room with the elements that some indexes take
 pub values_taken : {T : Type 0} (line room : List T) (fill : T) (step : ℕ → Option ℕ) (place : ℕ → ℕ) (count : ℕ)

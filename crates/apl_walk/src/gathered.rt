@@ -10,7 +10,7 @@ ghost use Rattle.apl_walk.specs.Maps.{extent_of, walked};
 ghost use Rattle.apl_walk.specs.Steps.{and_step};
 ghost use Rattle.apl_walk.specs.Walks.{maps_of};
 
-use crate::fronts::{element_or, write_same};
+use crate::fronts::{element_or, write_each, write_same};
 use crate::lined::{ByLines, Lined};
 use crate::map::AxisMap;
 use crate::maps::{MOST_MAPS, Map, start_at, with_kind};
@@ -92,10 +92,14 @@ impl<T: ElementType, M: AxisMap> Lined for Gathered<'_, T, M> {
         };
         let rest = &self.elements[start.min(self.elements.len())..];
         if self.last.reach() < rest.len() {
-            self.last.write_line(rest, from, count, self.fill, room);
-        } else {
-            self.last.write_steps(rest, from, count, self.fill, room);
+            return self.last.write_line(rest, from, count, self.fill, room);
         }
+        let element = |k: usize| -> T
+            requires line { line ≤ MOST_PLACES }
+            requires index { from + k < M.extent self.now.last }
+            ensures { result ≡ value_or self.entry.now.elements.now self.entry.now.fill (and_step (M.step self.entry.now.last (from + k)) (walked self.entry.now.outer.now line)) }
+        { self.at(line, from + k) };
+        write_each(count, element, room);
     }
 }
 

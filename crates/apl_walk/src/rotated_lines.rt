@@ -3,7 +3,7 @@ ghost use Rattle.std.specs.Prelude.{◌≡◌, ℕ, ◌+◌, ◌*◌, ◌<◌, �
 ghost use Rattle.apl_pool.specs.declared.kernel.TheConstants.{MOST_PLACES};
 ghost use Rattle.apl_walk.specs.Steps.{wrapped, rotated_place, rotated_column};
 
-use crate::fronts::{element_or, write_or};
+use crate::fronts::{element_or, write_each, write_or};
 use crate::lined::Lined;
 use crate::turned::counted_round;
 use apl_divisor::Divisor;
@@ -135,8 +135,13 @@ impl<T: Copy> Lined for RotatedColumns<'_, T> {
     fn write(&self, row: usize, from: usize, count: usize, room: &mut [T]) {
         let outer = self.length.quotient(row);
         let index = self.length.remainder(row);
-        for k in 0..count {
-            room[k] = self.at_column(outer, index, from + k);
-        }
+        let element = |k: usize| -> T
+            requires outer { outer * self.now.rotations.length ≤ MOST_PLACES }
+            requires index { index < self.now.rotations.length }
+            requires column { from + k < self.now.inner }
+            ensures { result ≡ slice_index_or self.entry.now.elements.now
+                (rotated_place self.entry.now.rotations.length self.entry.now.rotations.by.now outer (outer * self.entry.now.inner + (from + k)) index * self.entry.now.inner + (from + k)) self.entry.now.past }
+        { self.at_column(outer, index, from + k) };
+        write_each(count, element, room);
     }
 }
