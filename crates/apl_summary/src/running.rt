@@ -1,8 +1,9 @@
 //! Numbers after others, each folded with all before it.
-ghost use Rattle.std.specs.Prelude.{◌≡◌, ◌≤◌, ℕ, ℤ, List, [], ◌∷◌, ◌++◌, Result, Ok, IfSome, length, vec_len, vec_capacity};
+ghost use Rattle.std.specs.Prelude.{◌≡◌, ◌≤◌, ◌+◌, ℕ, ℤ, List, [], ◌∷◌, ◌++◌, Result, Ok, IfOk, IfErr, IfSome, length, take, vec_len, vec_capacity};
 ghost use Rattle.apl_pool.specs.declared.kernel.Fault.{Fault};
 ghost use Rattle.apl_pool.specs.Summaries.{fold_onto};
 ghost use Rattle.apl_summary.specs.Running.{AreFoldsBehind, AreFoldsAfter};
+ghost use Rattle.apl_summary.specs.Fronts.{AreMoreFolds, IsFrontBehind};
 
 use apl_pool::{Fault, Summary};
 
@@ -46,6 +47,40 @@ pub trait PrefixState: Sized {
         ensures front { IfSome result (λ next. (xs : List ℤ) → is_of self.now xs → is_of next.1 (xs ++ number ∷ [])) };
 }
 
+/// How many numbers are folded in one turn of a loop.
+const TURN: usize = 4;
+
+/// Puts the folds of all numbers up to each of `count` from a place on. It answers the front of all of these, or else how many folds the
+/// room has before the first that the front can't tell.
+#[inline(always)]
+fn scan_some<F: PrefixState + Drop>(
+    front: F,
+    numbers: &[i64],
+    room: &mut [i64],
+    from: usize,
+    count: usize,
+) -> Result<F, usize>
+    requires numbers { length numbers.now ≡ length room.old }
+    requires places { from + count ≤ length room.old }
+    ensures front { IfOk result (λ next. IsFrontBehind F.is_of front numbers.now from (from + count) next) }
+    ensures folds { IfOk result (λ next. AreMoreFolds F.step F.is_of front numbers.now from room.old (from + count) room.new) }
+    ensures most { IfErr result (λ done. done ≤ length room.old) }
+    ensures put { IfErr result (λ done. AreMoreFolds F.step F.is_of front numbers.now from room.old done room.new) }
+    ensures len { length room.new ≡ length room.old }
+{
+    let mut front = front;
+    for offset in 0..count {
+        match front.with(numbers[from + offset]) {
+            Some((value, next)) => {
+                room[from + offset] = value;
+                front = next;
+            }
+            None => return Err(from + offset),
+        }
+    }
+    Ok(front)
+}
+
 /// Puts into the room the folds of all numbers up to each of these, and answers how many it put. It stops
 /// before the first that the front can't tell.
 #[inline(always)]
@@ -56,16 +91,46 @@ pub fn scan_run_after<F: PrefixState + Drop>(front: F, numbers: &[i64], room: &m
     ensures len { length room.new ≡ length room.old }
 {
     let mut front = front;
-    for k in 0..room.len() {
-        match front.with(numbers[k]) {
-            Some((value, next)) => {
-                room[k] = value;
-                front = next;
-            }
-            None => return k,
+    for turn in 0..room.len() / TURN {
+        match scan_some(front, numbers, room, turn * TURN, TURN) {
+            Ok(next) => front = next,
+            Err(done) => return done,
         }
     }
-    room.len()
+    let rest = room.len() % TURN;
+    match scan_some(front, numbers, room, room.len() - rest, rest) {
+        Ok(_) => room.len(),
+        Err(done) => done,
+    }
+}
+
+/// Appends the folds of all numbers up to each of the next `count`. It answers the front of all of these, or none if it stopped before the
+/// first that the front can't tell.
+#[inline(always)]
+fn append_some<F: PrefixState + Drop>(
+    front: F,
+    numbers: &[i64],
+    values: &mut Vec<i64>,
+    count: usize,
+) -> Option<F>
+    requires places { vec_len values.old + count ≤ length numbers.now }
+    requires room { vec_len values.old + count ≤ vec_capacity values.old }
+    requires front { F.is_of front (take (vec_len values.old) numbers.now) }
+    requires folds { AreFoldsBehind F.step [] numbers.now (vec_len values.old) values.old.items }
+    ensures all { IfSome result (λ next. vec_len values.new ≡ vec_len values.old + count) }
+    ensures most { vec_len values.new ≤ vec_len values.old + count }
+    ensures front { IfSome result (λ next. F.is_of next (take (vec_len values.new) numbers.now)) }
+    ensures folds { AreFoldsBehind F.step [] numbers.now (vec_len values.new) values.new.items }
+    ensures capacity { vec_capacity values.new ≡ vec_capacity values.old }
+{
+    let from = values.len();
+    let mut state = front;
+    for offset in 0..count {
+        let (value, next) = state.with(numbers[from + offset])?;
+        values.push_reserved(value);
+        state = next;
+    }
+    Some(state)
 }
 
 /// Puts the folds of all numbers up to each into a list that is empty and has room for them. The front is of no
@@ -83,16 +148,14 @@ pub fn append_scan_after<F: PrefixState + Drop>(
     ensures folds { AreFoldsBehind F.step [] numbers.now (vec_len result) result.items }
     ensures capacity { vec_capacity result ≡ vec_capacity values }
 {
-    let mut state = front;
+    let mut front = front;
     let mut values = values;
-    for k in 0..numbers.len() {
-        match state.with(numbers[k]) {
-            Some((value, next)) => {
-                values.push_reserved(value);
-                state = next;
-            }
+    for _turn in 0..numbers.len() / TURN {
+        match append_some(front, numbers, &mut values, TURN) {
+            Some(next) => front = next,
             None => return values,
         }
     }
+    let _all = append_some(front, numbers, &mut values, numbers.len() % TURN);
     values
 }

@@ -1,11 +1,11 @@
-use Rattle.std.proofs.Common.{◌≡◌, [], take, length, vec_capacity}
+use Rattle.std.proofs.Common.{◌≡◌, ◌*◌, [], take, vec_len, vec_capacity}
 use Rattle.apl_summary.specs.Running.{AreFoldsBehind}
 use Rattle.apl_summary.proofs.running.append_scan_after.Given as goal
 
-abbrev pub invariant-loop-k : goal.invariant-loop-k
-invariant-loop-k g l = record {
-  state : g.F.PrefixState.is_of l.state (take l.k l.numbers);
-  folds : AreFoldsBehind g.F.PrefixState.step [] l.numbers l.k l.values.items;
-  len : length l.values.items ≡ l.k;
+abbrev pub invariant-loop-turn : goal.invariant-loop-turn
+invariant-loop-turn g l = record {
+  front : g.F.PrefixState.is_of l.front (take (vec_len l.values) l.numbers);
+  folds : AreFoldsBehind g.F.PrefixState.step [] l.numbers (vec_len l.values) l.values.items;
+  len : vec_len l.values ≡ l._turn * 4;
   capacity : vec_capacity l.values ≡ vec_capacity l.initial.values;
 }
