@@ -33,5 +33,6 @@ pub mod Passing
 pub mod Distances
 pub mod Adding
 pub mod NearFolds
+pub mod BitFolds
 pub mod Reordered
 pub mod Examples

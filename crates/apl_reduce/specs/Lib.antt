@@ -9,6 +9,7 @@ pub mod Encoding
 pub mod Digits
 pub mod Filled
 pub mod Folded
+pub mod BitFolds
 pub mod Fronts
 pub mod Carrying
 pub mod Items

@@ -9,7 +9,7 @@ ghost use Rattle.apl_reduce.specs.Items.{item_in};
 
 use crate::folding::{element_at, fold_step};
 use crate::line_folds::Foldable;
-use crate::run_folds::adds;
+use crate::run_folds::has_quick_runs;
 use apl_answer::ElementType;
 use apl_pool::Fault;
 use apl_scalar::dyadic_elements;
@@ -79,10 +79,10 @@ pub(crate) fn fold_last_rows<F: Function, T: ElementType>(
     true
 }
 
-/// Folds the numbers of one more row on the left into the totals, by `+` or `-`. It says whether all results are in the range. The loop
-/// has no branches, and a processor does several places at once.
+/// Folds the numbers of one more row on the left into the totals, by `+ - ∧ ∨`. It says whether all results are sure. The loop has no
+/// branches, and a processor does several places at once.
 #[inline(always)]
-fn add_row<F: Function>(row: &[i64], totals: &mut [i64]) -> bool
+fn fold_likely<F: Function>(row: &[i64], totals: &mut [i64]) -> bool
     requires { length totals.old ≤ length row.now }
     ensures values { result ≡ true → AreWritten (λ j. number_step F.FUNCTION (item_in (map Int row.now) j) (Ok (slice_index_or totals.old j (pos 0)))) 0 (length totals.old) totals.new }
     ensures len { length totals.new ≡ length totals.old }
@@ -120,7 +120,7 @@ fn fold_row<F: Function, T: Foldable>(row: &[T], totals: &mut [i64]) -> bool
     ensures len { length totals.new ≡ length totals.old }
 {
     match T::numbers(row) {
-        Some(numbers) if adds::<F>() => add_row::<F>(numbers, totals),
+        Some(numbers) if has_quick_runs::<F>() => fold_likely::<F>(numbers, totals),
         _ => fold_each::<F, T>(row, totals),
     }
 }

@@ -8,6 +8,7 @@
 #![tactic(auto)]
 
 mod axis_items;
+mod bit_folds;
 mod carry_divisor;
 mod carrying;
 mod columns;

@@ -4,7 +4,7 @@ ghost use Rattle.apl_pool.specs.declared.kernel.TheConstants.{MOST_PLACES};
 ghost use Rattle.apl_reduce.specs.Folded.{folded, element_along};
 
 use crate::folding::{element_at, fold_items};
-use crate::run_folds::{adds, fold_neighbours};
+use crate::run_folds::{fold_neighbours, has_quick_runs};
 use apl_answer::ElementType;
 use apl_pool::Fault;
 use apl_scalar::dyadic_elements;
@@ -55,7 +55,7 @@ pub(crate) fn fold_along<F: Function, T: Foldable>(
         Err(fault) => return Err(fault),
     };
     match T::numbers(elements) {
-        Some(numbers) if stride == 1 && adds::<F>() => {
+        Some(numbers) if stride == 1 && has_quick_runs::<F>() => {
             fold_neighbours::<F>(numbers, first, more, total)
         }
         _ => fold_items::<F, T>(elements, first, stride, more, total),

@@ -1,4 +1,4 @@
-//! Right folds of neighbouring numbers by `+` and by `-`, run by run from the last one.
+//! Right folds of neighbouring numbers by `+ - ∧ ∨`, run by run from the last one.
 ghost use Rattle.std.specs.Prelude.{◌≡◌, ◌+◌, ◌*◌, ◌<◌, ◌≤◌, IfSome, Ok, length, map};
 ghost use Rattle.apl_array.specs.declared.array.Elem.TheVariants.{Int};
 ghost use Rattle.apl_pool.specs.declared.kernel.TheConstants.{MOST_PLACES};
@@ -6,6 +6,7 @@ ghost use Rattle.apl_reduce.specs.declared.near_sums.TheConstants.{MOST_PAIRS};
 ghost use Rattle.apl_reduce.specs.Folded.{folded_onto};
 ghost use Rattle.apl_reduce.specs.Items.{item_in};
 
+use crate::bit_folds::bit_fold;
 use crate::folding::fold_items;
 use crate::near_sums::{MOST_PAIRS, pair_sums};
 use apl_array::{ScalarFunction, range_is_decided};
@@ -17,7 +18,7 @@ const NEAR_TOTAL: u64 = 1 << 62;
 
 /// Whether folds by the function are sums and differences of the items.
 #[inline(always)]
-pub(crate) fn adds<F: Function>() -> bool {
+fn adds<F: Function>() -> bool {
     matches!(F::FUNCTION, ScalarFunction::Plus | ScalarFunction::Minus)
 }
 
@@ -41,6 +42,26 @@ fn near_fold<F: Function>(numbers: &[i64], first: usize, pairs: usize, total: i6
     }
 }
 
+/// Whether folds by the function are made of several numbers at once, without a branch at each.
+#[inline(always)]
+pub(crate) fn has_quick_runs<F: Function>() -> bool {
+    adds::<F>() || matches!(F::FUNCTION, ScalarFunction::And | ScalarFunction::Or)
+}
+
+/// The fold of pairs of neighbours onto a total at once, unless it is in doubt.
+#[inline(always)]
+fn quick_fold<F: Function>(numbers: &[i64], first: usize, pairs: usize, total: i64) -> Option<i64>
+    requires within { first + 2 * pairs ≤ length numbers.now }
+    requires few { pairs ≤ MOST_PAIRS }
+    ensures { IfSome result (λ z. folded_onto F.FUNCTION (item_in (map Int numbers.now)) first (2 * pairs) (Ok total) ≡ Ok z) }
+{
+    if adds::<F>() {
+        near_fold::<F>(numbers, first, pairs, total)
+    } else {
+        bit_fold::<F>(numbers, first, 2 * pairs, total)
+    }
+}
+
 /// The fold of pairs of neighbours onto a total: at once, or item by item if it is in doubt.
 #[inline(always)]
 fn fold_pairs<F: Function>(
@@ -54,7 +75,7 @@ fn fold_pairs<F: Function>(
     requires most { length numbers.now ≤ MOST_PLACES }
     ensures { result ≡ folded_onto F.FUNCTION (item_in (map Int numbers.now)) first (2 * pairs) (Ok total) }
 {
-    match near_fold::<F>(numbers, first, pairs, total) {
+    match quick_fold::<F>(numbers, first, pairs, total) {
         Some(folded) => Ok(folded),
         None => fold_items::<F, i64>(numbers, first, 1, 2 * pairs, total),
     }

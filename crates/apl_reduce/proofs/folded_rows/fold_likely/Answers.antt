@@ -7,7 +7,7 @@ use Rattle.apl_array.specs.declared.array.Elem.TheVariants.{Int}
 use Rattle.apl_scalar.specs.Scalar.{dyadic_numbers}
 use Rattle.apl_reduce.specs.Folded.{number_step}
 use Rattle.apl_reduce.proofs.Runs.{written_more}
-use Rattle.apl_reduce.proofs.folded_rows.add_row.Goals as goal
+use Rattle.apl_reduce.proofs.folded_rows.fold_likely.Goals as goal
 
 pub loop-j-preserved : goal.loop-j-preserved
 loop-j-preserved g c =

@@ -3,7 +3,7 @@ use Rattle.apl_array.specs.declared.array.Elem.TheVariants.{Int}
 use Rattle.apl_pool.specs.Runs.{AreWritten}
 use Rattle.apl_reduce.specs.Folded.{number_step}
 use Rattle.apl_reduce.specs.Items.{item_in}
-use Rattle.apl_reduce.proofs.folded_rows.add_row.Given as goal
+use Rattle.apl_reduce.proofs.folded_rows.fold_likely.Given as goal
 
 abbrev pub invariant-loop-j : goal.invariant-loop-j
 invariant-loop-j g l = record {
