@@ -12,7 +12,7 @@ use Rattle.apl_array.specs.declared.array.Elem.{Elem}
 use Rattle.apl_search.specs.declared.sorting.Placed.{Placed}
 use Rattle.apl_search.specs.Ordering.{upwards}
 use Rattle.apl_search.specs.Searching.{is_same_element}
-use Rattle.apl_search.specs.Finding.{first_place}
+use Rattle.apl_search.specs.Finding.{element_of, first_place}
 use Rattle.apl_search.specs.Sorting.{places_of, AreInOrder}
 use Rattle.apl_search.proofs.Grades.{false_of}
 use Rattle.apl_search.proofs.Orders.{upwards_is_strict, ordered_in_grade, int_lt-irrefl, int_lt-trans}
@@ -117,3 +117,8 @@ module _ {T : Type 0} (elem_of : T → Elem) (key : T → ℤ) (decides : (x y :
   pub place_by_key : (xs : List T) (x : T) → first_place (map elem_of xs) (elem_of x) ≡ position_or_len (λ v. int_eq v (key x)) (map key xs)
   place_by_key [] x = refl
   place_by_key (y ∷ ys) x = rw (decides y x, place_by_key ys x) refl
+
+  pub place_at_key : (list xs : List T) (k : ℕ) → k < length xs → first_place (map elem_of list) (element_of (map elem_of xs) k) ≡ position_or_len (λ v. int_eq v (get_or (map key xs) k (pos 0))) (map key list)
+  place_at_key list [] k inside = absurd (omega arith)
+  place_at_key list (x ∷ xs) zero inside = place_by_key list x
+  place_at_key list (x ∷ xs) (suc k) inside = place_at_key list xs k (omega arith)

@@ -7,5 +7,6 @@ pub mod InOrder
 pub mod Packed
 pub mod SearchLimits
 pub mod FirstPlaces
+pub mod Tables
 pub mod Searches
 pub mod Origins

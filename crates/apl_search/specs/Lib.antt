@@ -1,4 +1,5 @@
 pub mod Searching
 pub mod Ordering
 pub mod Sorting
+pub mod Tables
 pub mod Finding

@@ -1,11 +1,15 @@
 //! Where an element first is in a list.
-ghost use Rattle.std.specs.Prelude.{◌≡◌, ◌<◌, ◌≤◌, All, length, map, IfOk};
+ghost use Rattle.std.specs.Prelude.{◌≡◌, ℤ, pos, ◌<◌, ◌≤◌, ◌^◌, List, Ok, length, map, IfOk};
 ghost use Rattle.apl_pool.specs.declared.kernel.TheConstants.{MOST_PLACES};
-ghost use Rattle.apl_search.specs.Finding.{first_place};
+ghost use Rattle.apl_pool.specs.Runs.{AreWritten};
+ghost use Rattle.apl_search.specs.Finding.{element_of, first_place, ArePlaces};
 ghost use Rattle.apl_search.specs.Ordering.{upwards};
 ghost use Rattle.apl_search.specs.Sorting.{AreInOrder};
+ghost use Rattle.apl_search.specs.Tables.{place_of};
 
+use crate::replies::{Reply, write_replies};
 use crate::sorting::{Keyed, Placed, Upwards, in_order};
+use crate::table::Table;
 use apl_answer::ElementType;
 use std::alloc::{AllocError, Global};
 
@@ -27,25 +31,75 @@ impl Searchable for char {
     fn key_decides() {}
 }
 
-/// A list whose elements are found in their order.
+/// The first places of a list's numbers.
 #[derive(Drop)]
-pub(crate) struct Sorted<'a, T: Searchable> {
-    elements: &'a [T],
-    placed: Vec<Placed>,
-    ghost most: { length elements.now ≤ MOST_PLACES },
-    ghost count: { length placed.items ≡ length elements.now },
-    ghost ordered: { ∥ AreInOrder upwards (map T.key elements.now) placed.items ∥₁ },
-    ghost below: { All (λ p. p.place < length elements.now) placed.items },
+pub(crate) enum Places {
+    /// In a table, where the numbers span little.
+    InTable(Table),
+    /// Beside the numbers in their order.
+    InOrder(Vec<Placed>),
 }
 
-impl<'a, T: Searchable> Sorted<'a, T> {
-    /// The list, with its elements' places in the order of their numbers.
-    pub(crate) fn new(alloc: Global, elements: &'a [T]) -> Result<Self, AllocError>
-        requires { length elements.now ≤ MOST_PLACES }
+/// The first place of a number, by halving.
+fn place_in_order(placed: &[Placed], number: i64) -> usize
+    ensures { (numbers : List ℤ) → AreInOrder upwards numbers placed.now → result ≡ place_of numbers number }
+{
+    let first = placed.partition_point(|p| p.value < number);
+    let Some(found) = placed.get(first) else {
+        return placed.len();
+    };
+    if found.value == number {
+        found.place
+    } else {
+        placed.len()
+    }
+}
+
+impl Places {
+    /// The places of a list's numbers: in a table if these span less than `most`.
+    fn new<T: Keyed>(alloc: Global, elements: &[T], most: u64) -> Result<Places, AllocError>
+        requires count { length elements.now ≤ MOST_PLACES }
+        requires most { most < 2 ^ 34 }
+        ensures { IfOk result (ArePlaces (map T.key elements.now)) }
+    {
+        if let Some(table) = Table::new(alloc, elements, most)? {
+            return Ok(Places::InTable(table));
+        }
+        let placed = in_order::<Upwards, T>(alloc, elements)?;
+        Ok(Places::InOrder(placed))
+    }
+
+    /// The first place of a number.
+    #[inline(always)]
+    fn first(&self, number: i64) -> usize
+        ensures { (numbers : List ℤ) → ArePlaces numbers self.now → result ≡ place_of numbers number }
+    {
+        match self {
+            Places::InTable(table) => table.entries().place(number),
+            Places::InOrder(placed) => place_in_order(placed, number),
+        }
+    }
+}
+
+/// A list whose elements are found by their numbers.
+#[derive(Drop)]
+pub(crate) struct Finder<'a, T: Searchable> {
+    elements: &'a [T],
+    places: Places,
+    ghost most: { length elements.now ≤ MOST_PLACES },
+    ghost places_of: { ∥ ArePlaces (map T.key elements.now) places ∥₁ },
+}
+
+impl<'a, T: Searchable> Finder<'a, T> {
+    /// The list, for so many elements that are looked for in it.
+    pub(crate) fn new(alloc: Global, elements: &'a [T], searched: usize) -> Result<Self, AllocError>
+        requires count { length elements.now ≤ MOST_PLACES }
+        requires searched { searched ≤ MOST_PLACES }
         ensures { IfOk result (λ s. s.elements.now ≡ elements.now) }
     {
-        let placed = in_order::<Upwards, T>(alloc, elements)?;
-        Ok(Sorted { elements, placed })
+        let most = 4 * elements.len() as u64 + searched as u64;
+        let places = Places::new(alloc, elements, most)?;
+        Ok(Finder { elements, places })
     }
 
     /// How many elements there are.
@@ -57,21 +111,33 @@ impl<'a, T: Searchable> Sorted<'a, T> {
     }
 
     /// The first place of an element, or the count where there is none.
+    #[inline(always)]
     pub(crate) fn place(&self, element: T) -> usize
         ensures place { result ≡ first_place (map T.elem_of self.now.elements.now) (T.elem_of element) }
         ensures most { result ≤ length self.now.elements.now }
     {
         T::key_decides();
-        let key = element.key();
-        let placed = self.placed.as_slice();
-        let first = placed.partition_point(|p| p.value < key);
-        let Some(found) = placed.get(first) else {
-            return self.elements.len();
+        self.places.first(element.key())
+    }
+    /// Writes what is answered of elements into the room for it. It answers of how many: of all if the places are in a table, else of none.
+    #[inline(always)]
+    pub(crate) fn write_replies<R: Reply>(
+        &self,
+        elements: &[T],
+        reply: R,
+        room: &mut [i64],
+    ) -> usize
+        requires room { length elements.now ≤ length room.old }
+        ensures within { result ≤ length elements.now }
+        ensures values { let list = map T.elem_of self.now.elements.now in
+            AreWritten (λ k. Ok (pos (R.number reply (length list) (first_place list (element_of (map T.elem_of elements.now) k))))) 0 result room.new }
+        ensures len { length room.new ≡ length room.old }
+    {
+        T::key_decides();
+        let Places::InTable(table) = &self.places else {
+            return 0;
         };
-        if found.value == key {
-            found.place
-        } else {
-            self.elements.len()
-        }
+        write_replies(table.entries(), self.elements.len(), elements, reply, room);
+        elements.len()
     }
 }

@@ -9,8 +9,10 @@
 mod finding;
 mod laws;
 mod ordering;
+mod replies;
 mod searching;
 mod sorting;
+mod table;
 
 pub use laws::{one_grade, search_answers_are_within_limits};
 pub use ordering::{grade_down, grade_up};

@@ -9,32 +9,65 @@ ghost use Rattle.apl_answer.specs.Rows.{Answers};
 ghost use Rattle.apl_search.specs.Finding.{found_outcome, member_outcome};
 ghost use Rattle.apl_search.specs.Searching.{index_of_row, member_row};
 
-use crate::finding::{Searchable, Sorted};
+use crate::finding::{Finder, Searchable};
+use crate::replies::Reply;
 use apl_answer::{OpFault, constant_array, fill_array};
 use apl_array::{Array, Origin, places_match_index_lists};
 use apl_pool::{Crew, Cut, Fault, Gate, Kernel, Pool, Workers};
 use std::alloc::Global;
 use std::thread::Threads;
 
-/// The first place of each element in a list, counted from `first`.
-#[derive(Drop)]
-struct FirstPlaces<'a, T: Searchable> {
-    elements: &'a [T],
-    list: Sorted<'a, T>,
+/// The first place, counted from `first`.
+#[derive(Clone, Copy, Drop)]
+struct PlaceFrom {
     first: usize,
-    ghost most: { length elements.now ≤ MOST_PLACES },
     ghost origin: { first ≤ 1 },
 }
 
-impl<T: Searchable> Kernel for FirstPlaces<'_, T> {
-    ghost use Rattle.std.specs.Prelude.{Ok, pos, ◌+◌};
+impl Reply for PlaceFrom {
+    ghost use Rattle.std.specs.Prelude.{◌+◌};
+
+    ghost number = { λ r count place. r.first + place };
+
+    #[inline(always)]
+    fn number(self, _count: usize, place: usize) -> i64 {
+        (self.first + place) as i64
+    }
+}
+
+/// 1 for an element that has a place, else 0.
+#[derive(Clone, Copy, Drop)]
+struct OneIfFound;
+
+impl Reply for OneIfFound {
+    ghost use Rattle.std.specs.Prelude.{nat_lt, if◌then◌else◌};
+
+    ghost number = { λ r count place. if nat_lt place count then 1 else 0 };
+
+    #[inline(always)]
+    fn number(self, count: usize, place: usize) -> i64 {
+        i64::from(place < count)
+    }
+}
+
+/// What is answered of each element by its first place in a list.
+#[derive(Drop)]
+struct Searched<'a, T: Searchable, R: Reply> {
+    elements: &'a [T],
+    list: Finder<'a, T>,
+    reply: R,
+    ghost most: { length elements.now ≤ MOST_PLACES },
+}
+
+impl<T: Searchable, R: Reply> Kernel for Searched<'_, T, R> {
+    ghost use Rattle.std.specs.Prelude.{Ok, pos, length};
     ghost use Rattle.apl_search.specs.Finding.{first_place, element_of};
 
     type Out = i64;
 
     ghost place_count = { λ k. length k.elements.now };
 
-    ghost outcome = { λ k place. Ok (pos (k.first + first_place (map T.elem_of k.list.elements.now) (element_of (map T.elem_of k.elements.now) place))) };
+    ghost outcome = { λ k place. Ok (pos (R.number k.reply (length (map T.elem_of k.list.elements.now)) (first_place (map T.elem_of k.list.elements.now) (element_of (map T.elem_of k.elements.now) place)))) };
 
     fn count(&self) -> usize {
         self.elements.len()
@@ -43,36 +76,14 @@ impl<T: Searchable> Kernel for FirstPlaces<'_, T> {
     #[inline(always)]
     fn at(&self, place: usize) -> Result<i64, Fault> {
         let found = self.list.place(self.elements[place]);
-        Ok((self.first + found) as i64)
-    }
-}
-
-/// 1 for each element that is in a list, else 0.
-#[derive(Drop)]
-struct Members<'a, T: Searchable> {
-    elements: &'a [T],
-    list: Sorted<'a, T>,
-    ghost most: { length elements.now ≤ MOST_PLACES },
-}
-
-impl<T: Searchable> Kernel for Members<'_, T> {
-    ghost use Rattle.std.specs.Prelude.{Ok, pos};
-    ghost use Rattle.apl_search.specs.Finding.{member_number, element_of};
-
-    type Out = i64;
-
-    ghost place_count = { λ k. length k.elements.now };
-
-    ghost outcome = { λ k place. Ok (pos (member_number (map T.elem_of k.list.elements.now) (element_of (map T.elem_of k.elements.now) place))) };
-
-    fn count(&self) -> usize {
-        self.elements.len()
+        Ok(self.reply.number(self.list.count(), found))
     }
 
     #[inline(always)]
-    fn at(&self, place: usize) -> Result<i64, Fault> {
-        let found = self.list.place(self.elements[place]);
-        Ok(i64::from(found < self.list.count()))
+    fn write_run(&self, from: usize, to: usize, room: &mut [i64]) -> usize {
+        from + self
+            .list
+            .write_replies(&self.elements[from..to], self.reply, room)
     }
 }
 
@@ -89,13 +100,13 @@ fn first_places<T: Searchable + Sync, W: Crew>(
     ensures { IsAnswerOf (answer_of b.now.shape (found_outcome (map T.elem_of list.now) b.now origin) Number) result }
 {
     places_match_index_lists();
-    let list = Sorted::new(workers.alloc(), list)?;
-    let first = origin.number() as usize;
     let shape = b.shape().copy(workers.alloc())?;
-    let kernel = FirstPlaces {
+    let list = Finder::new(workers.alloc(), list, elements.len())?;
+    let first = origin.number() as usize;
+    let kernel = Searched {
         elements,
         list,
-        first,
+        reply: PlaceFrom { first },
     };
     fill_array(workers, shape, &kernel)
 }
@@ -112,9 +123,13 @@ fn membership<T: Searchable + Sync, W: Crew>(
     ensures { IsAnswerOf (answer_of a.now.shape (member_outcome a.now (map T.elem_of list.now)) Number) result }
 {
     places_match_index_lists();
-    let list = Sorted::new(workers.alloc(), list)?;
     let shape = a.shape().copy(workers.alloc())?;
-    let kernel = Members { elements, list };
+    let list = Finder::new(workers.alloc(), list, elements.len())?;
+    let kernel = Searched {
+        elements,
+        list,
+        reply: OneIfFound,
+    };
     fill_array(workers, shape, &kernel)
 }
 

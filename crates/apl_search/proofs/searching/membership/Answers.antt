@@ -4,6 +4,8 @@ use Rattle.apl_array.specs.Array.{element_at, element_in}
 use Rattle.apl_array.specs.Shape.{count_of, index_at}
 use Rattle.apl_answer.specs.Pointwise.{answer_of, IsAnswerOf}
 use Rattle.apl_search.specs.Finding.{element_of, member_outcome}
+use Rattle.apl_search.specs.Searching.{is_same_element}
+use Rattle.apl_search.proofs.Searches.{any_is_found}
 use Rattle.apl_search.proofs.searching.membership.Goals as goal
 
 pub returns : goal.returns
@@ -19,4 +21,5 @@ returns g c =
     let at : element_of (map elem_of c.args.elements.now) place ≡ element_at b (index_at shape place) =
     ap (λ r. element_of r place) (sym c.requires.ravel) ∙ ap (element_in b) (sym (c.places_match_index_lists.ensures.same_place b.shape place here))
     ∙ ap (λ s. element_at b (index_at s place)) (sym shapes) in
-    rw (at, c.in_ok-list.ensures) refl))
+    let any = any_is_found (λ x. is_same_element x (element_at b (index_at shape place))) (map elem_of c.args.list.now) in
+    rw (at, c.in_ok-list.ensures, any) refl))

@@ -1,0 +1,38 @@
+//! What is answered of elements that are looked for in a list.
+ghost use Rattle.std.specs.Prelude.{◌≡◌, ℕ, ℤ, pos, ◌<◌, ◌≤◌, List, length, map, slice_index_or};
+ghost use Rattle.apl_search.specs.Tables.{place_of, IsTable};
+
+use crate::sorting::Keyed;
+use crate::table::Entries;
+
+/// What is answered of an element by its first place in a list.
+pub(crate) trait Reply: Copy {
+    ghost use Rattle.std.specs.Prelude.{◌≡◌, ℕ, ◌<◌, ◌^◌, pos};
+
+    // The number for a count of elements and a place.
+    ghost number: { Self → ℕ → ℕ → ℕ };
+
+    /// The number for a list of so many elements, and a place or their count.
+    fn number(self, count: usize, place: usize) -> i64
+        requires { place < 2 ^ 32 }
+        ensures { result ≡ pos (number self count place) };
+}
+
+/// Writes what is answered of elements, which are looked for in a table of a list of so many, into the room for it.
+#[inline(always)]
+pub(crate) fn write_replies<T: Keyed, R: Reply>(
+    entries: Entries<'_>,
+    count: usize,
+    elements: &[T],
+    reply: R,
+    room: &mut [i64],
+)
+    requires room { length elements.now ≤ length room.old }
+    ensures values { (numbers : List ℤ) → IsTable numbers entries.entry.least entries.entry.places.now →
+        (k : ℕ) (d : ℤ) → k < length elements.now → slice_index_or room.new k d ≡ pos (R.number reply count (place_of numbers (slice_index_or (map T.key elements.now) k (pos 0)))) }
+    ensures len { length room.new ≡ length room.old }
+{
+    for k in 0..elements.len() {
+        room[k] = reply.number(count, entries.place(elements[k].key()));
+    }
+}
