@@ -119,6 +119,7 @@ impl<'a, T: Searchable> Finder<'a, T> {
         T::key_decides();
         self.places.first(element.key())
     }
+
     /// Writes what is answered of elements into the room for it. It answers of how many: of all if the places are in a table, else of none.
     #[inline(always)]
     pub(crate) fn write_replies<R: Reply>(
