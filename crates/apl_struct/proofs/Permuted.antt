@@ -1,11 +1,11 @@
 -- The places of elements whose axes are permuted.
-use Rattle.std.proofs.Common.{◌≡◌, ℕ, suc, ◌+◌, ◌-◌, ◌*◌, ◌/◌, ◌%◌, ◌^◌, ◌<◌, ◌≤◌, Bool, true, false, List, [], ◌∷◌, length, reverse, slice_index, refl, sym, ap, ◌∙◌, arith, if◌then◌else◌, zero, ◌==◌, slice_index_or, get_or, All, subst}
+use Rattle.std.proofs.Common.{◌≡◌, ℕ, suc, ◌+◌, ◌-◌, ◌*◌, ◌/◌, ◌%◌, ◌^◌, ◌<◌, ◌≤◌, Bool, true, false, List, [], ◌∷◌, length, map, reverse, slice_index, refl, sym, ap, ◌∙◌, arith, if◌then◌else◌, zero, ◌==◌, slice_index_or, get_or, All, subst}
 use Rattle.std.specs.Prelude.{sum, Option, Some}
 use Rattle.std.specs.List.{range_with_len, Contains, list_any}
 use Rattle.std.proofs.lemmas.Bool.{eqb-true}
 use Rattle.std.proofs.lemmas.List.Sums.{sum_by-cons, AllPass-from_list_all}
 use Rattle.std.proofs.lemmas.List.{get_or-reverse, get_or_default, length-reverse, ext_get_or}
-use Rattle.std.proofs.lemmas.List.FromFn.{length-range_with_len, get_or-range_with_len}
+use Rattle.std.proofs.lemmas.List.FromFn.{length-range_with_len, get_or-range_with_len, length-map-range_with_len, get_or-map-range_with_len}
 use Rattle.std.proofs.Math.Nat.{mod-lt, mul-le-mul_right}
 use Rattle.apl_array.specs.Shape.{count_of, index_at, IsShape}
 use Rattle.apl_array.specs.Transposition.{AreAxesInto, strides, items_onto, inner_product, transposed_shape}
@@ -60,12 +60,13 @@ counted_down rank k inside =
 length-counted_down : (rank : ℕ) → length (reverse (range_with_len 0 rank)) ≡ rank
 length-counted_down rank = length-reverse (range_with_len 0 rank) ∙ length-range_with_len 0 rank
 
-pub reversed_axes : (axes : List ℕ) (rank : ℕ) → length axes ≡ rank → ((k : ℕ) → k < rank → slice_index axes k ≡ rank - 1 - k) → axes ≡ reverse (range_with_len 0 rank)
-reversed_axes axes rank len each =
-    ext_get_or 0 axes (reverse (range_with_len 0 rank)) (len ∙ sym (length-counted_down rank))
+pub reversed_axes : (rank : ℕ) → map (λ k. rank - 1 - k) (range_with_len 0 rank) ≡ reverse (range_with_len 0 rank)
+reversed_axes rank =
+    let turned : ℕ → ℕ = λ k. rank - 1 - k in
+    ext_get_or 0 (map turned (range_with_len 0 rank)) (reverse (range_with_len 0 rank)) (length-map-range_with_len turned 0 rank ∙ sym (length-counted_down rank))
     (λ k inside.
-    let here : k < rank = omega (arith, inside, len) in
-    each k here ∙ sym (counted_down rank k here))
+    let here : k < rank = omega (arith, inside, length-map-range_with_len turned 0 rank) in
+    get_or-map-range_with_len turned 0 rank k k 0 here (omega arith) ∙ sym (counted_down rank k here))
 
 pub AreAxesInto-reverse : (source : List ℕ) → AreAxesInto source (reverse (range_with_len 0 (length source))) (reverse source)
 AreAxesInto-reverse source =

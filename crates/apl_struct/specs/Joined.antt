@@ -5,8 +5,8 @@ use Rattle.apl_array.specs.Array.{ArrayValue}
 use Rattle.apl_answer.specs.declared.fault.OpFault.{OpFault}
 use Rattle.apl_answer.specs.declared.fault.OpFault.TheVariants.{Length, Memory}
 use Rattle.apl_answer.specs.Arguments.{fill_of, is_same_shape}
+use Rattle.smallvec.specs.SmallVec.{SmallVec}
 use Rattle.apl_walk.specs.Seams.{joined_value}
-use Rattle.apl_struct.specs.declared.joining.Joint.{Joint}
 use Rattle.apl_struct.specs.Joining.{joined_kind}
 
 -- The element at a place where each line has the next `left` of A and then the next `right` of B. Past its last one an argument has its first.
@@ -16,8 +16,8 @@ joined_at a b left right place =
     joined_value a.ravel b.ravel (slice_index_or a.ravel 0 fill) (slice_index_or b.ravel 0 fill) left right (place / (left + right)) (place % (left + right))
 
 -- the lengths of two arguments that are joined along axis k, and the length of the left one there. Other axes that differ are `Length`
-abbrev pub IsJoint : (left right : List ℕ) → (k : ℕ) → Result Joint OpFault → Type 0
+abbrev pub IsJoint : (left right : List ℕ) → (k : ℕ) → Result (SmallVec ℕ × ℕ) OpFault → Type 0
 IsJoint left right k result = MatchResult result
-    (λ joint. (is_same_shape (remove left k) (remove right k) ≡ true) × (joint.lengths.items ≡ slice_set left k (slice_index left k + slice_index right k))
-    × (joint.left ≡ slice_index left k))
+    (λ joint. (is_same_shape (remove left k) (remove right k) ≡ true) × (joint.0.items ≡ slice_set left k (slice_index left k + slice_index right k))
+    × (joint.1 ≡ slice_index left k))
     (λ fault. (fault ≡ Memory) ⊎ ((fault ≡ Length) × (is_same_shape (remove left k) (remove right k) ≡ false)))

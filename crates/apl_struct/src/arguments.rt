@@ -20,13 +20,6 @@ pub(crate) fn numbers_among(a: &Array) -> Result<&[i64], OpFault>
     }
 }
 
-/// Whether the lengths of two shapes agree.
-pub(crate) fn is_same_shape(a: &[usize], b: &[usize]) -> bool
-    ensures { result ≡ is_same_shape a.now b.now }
-{
-    a == b
-}
-
 /// Whether the lengths of a shape are those of another without axis `k`.
 pub(crate) fn is_without_axis(a: &[usize], b: &[usize], k: usize) -> bool
     requires axis { k < length b.now }
@@ -39,7 +32,7 @@ pub(crate) fn is_without_axis(a: &[usize], b: &[usize], k: usize) -> bool
     match a {
         [first, others @ ..] if k > 0 => *first == *length
             && is_without_axis(others, lengths, k - 1),
-        _ => is_same_shape(a, lengths),
+        _ => a == lengths,
     }
 }
 

@@ -119,13 +119,6 @@ pub(crate) fn repeat<W: Crew>(workers: &W, shape: Shape, b: &Array) -> Result<Ar
     }
 }
 
-/// The place that a number is, and 0 for a negative one.
-fn place_number(number: i64) -> usize
-    ensures { result ≡ place_number number }
-{
-    number.max(0) as usize
-}
-
 /// Whether all numbers are 0 and above.
 fn are_natural(numbers: &[i64]) -> bool
     ensures { result ≡ list_all is_natural numbers.now }
@@ -142,7 +135,7 @@ fn shape_with(alloc: Global, lengths: &[i64]) -> Result<Shape, OpFault>
     }
     let lengths: SmallVec<usize, MOST_AXES> = lengths
         .iter()
-        .map(|length| place_number(*length))
+        .map(|length| (*length).max(0) as usize)
         .collect(alloc)?;
     Ok(Shape::new(alloc, lengths.as_slice())?)
 }

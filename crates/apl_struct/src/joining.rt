@@ -11,7 +11,7 @@ ghost use Rattle.apl_answer.specs.Rows.{Answers};
 ghost use Rattle.apl_struct.specs.Joined.{joined_at, IsJoint};
 ghost use Rattle.apl_struct.specs.Joining.{joined_rank, can_join, slices_shape, joined_kind, catenated_element, catenate_row};
 
-use crate::arguments::is_same_shape;
+use crate::arguments::is_without_axis;
 use apl_answer::{ElementType, OpFault, fill_array};
 use apl_array::{
     Array, Axis, Kind, MOST_AXES, Shape, changed_axis_has_place, places_match_index_lists,
@@ -22,19 +22,6 @@ use apl_walk::{ByLines, Joined, Part};
 use smallvec::SmallVec;
 use std::alloc::{AllocError, Global};
 use std::thread::Threads;
-
-/// The lengths with another axis put in.
-fn with_axis(
-    mut lengths: SmallVec<usize, MOST_AXES>,
-    k: usize,
-    length: usize,
-) -> Result<SmallVec<usize, MOST_AXES>, AllocError>
-    requires { k ≤ small_vec_len lengths }
-    ensures { IfOk result (λ longer. longer.items ≡ insert lengths.items k length) }
-{
-    lengths.insert(k, length)?;
-    Ok(lengths)
-}
 
 /// The lengths of what an argument is taken for, along axis `k` of `rank` axes, beside the other.
 fn slices_lengths(
@@ -54,36 +41,36 @@ fn slices_lengths(
         return SmallVec::from_slice(alloc, own.shape().lengths());
     }
     if own.shape().rank() + 1 == rank {
-        let lengths = SmallVec::from_slice(alloc, own.shape().lengths())?;
-        return with_axis(lengths, k, 1);
+        let mut lengths = SmallVec::from_slice(alloc, own.shape().lengths())?;
+        lengths.insert(k, 1)?;
+        return Ok(lengths);
     }
     let mut lengths = SmallVec::from_slice(alloc, other.shape().lengths())?;
     lengths.as_mut_slice()[k] = 1;
     Ok(lengths)
 }
 
-/// The lengths of a joined array, and how many indexes along the axis are the left argument's.
-#[derive(Drop)]
-struct Joint {
-    lengths: SmallVec<usize, MOST_AXES>,
-    left: usize,
-}
-
-/// The lengths of two arguments that are joined along axis `k` of `rank` axes. Other axes that differ are refused (`Length`).
-fn joint_of(alloc: Global, a: &Array, b: &Array, rank: usize, k: usize) -> Result<Joint, OpFault>
+/// The lengths of two arguments that are joined along axis `k` of `rank` axes, and how many indexes along it are the left one's. Other
+/// axes that differ are refused (`Length`).
+fn joint_of(
+    alloc: Global,
+    a: &Array,
+    b: &Array,
+    rank: usize,
+    k: usize,
+) -> Result<(SmallVec<usize, MOST_AXES>, usize), OpFault>
     requires rank { rank ≡ joined_rank a.now b.now }
     requires axis { k < rank }
     ensures { IsJoint (slices_shape rank k a.now b.now) (slices_shape rank k b.now a.now) k result }
 {
     let mut lengths = slices_lengths(alloc, a, b, rank, k)?;
-    let mut others = slices_lengths(alloc, b, a, rank, k)?;
+    let mut joined = slices_lengths(alloc, b, a, rank, k)?;
     let left = lengths.remove(k);
-    let right = others.remove(k);
-    if !is_same_shape(lengths.as_slice(), others.as_slice()) {
+    if !is_without_axis(lengths.as_slice(), joined.as_slice(), k) {
         return Err(OpFault::Length);
     }
-    let lengths = with_axis(lengths, k, left + right)?;
-    Ok(Joint { lengths, left })
+    joined.as_mut_slice()[k] += left;
+    Ok((joined, left))
 }
 
 /// The kind of the argument that has elements, else the left one's.
@@ -232,10 +219,10 @@ pub fn catenate<R: Threads + Sync, C: Cut + Sync, G: Gate + Sync>(
     if !can_join(a, b) {
         return Err(OpFault::Rank);
     }
-    let joint = joint_of(alloc, a, b, rank, k)?;
+    let (lengths, left) = joint_of(alloc, a, b, rank, k)?;
     if !have_same_kind(a, b) {
         return Err(OpFault::Domain);
     }
-    let shape = Shape::new(alloc, joint.lengths.as_slice())?;
-    join_along(&workers, shape, a, b, k, joint.left)
+    let shape = Shape::new(alloc, lengths.as_slice())?;
+    join_along(&workers, shape, a, b, k, left)
 }

@@ -70,18 +70,12 @@ fn named_axes(axes: &[usize]) -> usize
     }
 }
 
-fn is_named(j: usize, axes: &[usize]) -> bool
-    ensures { result ≡ list_any (λ axis. axis == j) axes.now }
-{
-    axes.iter().any(|axis| *axis == j)
-}
-
 /// Whether each axis up to the greatest is named. It looks for no more axes than there are names, and one.
 fn are_all_named(axes: &[usize]) -> bool
     requires { All (λ axis. axis < 2 ^ 63) axes.now }
     ensures { result ≡ are_all_named axes.now }
 {
-    (0..named_axes(axes)).all(|j| is_named(j, axes))
+    (0..named_axes(axes)).all(|j| axes.contains(&j))
 }
 
 /// By how much a step along axis `j` of the result moves the place in the argument. It is a step along each axis that becomes it.
@@ -158,26 +152,16 @@ pub fn transpose<R: Threads + Sync, C: Cut + Sync, G: Gate + Sync>(
     transposed_index_has_place();
     let argument = b.shape();
     let axes = reversed_axes(alloc, argument.rank())?;
-    let lengths = reversed_lengths(alloc, argument.lengths())?;
+    let lengths: Vec<usize> = argument.lengths().iter().rev().copied().collect(alloc)?;
     let shape = lawful_shape(alloc, lengths.as_slice())?;
     let workers = Workers { rt, alloc, pool };
     transposed(&workers, shape, b, axes.as_slice())
 }
 
-fn reversed_lengths(alloc: Global, lengths: &[usize]) -> Result<Vec<usize>, AllocError>
-    ensures { IfOk result (λ reversed. reversed.items ≡ reverse lengths.now) }
-{
-    lengths.iter().rev().copied().collect(alloc)
-}
-
 fn reversed_axes(alloc: Global, rank: usize) -> Result<Vec<usize>, AllocError>
     ensures { IfOk result (λ axes. axes.items ≡ reverse (range_with_len 0 rank)) }
 {
-    let mut axes = Vec::with_capacity(alloc, rank)?;
-    for k in 0..rank {
-        axes.push(rank - 1 - k)?;
-    }
-    Ok(axes)
+    (0..rank).map(|k| rank - 1 - k).collect(alloc)
 }
 
 /// `A⍉B`, transpose by `A`: axis `i` of `B` becomes axis `A[i]`. Axes that become one make a diagonal.
@@ -222,21 +206,11 @@ fn transposed_shape(alloc: Global, axes: &[usize], argument: &Shape) -> Result<S
     ensures into { IfOk result (λ shape. AreAxesInto argument.now axes.now shape) }
 {
     transposed_index_has_place();
-    let lengths = transposed_lengths(alloc, axes, argument.lengths())?;
-    lawful_shape(alloc, lengths.as_slice())
-}
-
-fn transposed_lengths(
-    alloc: Global,
-    axes: &[usize],
-    lengths: &[usize],
-) -> Result<Vec<usize>, AllocError>
-    requires { All (λ axis. axis < 2 ^ 63) axes.now }
-    ensures { IfOk result (λ transposed. transposed.items ≡ transposed_shape (named_axes axes.now) axes.now lengths.now) }
-{
-    (0..named_axes(axes))
+    let lengths = argument.lengths();
+    let least: Vec<usize> = (0..named_axes(axes))
         .map(|j| least_length_onto(j, axes, lengths).unwrap_or(0))
-        .collect(alloc)
+        .collect(alloc)?;
+    lawful_shape(alloc, least.as_slice())
 }
 
 /// The least of the lengths of the axes that become axis `j`, where there is one.

@@ -14,7 +14,6 @@ ghost use Rattle.apl_walk.specs.Steps.{and_step};
 ghost use Rattle.apl_struct.specs.Selecting.{IsCheckedResult, IsSelection};
 ghost use Rattle.apl_struct.specs.Numbering.{place_or_zero, chosen_at, number_at, AreWithin, HaveValues, AreWrittenOver, IsReached, value_numbered, element_numbered, replacement_checks, value_step, IsReplacement};
 
-use crate::arguments::is_same_shape;
 use crate::building::unchanged;
 use crate::indexing::selection;
 use crate::selecting::{NumberArray, selected_walk};
@@ -151,7 +150,7 @@ fn judge_values(a: &Array, b: &Array, selected: &Shape) -> Result<(), OpFault>
     if count != 1 && b.shape().rank() != selected.rank() {
         return Err(OpFault::Rank);
     }
-    if count != 1 && !is_same_shape(b.shape().lengths(), selected.lengths()) {
+    if count != 1 && b.shape().lengths() != selected.lengths() {
         return Err(OpFault::Length);
     }
     if count != 0 && a.kind() != b.kind() {

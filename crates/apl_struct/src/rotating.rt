@@ -63,21 +63,6 @@ fn rotation_within(rotation: i64, length: usize) -> usize
     rotation.rem_euclid(length as i64) as usize
 }
 
-/// The same for each line.
-fn rotations_within(
-    alloc: Global,
-    rotations: &[i64],
-    length: usize,
-) -> Result<Vec<usize>, AllocError>
-    requires { length ≤ MOST_PLACES }
-    ensures { IfOk result (λ by. by.items ≡ map (rotation_of length) rotations.now) }
-{
-    rotations
-        .iter()
-        .map(|rotation| rotation_within(*rotation, length))
-        .collect(alloc)
-}
-
 /// All lines along axis `k` rotated by one number.
 fn rotate_all<W: Crew>(workers: &W, b: &Array, k: usize, rotation: i64) -> Result<Array, OpFault>
     requires { k < length b.now.shape }
@@ -165,7 +150,10 @@ fn rotate_each<W: Crew>(
     }
     let length = shape.axis(k);
     let inner = shape.inner(k);
-    let by = rotations_within(workers.alloc(), rotations, length)?;
+    let by: Vec<usize> = rotations
+        .iter()
+        .map(|rotation| rotation_within(*rotation, length))
+        .collect(workers.alloc())?;
     let by = by.as_slice();
     rotate_lines(workers, shape, b, Rotations { by, length }, inner)
 }

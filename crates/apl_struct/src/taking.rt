@@ -90,16 +90,6 @@ fn push_left(numbers: &[i64], lengths: &[usize], left: &mut Vec<i64>) -> Result<
     push_left(numbers, lengths, left)
 }
 
-/// How far each number is from 0.
-fn magnitudes(alloc: Global, numbers: &[i64]) -> Result<Vec<usize>, AllocError>
-    ensures { IfOk result (λ lengths. lengths.items ≡ map nat_abs numbers.now) }
-{
-    numbers
-        .iter()
-        .map(|number| number.unsigned_abs() as usize)
-        .collect(alloc)
-}
-
 /// The numbers by which an array is taken or dropped: `Rank`, `Length`, `Limit` or `Domain` where the
 /// checks before that of the result's shape fail.
 fn taking_numbers<'a>(a: &'a Array, b: &Array) -> Result<&'a [i64], OpFault>
@@ -152,7 +142,10 @@ fn taken<W: Crew>(
     places_match_index_lists();
     // An array that was asked something is known to be lawful.
     let _kind = b.kind();
-    let lengths = magnitudes(workers.alloc(), numbers)?;
+    let lengths: Vec<usize> = numbers
+        .iter()
+        .map(|number| number.unsigned_abs() as usize)
+        .collect(workers.alloc())?;
     let shape = Shape::new(workers.alloc(), lengths.as_slice())?;
     let count = shape.count();
     if count == 0 || argument.count() == 0 {

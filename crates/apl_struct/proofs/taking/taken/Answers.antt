@@ -1,4 +1,4 @@
-use Rattle.std.proofs.Common.{◌≡◌, true, ℕ, List, map, Ok, ap, sym, subst, ◌∙◌, arith}
+use Rattle.std.proofs.Common.{◌≡◌, true, ℕ, List, map, Ok, ap, sym, subst, ◌∙◌, arith, rules}
 use Rattle.std.specs.Prelude.{nat_abs}
 use Rattle.apl_array.specs.Shape.{IsIndexOf, is_shape, count_of, index_at}
 use Rattle.apl_answer.specs.Arguments.{size_of}
@@ -8,8 +8,17 @@ use Rattle.apl_struct.specs.Gathering.{element_or_fill}
 use Rattle.apl_struct.specs.Shaped.{with_shape}
 use Rattle.apl_struct.proofs.Elements.{filled_past}
 use Rattle.apl_struct.proofs.Taken.{taken_none_of_empty, taken_element}
+use Rattle.apl_struct.proofs.taking.taken.Given.{Over}
 use Rattle.apl_struct.proofs.taking.taken.Goals as goal
-use Rattle.apl_struct.proofs.taking.taken.Goals.{then-count-eq0-via-then-count-eq0, then-count-eq0-via-else-count-eq0+then-count-eq0-2}
+use Rattle.apl_struct.proofs.taking.taken.Goals.{After-as_slice, then-count-eq0-via-then-count-eq0, then-count-eq0-via-else-count-eq0+then-count-eq0-2}
+
+lengths : (g : Over) (c : After-as_slice g) → c.as_slice.result.now ≡ map nat_abs c.args.numbers.now
+lengths g c =
+    let items : c.in_ok-lengths.lengths.items ≡ map nat_abs c.args.numbers.now = search rules in
+    c.as_slice.ensures.value ∙ items
+
+pub returns-in_err-shape : goal.returns-in_err-shape
+returns-in_err-shape g c = λ element same. rw (← lengths g (goal.at.returns-in_err-shape g c).After-as_slice) (search rules)
 
 pub returns-then-count-eq0 : goal.returns-then-count-eq0
 returns-then-count-eq0 g c = λ element same.
@@ -18,8 +27,9 @@ returns-then-count-eq0 g c = λ element same.
     let numbers = c.args.numbers.now in
     let shape = c.in_ok-shape.shape in
     let law = c.places_match_index_lists.ensures in
-    let is : shape ≡ map nat_abs numbers = c.in_ok-shape.ensures.value ∙ c.as_slice.ensures.value ∙ c.in_ok-lengths.ensures in
-    let passes : is_shape (map nat_abs numbers) ≡ true = ap is_shape (sym (c.as_slice.ensures.value ∙ c.in_ok-lengths.ensures)) ∙ c.in_ok-shape.ensures.test in
+    let slice = lengths g (goal.at.returns-then-count-eq0 g c).After-as_slice in
+    let is : shape ≡ map nat_abs numbers = c.in_ok-shape.ensures.value ∙ slice in
+    let passes : is_shape (map nat_abs numbers) ≡ true = ap is_shape (sym slice) ∙ c.in_ok-shape.ensures.test in
     let P : List ℕ → Type 0 = λ s. IsAnswerOf (answer_of s (λ index. Ok (element index)) b.kind) c.repeat.result in
     rw passes (subst P is (c.repeat.ensures element (λ place inside.
     let none : count_of argument ≡ 0 = elim c.then-count-eq0.branch [
@@ -38,8 +48,9 @@ returns g c = λ element same.
     let numbers = c.args.numbers.now in
     let shape = c.in_ok-shape.shape in
     let law = c.places_match_index_lists.ensures in
-    let is : shape ≡ map nat_abs numbers = c.in_ok-shape.ensures.value ∙ c.as_slice.ensures.value ∙ c.in_ok-lengths.ensures in
-    let passes : is_shape (map nat_abs numbers) ≡ true = ap is_shape (sym (c.as_slice.ensures.value ∙ c.in_ok-lengths.ensures)) ∙ c.in_ok-shape.ensures.test in
+    let slice = lengths g (goal.at.returns g c).After-as_slice in
+    let is : shape ≡ map nat_abs numbers = c.in_ok-shape.ensures.value ∙ slice in
+    let passes : is_shape (map nat_abs numbers) ≡ true = ap is_shape (sym slice) ∙ c.in_ok-shape.ensures.test in
     let P : List ℕ → Type 0 = λ s. IsAnswerOf (answer_of s (λ index. Ok (element index)) b.kind) c.gather.result in
     rw passes (subst P is (c.gather.ensures element (λ place inside.
     let index = index_at shape place in
