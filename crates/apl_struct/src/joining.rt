@@ -185,15 +185,10 @@ fn join_along<W: Crew>(
     let seam = seam_along(&shape, k, left);
     match joined_kind(a, b) {
         Kind::Number => join_elements(workers, shape, a, b, a.numbers(), b.numbers(), seam),
-        Kind::Character => join_elements(
-            workers,
-            shape,
-            a,
-            b,
-            a.characters(),
-            b.characters(),
-            seam,
-        ),
+        Kind::Character => {
+            let (left, right) = (a.characters(), b.characters());
+            join_elements(workers, shape, a, b, left, right, seam)
+        }
     }
 }
 

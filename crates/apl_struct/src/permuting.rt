@@ -29,12 +29,7 @@ fn axis_named(number: i64, origin: Origin) -> usize
     ensures axis { result ≡ place_number (from_origin origin number) }
     ensures below { result < 2 ^ 63 }
 {
-    let first = origin.number();
-    if number < first {
-        0
-    } else {
-        (number - first) as usize
-    }
+    number.saturating_sub(origin.number()).max(0) as usize
 }
 
 /// Whether no number is below the origin.

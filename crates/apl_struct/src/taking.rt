@@ -147,8 +147,7 @@ fn taken<W: Crew>(
         .map(|number| number.unsigned_abs() as usize)
         .collect(workers.alloc())?;
     let shape = Shape::new(workers.alloc(), lengths.as_slice())?;
-    let count = shape.count();
-    if count == 0 || argument.count() == 0 {
+    if shape.count() == 0 || argument.count() == 0 {
         return repeat(workers, shape, b);
     }
     let walk = taken_walk(workers.alloc(), numbers, argument)?;

@@ -61,22 +61,17 @@ map-map-requires-clause-near g c =
 pub map-map-requires-clause-some : goal.map-map-requires-clause-some
 map-map-requires-clause-some g c = let known = facts g (goal.at.map-map-requires-clause-some g c).After-axis in omega (arith, known.3.length_some, known.1, c.requires.extent)
 
-pub walk_along-requires-clause-some : goal.walk_along-requires-clause-some
-walk_along-requires-clause-some g c =
-    let known = facts g (goal.at.walk_along-requires-clause-some g c).After-axis in
-    omega (arith, known.3.length_some, known.1, c.requires.extent, c.map-map.ensures.extent)
-
-pub walk_along-requires-clause-most : goal.walk_along-requires-clause-most
-walk_along-requires-clause-most g c =
-    let known = facts g (goal.at.walk_along-requires-clause-most g c).After-axis in
+pub walk_along-requires : goal.walk_along-requires
+walk_along-requires g c =
+    let known = facts g (goal.at.walk_along-requires g c).After-axis in
     let extent : map_extent c.map-map.result ≡ c.axis.result = c.map-map.ensures.extent ∙ sym c.requires.extent ∙ sym known.1 in
-    rw (extent, known.3.outer_is) (omega (arith, known.3.count_is, c.count-2.ensures.count, c.count-2.ensures.lawful.count))
-
-pub walk_along-requires-clause-outer : goal.walk_along-requires-clause-outer
-walk_along-requires-clause-outer g c = let axis = (facts g (goal.at.walk_along-requires-clause-outer g c).After-axis).3 in rw axis.outer_is axis.outer_some
-
-pub walk_along-requires-clause-inner : goal.walk_along-requires-clause-inner
-walk_along-requires-clause-inner g c = (facts g (goal.at.walk_along-requires-clause-inner g c).After-axis).3.inner_some
+    record {
+      outer = rw known.3.outer_is known.3.outer_some;
+      inner = known.3.inner_some;
+      some = rw extent known.3.length_some;
+      most = rw (extent, known.3.outer_is) (omega (arith, known.3.count_is, c.count-2.ensures.count, c.count-2.ensures.lawful.count));
+      near = search rules;
+    }
 
 pub gather-requires-clause-extent : goal.gather-requires-clause-extent
 gather-requires-clause-extent g c = λ lifetimes outlive.

@@ -17,10 +17,10 @@ facts c =
     (axis_facts (count_of (take k shape)) n inner c.count.result count (omega arith), parts_of_line c.args.left (n - c.args.left) n inner (omega (arith, c.requires.part, c.axis.ensures.length)))
 
 pub overflow_mul-result : goal.overflow_mul-result
-overflow_mul-result c = let known = facts c in omega (arith, known.0.line_most, known.1, c.count.ensures.lawful.count, c.count.ensures.count)
+overflow_mul-result c = omega (arith, (facts c).0.line_most, (facts c).1, c.count.ensures.lawful.count, c.count.ensures.count)
 
 pub overflow_mul-result-2 : goal.overflow_mul-result-2
-overflow_mul-result-2 c = let known = facts c in omega (arith, known.0.line_most, known.1, c.count.ensures.lawful.count, c.count.ensures.count)
+overflow_mul-result-2 c = omega (arith, (facts c).0.line_most, (facts c).1, c.count.ensures.lawful.count, c.count.ensures.count)
 
 pub invariant_of-result-2 : goal.invariant_of-result-2
 invariant_of-result-2 c =

@@ -33,8 +33,8 @@ returns-then-count-eq0 g c = λ element same.
     let P : List ℕ → Type 0 = λ s. IsAnswerOf (answer_of s (λ index. Ok (element index)) b.kind) c.repeat.result in
     rw passes (subst P is (c.repeat.ensures element (λ place inside.
     let none : count_of argument ≡ 0 = elim c.then-count-eq0.branch [
-      | then-count-eq0-via-then-count-eq0 w ↦ absurd (omega (arith, inside, w.if-count-eq0.true, c.count-count.ensures.count))
-      | then-count-eq0-via-else-count-eq0+then-count-eq0-2 w ↦ omega (arith, w.if-count-eq0-2.true, w.count.ensures.count)
+      | then-count-eq0-via-then-count-eq0 w ↦ absurd (omega (arith, inside, w.if-count-eq0.true, c.count.ensures.count))
+      | then-count-eq0-via-else-count-eq0+then-count-eq0-2 w ↦ omega (arith, w.if-count-eq0-2.true, w.count-else-count-eq0.ensures.count)
     ] in
     let index = index_at shape place in
     let lawful : IsIndexOf (map nat_abs numbers) index = subst (λ s. IsIndexOf s index) is (law.lawful shape place inside) in
@@ -56,4 +56,4 @@ returns g c = λ element same.
     let index = index_at shape place in
     let lawful : IsIndexOf (map nat_abs numbers) index = subst (λ s. IsIndexOf s index) is (law.lawful shape place inside) in
     rw (c.in_ok-walk.ensures.place place, ← is)
-    (taken_element law.below argument numbers index c.requires.len lawful b c.kind-kind.ensures.lawful c.count.ensures.lawful c.requires.count ∙ same index lawful))))
+    (taken_element law.below argument numbers index c.requires.len lawful b c.kind-kind.ensures.lawful c.count-else-count-eq0.ensures.lawful c.requires.count ∙ same index lawful))))

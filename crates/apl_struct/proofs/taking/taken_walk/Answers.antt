@@ -7,24 +7,20 @@ use Rattle.apl_walk.specs.Walks.{maps_of}
 use Rattle.apl_struct.proofs.Taken.{from_axis, magnitude_before, axis_before, taken_step}
 use Rattle.apl_struct.proofs.taking.taken_walk.Goals as goal
 
-pub taken_window-window-requires-clause-some : goal.taken_window-window-requires-clause-some
-taken_window-window-requires-clause-some c =
-    let m = get_or c.args.numbers.now (c.loop-k.k - 1) (pos 0) in
+pub taken_window-window-requires : goal.taken_window-window-requires
+taken_window-window-requires c =
+    let k = c.loop-k.k in
+    let m = get_or c.args.numbers.now (k - 1) (pos 0) in
     let read : to_z w64 (of_z w64 m) ≡ m = grind (arith, to_z-of_z) in
-    rw read (magnitude_before c.args.numbers.now c.loop-k.k _ c.loop-k-test.true c.loop-k.auto.k c.requires.some c.requires.lawful.count).some
-
-pub taken_window-window-requires-clause-most : goal.taken_window-window-requires-clause-most
-taken_window-window-requires-clause-most c =
-    let m = get_or c.args.numbers.now (c.loop-k.k - 1) (pos 0) in
-    let read : to_z w64 (of_z w64 m) ≡ m = grind (arith, to_z-of_z) in
-    rw read (magnitude_before c.args.numbers.now c.loop-k.k _ c.loop-k-test.true c.loop-k.auto.k c.requires.some c.requires.lawful.count).less
-
-pub taken_window-window-requires-clause-near : goal.taken_window-window-requires-clause-near
-taken_window-window-requires-clause-near c =
-    let argument = c.args.argument.now in
-    let back : c.loop-k.k - 1 + 1 ≡ c.loop-k.k = omega arith in
-    rw (c.axis.ensures.length, c.inner.ensures.inner, back)
-    (axis_before argument c.loop-k.k _ c.loop-k-test.true (omega (arith, c.loop-k.auto.k, c.requires.len)) c.requires.argument_some c.axis.ensures.lawful.count).both
+    let back : k - 1 + 1 ≡ k = omega arith in
+    let number = magnitude_before c.args.numbers.now k _ c.loop-k-test.true c.loop-k.auto.k c.requires.some c.requires.lawful.count in
+    let axis = axis_before c.args.argument.now k _ c.loop-k-test.true (omega (arith, c.loop-k.auto.k, c.requires.len)) c.requires.argument_some c.axis.ensures.lawful.count in
+    record {
+      some = rw read number.some;
+      most = rw read number.less;
+      length = rw c.axis.ensures.length axis.less;
+      near = rw (c.axis.ensures.length, c.inner.ensures.inner, back) axis.both;
+    }
 
 pub with-requires-clause-extent : goal.with-requires-clause-extent
 with-requires-clause-extent c =
