@@ -3,10 +3,11 @@ use Rattle.std.proofs.Common.{◌≡◌, ℕ, zero, suc, ◌+◌, ◌-◌, ◌*�
 use Rattle.std.specs.Prelude.{◌≤◌, All, sum, flat_map, ◌^◌, ◌==◌, ◌||◌, ◌⊎◌}
 use Rattle.std.specs.List.{range_with_len, list_all}
 use Rattle.std.proofs.Math.Nat.{div-eq_of_lt, add-div_right}
-use Rattle.std.proofs.lemmas.Bool.{cases_lt, true≢false, cases_Bool, eqb-true, le-ltb, and_parts}
+use Rattle.std.proofs.lemmas.Bool.{or_cases, cases_lt, true≢false, cases_Bool, eqb-true, le-ltb, and_parts}
 use Rattle.std.proofs.lemmas.List.{append-nil, append_assoc, length-append, length-replicate, get_or_append_left, get_or-append_right, get_or-replicate, length-map, length-set, get_or-set_same}
 use Rattle.std.proofs.lemmas.List.Elements.{All-nil, All-append, All-replicate, All-get_or}
-use Rattle.std.proofs.lemmas.List.Sums.{sum_by-cons, sum_by_more, sum_by-take-le}
+use Rattle.std.proofs.Math.Bool.{and-true, and-false}
+use Rattle.std.proofs.lemmas.List.Sums.{sum_by-cons, sum_by_more, sum_by-take-le, AllPass-from_list_all, list_all-from_AllPass}
 use Rattle.apl_struct.specs.Compressing.{repeated_indexes, expanded_index}
 use Rattle.std.proofs.Math.ListN.{get_or-map}
 use Rattle.std.proofs.lemmas.Bool.Decides.{Decides-int_eq, nat_tests}
@@ -16,6 +17,7 @@ use Rattle.apl_answer.specs.Arguments.{is_bit, is_natural}
 use Rattle.apl_struct.specs.Expanding.{expanded_entry}
 use Rattle.apl_struct.specs.declared.compressing.TheConstants.{ABSENT}
 use Rattle.apl_struct.specs.Along.{entry_index}
+use Rattle.apl_struct.proofs.Taken.{pos_right}
 use Rattle.apl_struct.proofs.Takings.{entry_there}
 use Rattle.std.proofs.lemmas.Grind.{get_or-set_at}
 use Rattle.apl_array.specs.Shape.{is_shape, most_axes, most_elements}
@@ -86,10 +88,6 @@ repeats_length start (c ∷ cs) =
 pub repeated_length : (counts : List ℕ) → length (repeated_indexes counts) ≡ sum counts
 repeated_length counts = ap length (repeated_is counts) ∙ repeats_length 0 counts
 
-positive : (n c i : ℕ) → c ≤ i → i < suc n * c → 0 < c
-positive n zero i later inside = omega (arith, inside)
-positive n (suc c) i later inside = omega arith
-
 repeats_same : (start n c i : ℕ) → i < n * c → slice_index (repeats start (replicate n c)) i ≡ start + i / c
 repeats_same start zero c i inside = absurd (omega (arith, inside))
 repeats_same start (suc n) c i inside =
@@ -100,7 +98,7 @@ repeats_same start (suc n) c i inside =
     let none : start ≡ start + i / c = omega (arith, div-eq_of_lt first) in
     get_or_append_left (replicate c start) rest 0 i (omega (arith, first, long)) ∙ get_or-replicate c i start 0 first ∙ none)
     (λ later.
-    let some : 0 < c = positive n c i later inside in
+    let some : 0 < c = pos_right (suc n) c (omega (arith, inside)) in
     let back : i - c + c ≡ i = omega (arith, later) in
     let next : i / c ≡ (i - c) / c + 1 = ap (λ m. m / c) (sym back) ∙ add-div_right (i - c) some in
     get_or-append_right (replicate c start) rest c i 0 long later
@@ -122,35 +120,21 @@ counts bits = map place_number bits
 pub count_at : (bits : List ℤ) (i : ℕ) → slice_index (counts bits) i ≡ place_number (slice_index_or bits i (pos 0))
 count_at bits i = get_or-map place_number bits i (pos 0)
 
-either : (p q : Bool) → (p || q) ≡ true → (p ≡ true) ⊎ (q ≡ true)
-either true q e = inl refl
-either false q e = inr e
-
-bit_is : (z : ℤ) → is_bit z ≡ true → (z ≡ pos 0) ⊎ (z ≡ pos 1)
-bit_is z bit =
-    ⊎_elim
-    (λ none. inl ((Decides-int_eq z (pos 0)).0 none))
-    (λ one. inr ((Decides-int_eq z (pos 1)).0 one))
-    (either (int_eq z (pos 0)) (int_eq z (pos 1)) bit)
-
 -- a number is one where its count is
 pub one_test : (z : ℤ) → is_bit z ≡ true → int_eq z (pos 1) ≡ (place_number z == 1)
 one_test z bit =
-    ⊎_elim
-    (λ none. rw none refl)
-    (λ one. rw one refl)
-    (bit_is z bit)
+    elim (or_cases (int_eq z (pos 0)) (int_eq z (pos 1)) bit) [
+      | inl none ↦ rw ((Decides-int_eq z (pos 0)).0 none) refl
+      | inr one ↦ rw ((Decides-int_eq z (pos 1)).0 one) refl
+    ]
 
 pub bit_natural : (z : ℤ) → is_bit z ≡ true → is_natural z ≡ true
 bit_natural (pos n) bit = refl
 bit_natural (negsuc n) bit = absurd (true≢false (sym bit))
 
 pub bit_most : (z : ℤ) → is_bit z ≡ true → place_number z ≤ 1
-bit_most z bit =
-    ⊎_elim
-    (λ none. omega (arith, ap place_number none))
-    (λ one. omega (arith, ap place_number one))
-    (bit_is z bit)
+bit_most (pos n) bit = grind (arith, nat_tests)
+bit_most (negsuc n) bit = absurd (true≢false (sym bit))
 
 pub sum_same : (n c : ℕ) → sum (replicate n c) ≡ n * c
 sum_same n c = sum_by-replicate (λ x. x) n c
@@ -188,12 +172,6 @@ same_number (negsuc n) natural = absurd (true≢false (sym natural))
 pub cast_is : (z : ℤ) → is_natural z ≡ true → to_z w64 (of_z w64 z) ≡ z → nat_abs (to_z w64 (of_z w64 z)) ≡ place_number z
 cast_is z natural turned = ap nat_abs turned ∙ same_number z natural
 
-pub natural_at : (numbers : List ℤ) (i : ℕ) → list_all is_natural numbers ≡ true → is_natural (slice_index_or numbers i (pos 0)) ≡ true
-natural_at [] i all = refl
-natural_at (pos n ∷ zs) zero all = refl
-natural_at (pos n ∷ zs) (suc i) all = natural_at zs i all
-natural_at (negsuc n ∷ zs) i all = absurd (true≢false (sym all))
-
 pub natural_sum : (numbers : List ℤ) (i : ℕ) → i < length numbers → sum (take (i + 1) (map place_number numbers)) ≡ sum (take i (map place_number numbers)) + place_number (slice_index_or numbers i (pos 0))
 natural_sum numbers i inside =
     omega (arith, sum_by_more (λ n. n) (map place_number numbers) i 0 (omega (arith, inside, length-map numbers place_number)), count_at numbers i)
@@ -205,25 +183,15 @@ natural_repeats numbers i inside =
     ∙ ap (λ n. repeated_indexes (take i (map place_number numbers)) ++ replicate n i) (count_at numbers i)
 
 pub bits_natural : (bits : List ℤ) → list_all is_bit bits ≡ true → list_all is_natural bits ≡ true
-bits_natural [] bits = refl
-bits_natural (pos n ∷ zs) bits = bits_natural zs (and_parts (is_bit (pos n)) (list_all is_bit zs) bits).1
-bits_natural (negsuc n ∷ zs) bits = absurd (true≢false (sym bits))
-
-and_true : (p : Bool) → (p && true) ≡ p
-and_true true = refl
-and_true false = refl
+bits_natural bits all = list_all-from_AllPass is_natural bits (λ i d inside. bit_natural (slice_index_or bits i d) (AllPass-from_list_all is_bit bits all i d inside))
 
 -- one number alone
 pub single_natural : (numbers : List ℤ) → length numbers ≡ 1 → list_all is_natural numbers ≡ is_natural (slice_index_or numbers 0 (pos 0))
 single_natural [] one = absurd (omega (arith, one))
-single_natural (z ∷ []) one = and_true (is_natural z)
+single_natural (z ∷ []) one = and-true (is_natural z)
 single_natural (y ∷ z ∷ zs) one = absurd (omega (arith, one))
 
 -- ---- a shape with an axis past the limit
-
-and_false : (p : Bool) → (p && false) ≡ false
-and_false true = refl
-and_false false = refl
 
 pub shape_past : (shape : List ℕ) (k n : ℕ) → k < length shape → most_elements < n → is_shape (slice_set shape k n) ≡ false
 shape_past shape k n axis past =
@@ -231,7 +199,7 @@ shape_past shape k n axis past =
     let here : slice_index new k ≡ n = get_or-set_at shape k k n 0 refl axis in
     let none : list_all (λ m. nat_le m most_elements) new ≡ false =
     list_all_at (λ m. nat_le m most_elements) new k 0 (omega (arith, axis, length-set shape k n)) (rw here (grind (arith, nat_tests))) in
-    rw none (and_false (nat_le (length new) most_axes))
+    rw none (and-false (nat_le (length new) most_axes))
 
 -- ---- the row of A/B, where all but its counts was judged
 

@@ -14,13 +14,6 @@ use Rattle.apl_array.specs.declared.array.Elem.{Elem}
 use Rattle.apl_array.specs.Axes.{place_number}
 use Rattle.apl_struct.specs.Building.{reshape_source}
 
--- ---- along an axis
-
-pub get_or-within : {T : Type 0} (xs : List T) (k : ℕ) (c d : T) → k < length xs → get_or xs k c ≡ get_or xs k d
-get_or-within [] k c d inside = absurd (omega arith)
-get_or-within (x ∷ xs) zero c d inside = refl
-get_or-within (x ∷ xs) (suc k) c d inside = get_or-within xs k c d (omega arith)
-
 -- ---- an axis of a shape that has elements: `outer` blocks of `m` times `inner` places
 
 pub record AxisFacts (outer m inner count : ℕ) : Type 0 where
@@ -53,7 +46,7 @@ axis_facts (suc outer) (suc m) (suc inner) count is some =
 module _ (below : (shape index : List ℕ) → IsIndexOf shape index → place_of shape index < count_of shape) where
   -- the fill is taken nowhere within an argument
   pub filled_within : (b : ArrayValue) (index : List ℕ) → IsArray b → IsIndexOf b.shape index → filled_at b (Some (place_of b.shape index)) ≡ element_at b index
-  filled_within b index array is = get_or-within b.ravel (place_of b.shape index) (fill_of b.kind) (Int (pos 0)) (omega (arith, array.len, below b.shape index is))
+  filled_within b index array is = get_or_default b.ravel (place_of b.shape index) (fill_of b.kind) (Int (pos 0)) (omega (arith, array.len, below b.shape index is))
 
 -- ---- the places of a vector are its indexes
 
@@ -66,7 +59,7 @@ vector_index shape n place is inside =
 
 -- the fill is taken at no place of an argument
 pub filled_in : (b : ArrayValue) (place : ℕ) → IsArray b → place < count_of b.shape → filled_at b (Some place) ≡ element_in b place
-filled_in b place array inside = get_or-within b.ravel place (fill_of b.kind) (Int (pos 0)) (omega (arith, array.len))
+filled_in b place array inside = get_or_default b.ravel place (fill_of b.kind) (Int (pos 0)) (omega (arith, array.len))
 
 -- and at each place of an argument without elements
 pub filled_past : (b : ArrayValue) (place : ℕ) → IsArray b → count_of b.shape ≡ 0 → filled_at b (Some place) ≡ fill_of b.kind

@@ -6,7 +6,7 @@ use Rattle.std.proofs.Math.Nat.{mod-lt, mul-le-mul_right}
 use Rattle.std.proofs.Math.ListN.{get_or-map}
 use Rattle.std.proofs.lemmas.Bool.{cases_Bool, cases_lt, eqb-true, eqb-false, eq-eqb, lt-ltb, le-ltb}
 use Rattle.std.proofs.lemmas.Bool.Decides.{nat_tests}
-use Rattle.std.proofs.lemmas.List.{nil_from_length, set-get_or, length-set, drop-set-lt, get_or-set_same}
+use Rattle.std.proofs.lemmas.List.{nil_from_length, set-get_or, length-set, drop-set-lt, get_or-set_same, get_or_default}
 use Rattle.std.specs.Cmp.Lexicographic.{same_text}
 use Rattle.std.proofs.lemmas.List.Edits.{length-insert, get_or-insert_at}
 use Rattle.apl_array.specs.declared.array.Elem.{Elem}
@@ -17,7 +17,7 @@ use Rattle.apl_answer.specs.Arguments.{rank_of, is_scalar, is_same_shape, fill_o
 use Rattle.apl_walk.specs.Seams.{joined_value}
 use Rattle.apl_struct.specs.Joined.{joined_at}
 use Rattle.apl_struct.specs.Joining.{joined_rank, can_join, joined_kind, slices_shape, slices_source, catenated_element}
-use Rattle.apl_struct.proofs.Elements.{get_or-within, axis_facts}
+use Rattle.apl_struct.proofs.Elements.{axis_facts}
 
 -- ---- values of one type as elements
 
@@ -77,7 +77,7 @@ only_value (x ∷ y ∷ xs) fill d place one = absurd (omega arith)
 element_there : (own : ArrayValue) (source : List ℕ) (place : ℕ) (past : Elem) → IsArray own → place_of own.shape source < count_of own.shape → place ≡ place_of own.shape source
     → slice_index_or own.ravel place past ≡ element_at own source
 element_there own source place past array within there =
-    ap (λ p. slice_index_or own.ravel p past) there ∙ get_or-within own.ravel (place_of own.shape source) past (Int (pos 0)) (omega (arith, array.len, within))
+    ap (λ p. slice_index_or own.ravel p past) there ∙ get_or_default own.ravel (place_of own.shape source) past (Int (pos 0)) (omega (arith, array.len, within))
 
 -- an argument that is no scalar and has not all axes has one less
 one_less : (own other rank : ℕ) → rank ≡ max 1 (max own other) → ((own == 0) || ((other == 0) || (nat_le own (other + 1) && nat_le other (own + 1)))) ≡ true

@@ -11,7 +11,7 @@ use Rattle.apl_struct.specs.Compressing.{as_vector}
 use Rattle.apl_struct.specs.Along.{entry_index, taking_extent, taking_index, IsTakingOf}
 use Rattle.apl_struct.proofs.Limits.{element_in_in}
 use Rattle.std.proofs.lemmas.Bool.{cases_Bool, eqb-true, eqb-false}
-use Rattle.std.proofs.lemmas.List.{nil_from_length, get_or-replicate, set-get_or}
+use Rattle.std.proofs.lemmas.List.{nil_from_length, get_or-replicate, set-get_or, get_or_default}
 use Rattle.std.proofs.Math.Nat.{mod-one, div-eq_of_lt, div-eq_of_eq-mul_left, div-lt_iff_lt-mul, le-mul_of_pos_right}
 use Rattle.apl_array.specs.declared.array.Elem.TheVariants.{Int}
 use Rattle.apl_array.specs.Shape.{IsShape, IsIndexOf, is_shape, count_of, place_of, index_at}
@@ -23,7 +23,7 @@ use Rattle.apl_struct.specs.declared.along.Taking.{Taking}
 use Rattle.apl_struct.specs.declared.along.Taking.TheVariants.{Reversed, Rotated, Repeated, Listed}
 use Rattle.apl_struct.specs.Gathering.{element_or_fill}
 use Rattle.apl_struct.specs.Shaped.{IsArrayOrLimit}
-use Rattle.apl_struct.proofs.Elements.{get_or-within, filled_within}
+use Rattle.apl_struct.proofs.Elements.{filled_within}
 use Rattle.apl_struct.proofs.Taken.{pos_right}
 use Rattle.apl_struct.proofs.Rotations.{wrapped_below}
 
@@ -122,7 +122,7 @@ module _ (below : (shape index : List ℕ) → IsIndexOf shape index → place_o
             let one : length b.ravel ≡ 1 = array.len ∙ ap count_of none in
             let at_first : place % 1 + i * 0 + place / (m * 1) * (count_of b.shape / 1) ≡ 0 =
             omega (arith, mod-one place, ap (λ q. q * (count_of b.shape / 1)) (div-eq_of_lt here)) in
-            let is_only = get_or-within b.ravel 0 (fill_of b.kind) (Int (pos 0)) (omega (arith, one)) in
+            let is_only = get_or_default b.ravel 0 (fill_of b.kind) (Int (pos 0)) (omega (arith, one)) in
             rw (scalar, first) (ap (λ p. filled_at b (Some p)) at_first ∙ is_only ∙ sym (get_or-replicate n (i * 1 + 0) (only_element b) (Int (pos 0)) (omega (arith, within))))
         | inr vector ↦
             let inner = count_of (drop (k + 1) b.shape) in

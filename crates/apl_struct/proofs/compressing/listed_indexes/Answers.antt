@@ -1,8 +1,9 @@
 use Rattle.std.proofs.Common.{◌≡◌, ◌+◌, ◌≤◌, ◌++◌, pos, map, take, length, replicate, to_z, of_z, to_z-of_z, w64, nat_abs, slice_index_or, ap, sym, ◌∙◌, arith, rules}
 use Rattle.std.specs.Prelude.{sum, vec_len}
-use Rattle.std.proofs.lemmas.List.Sums.{sum_by-take-le}
+use Rattle.std.proofs.lemmas.List.Sums.{sum_by-take-le, AllPass-from_list_all}
 use Rattle.apl_array.specs.Axes.{place_number}
-use Rattle.apl_struct.proofs.Counts.{natural_at, natural_sum, cast_is, natural_repeats, repeated_length}
+use Rattle.apl_answer.specs.Arguments.{is_natural}
+use Rattle.apl_struct.proofs.Counts.{natural_sum, cast_is, natural_repeats, repeated_length}
 use Rattle.apl_struct.proofs.compressing.listed_indexes.Goals as goal
 
 pub append_times-requires : goal.append_times-requires
@@ -12,7 +13,7 @@ append_times-requires c =
     let kept = c.loop-i.invariant in
     let inside = c.loop-i-test.true in
     let z = slice_index_or counts i (pos 0) in
-    let held : nat_abs (to_z w64 (of_z w64 z)) ≡ place_number z = cast_is z (natural_at counts i c.requires.counts) (grind (arith, to_z-of_z)) in
+    let held : nat_abs (to_z w64 (of_z w64 z)) ≡ place_number z = cast_is z (AllPass-from_list_all is_natural counts c.requires.counts i (pos 0) inside) (grind (arith, to_z-of_z)) in
     let numbers = map place_number counts in
     let so_far : length c.loop-i.table.items ≡ sum (take i numbers) = ap length kept.kept ∙ repeated_length (take i numbers) in
     let all : sum (take (i + 1) numbers) ≤ sum numbers = sum_by-take-le (λ n. n) numbers (i + 1) in
@@ -26,7 +27,7 @@ loop-i-preserved c =
     let kept = c.loop-i.invariant in
     let inside = c.loop-i-test.true in
     let z = slice_index_or counts i (pos 0) in
-    let held : nat_abs (to_z w64 (of_z w64 z)) ≡ place_number z = cast_is z (natural_at counts i c.requires.counts) (grind (arith, to_z-of_z)) in
+    let held : nat_abs (to_z w64 (of_z w64 z)) ≡ place_number z = cast_is z (AllPass-from_list_all is_natural counts c.requires.counts i (pos 0) inside) (grind (arith, to_z-of_z)) in
     record {
       kept = c.append_times.ensures.items
           ∙ ap (λ n. c.loop-i.table.items ++ replicate n i) held

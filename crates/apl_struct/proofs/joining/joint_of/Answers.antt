@@ -1,11 +1,10 @@
 use Rattle.std.proofs.Common.{◌≡◌, ℕ, List, ◌++◌, ◌+◌, ◌<◌, true, length, take, drop, slice_index, sym, ap, ◌∙◌, arith, rules}
 use Rattle.std.specs.Prelude.{remove, slice_set}
 use Rattle.std.proofs.Math.Seq.{take-append_seam}
-use Rattle.std.proofs.lemmas.List.{length-set}
+use Rattle.std.proofs.lemmas.List.{length-set, get_or_default}
 use Rattle.std.specs.Cmp.Lexicographic.{same_text}
 use Rattle.apl_answer.specs.Arguments.{is_same_shape}
 use Rattle.apl_struct.specs.Joining.{slices_shape}
-use Rattle.apl_struct.proofs.Elements.{get_or-within}
 use Rattle.apl_struct.proofs.Joints.{same_but_for}
 use Rattle.apl_struct.proofs.joining.joint_of.Goals as goal
 
@@ -22,7 +21,7 @@ returns c =
     let axis : k < length own = omega (arith, ap length owns, c.in_ok-lengths.ensures.axes, c.requires.axis) in
     let axis' : k < length other = omega (arith, ap length others, c.in_ok-joined.ensures.axes, c.requires.axis) in
     let left : c.remove-left.result ≡ slice_index own k =
-    c.remove-left.ensures.value ∙ get_or-within c.in_ok-lengths.lengths.items k c.remove-left.result 0 (omega (arith, ap length owns, axis)) ∙ ap (λ l. slice_index l k) owns in
+    c.remove-left.ensures.value ∙ get_or_default c.in_ok-lengths.lengths.items k c.remove-left.result 0 (omega (arith, ap length owns, axis)) ∙ ap (λ l. slice_index l k) owns in
     let kept : c.remove-left.new.self.items ≡ remove own k = c.remove-left.ensures.items ∙ ap (λ l. remove l k) owns in
     let same : is_same_shape (remove own k) (remove other k) ≡ true = search rules in
     let joined = slice_set other k (slice_index other k + slice_index own k) in
