@@ -1,5 +1,5 @@
 -- Indexes that counts repeat, and lists of numbers as counts.
-use Rattle.std.proofs.Common.{◌≡◌, ℕ, zero, suc, ◌+◌, ◌-◌, ◌*◌, ◌/◌, ◌<◌, List, [], ◌∷◌, ◌++◌, take, length, replicate, slice_index, refl, ap, sym, ◌∙◌, ⊎_elim, arith, ℤ, pos, negsuc, true, false, Bool, int_eq, map, slice_index_or, inl, inr, int_lt, nat_abs, ◌&&◌, to_z, of_z, w64, nat_le, slice_set, Result, Err}
+use Rattle.std.proofs.Common.{◌≡◌, ℕ, zero, suc, add-one, ◌+◌, ◌-◌, ◌*◌, ◌/◌, ◌<◌, List, [], ◌∷◌, ◌++◌, take, length, replicate, slice_index, refl, ap, sym, ◌∙◌, ⊎_elim, arith, ℤ, pos, negsuc, true, false, Bool, int_eq, map, slice_index_or, inl, inr, int_lt, nat_abs, ◌&&◌, to_z, of_z, w64, nat_le, slice_set, Result, Err}
 use Rattle.std.specs.Prelude.{◌≤◌, All, sum, flat_map, ◌^◌, ◌==◌, ◌||◌, ◌⊎◌}
 use Rattle.std.specs.List.{range_with_len, list_all}
 use Rattle.std.proofs.Math.Nat.{div-eq_of_lt, add-div_right}
@@ -40,8 +40,7 @@ repeats_of count start (c ∷ cs) same =
     let first : start ≡ start + 0 = omega arith in
     let here : count start ≡ c = ap count first ∙ same 0 (omega arith) in
     let further : (i : ℕ) → start + 1 + i ≡ start + suc i = λ i. omega arith in
-    ap (λ n. replicate n start ++ flat_map (λ i. replicate (count i) i) (range_with_len (start + 1) (length cs))) here
-    ∙ ap (λ rest. replicate c start ++ rest) (repeats_of count (start + 1) cs (λ i inside. ap count (further i) ∙ same (suc i) (omega (arith, inside))))
+    rw (here, repeats_of count (start + 1) cs (λ i inside. ap count (further i) ∙ same (suc i) (omega (arith, inside)))) refl
 
 repeated_is : (counts : List ℕ) → repeated_indexes counts ≡ repeats 0 counts
 repeated_is counts = repeats_of (slice_index counts) 0 counts (λ i inside. ap (slice_index counts) (omega arith))
@@ -53,20 +52,7 @@ repeats_step start (c ∷ cs) zero inside =
     append-nil (replicate c start) ∙ ap (replicate c) first
 repeats_step start (c ∷ cs) (suc i) inside =
     let further : start + 1 + i ≡ start + suc i = omega arith in
-    ap (λ rest. replicate c start ++ rest) (repeats_step (start + 1) cs i (omega (arith, inside)))
-    ∙ sym (append_assoc (replicate c start) (repeats (start + 1) (take i cs)) (replicate (slice_index cs i) (start + 1 + i)))
-    ∙ ap (λ j. (replicate c start ++ repeats (start + 1) (take i cs)) ++ replicate (slice_index cs i) j) further
-
--- the indexes up to one more than i
-pub repeated_step : (counts : List ℕ) (i : ℕ) → i < length counts → repeated_indexes (take (i + 1) counts) ≡ repeated_indexes (take i counts) ++ replicate (slice_index counts i) i
-repeated_step counts i inside =
-    let here : 0 + i ≡ i = omega arith in
-    let next : i + 1 ≡ suc i = omega arith in
-    ap (λ j. repeated_indexes (take j counts)) next
-    ∙ repeated_is (take (suc i) counts)
-    ∙ repeats_step 0 counts i inside
-    ∙ ap (λ j. repeats 0 (take i counts) ++ replicate (slice_index counts i) j) here
-    ∙ ap (λ front. front ++ replicate (slice_index counts i) i) (sym (repeated_is (take i counts)))
+    rw (repeats_step (start + 1) cs i (omega (arith, inside)), further) (sym (append_assoc (replicate c start) (repeats (start + 1) (take i cs)) _))
 
 repeats_below : (start : ℕ) (counts : List ℕ) (n : ℕ) → start + length counts ≤ n → All (λ i. i < n) (repeats start counts)
 repeats_below start [] n most = All-nil (λ i. i < n)
@@ -79,10 +65,7 @@ repeated_below counts = rw (repeated_is counts) (repeats_below 0 counts (length 
 repeats_length : (start : ℕ) (counts : List ℕ) → length (repeats start counts) ≡ sum counts
 repeats_length start [] = refl
 repeats_length start (c ∷ cs) =
-    length-append (replicate c start) (repeats (start + 1) cs)
-    ∙ ap (λ n. n + length (repeats (start + 1) cs)) (length-replicate c start)
-    ∙ ap (λ n. c + n) (repeats_length (start + 1) cs)
-    ∙ sym (sum_by-cons (λ n. n) c cs)
+    rw (length-append (replicate c start) (repeats (start + 1) cs), length-replicate c start, repeats_length (start + 1) cs) (sym (sum_by-cons (λ n. n) c cs))
 
 -- as many as the counts in all
 pub repeated_length : (counts : List ℕ) → length (repeated_indexes counts) ≡ sum counts
@@ -110,7 +93,7 @@ repeats_same start (suc n) c i inside =
 pub repeated_same : (n c i : ℕ) → i < n * c → slice_index (repeated_indexes (replicate n c)) i ≡ i / c
 repeated_same n c i inside =
     let here : 0 + i / c ≡ i / c = omega arith in
-    ap (λ indexes. slice_index indexes i) (repeated_is (replicate n c)) ∙ repeats_same 0 n c i inside ∙ here
+    rw (repeated_is (replicate n c)) (repeats_same 0 n c i inside ∙ here)
 
 -- ---- bits, as counts
 
@@ -179,8 +162,10 @@ natural_sum numbers i inside =
 pub natural_repeats : (numbers : List ℤ) (i : ℕ) → i < length numbers
     → repeated_indexes (take (i + 1) (map place_number numbers)) ≡ repeated_indexes (take i (map place_number numbers)) ++ replicate (place_number (slice_index_or numbers i (pos 0))) i
 natural_repeats numbers i inside =
-    repeated_step (map place_number numbers) i (omega (arith, inside, length-map numbers place_number))
-    ∙ ap (λ n. repeated_indexes (take i (map place_number numbers)) ++ replicate n i) (count_at numbers i)
+    let own = map place_number numbers in
+    let here : 0 + i ≡ i = omega arith in
+    let step = repeats_step 0 own i (omega (arith, inside, length-map numbers place_number)) in
+    rw (add-one, repeated_is (take (suc i) own), repeated_is (take i own), step, here, count_at numbers i) refl
 
 pub bits_natural : (bits : List ℤ) → list_all is_bit bits ≡ true → list_all is_natural bits ≡ true
 bits_natural bits all = list_all-from_AllPass is_natural bits (λ i d inside. bit_natural (slice_index_or bits i d) (AllPass-from_list_all is_bit bits all i d inside))

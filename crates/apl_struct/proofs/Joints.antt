@@ -218,26 +218,6 @@ module _ (below : (shape index : List ℕ) → IsIndexOf shape index → place_o
             rw (le-ltb i n later) (whole ∙ part ∙ slices_element below b a rank k moved taken fill array_b turned (joins_turned (rank_of a) (rank_of b) joins) axis here there)
       ]
 
-  -- the same where the lines are told by the shape
-  pub joined_place : (a b : ArrayValue) (k left right width others place : ℕ) (shape : List ℕ) → IsArray a → IsArray b → can_join a b ≡ true → k < joined_rank a b
-      → let rank = joined_rank a b in is_same_shape (remove (slices_shape rank k a b) k) (remove (slices_shape rank k b a) k) ≡ true
-      → left ≡ slice_index (slices_shape rank k a b) k → right ≡ slice_index (slices_shape rank k b a) k → shape ≡ slice_set (slices_shape rank k a b) k (left + right)
-      → width ≡ left * count_of (drop (k + 1) shape) → others ≡ right * count_of (drop (k + 1) shape) → place < count_of shape
-      → joined_at a b width others place ≡ catenated_element rank k left a b (index_at shape place)
-  joined_place a b k left right width others place shape array_a array_b joins axis same left_is right_is shape_is width_is others_is inside =
-      let rank = joined_rank a b in
-      let own = slices_shape rank k a b in
-      let n = slice_index own k in
-      let m = slice_index (slices_shape rank k b a) k in
-      let inner = count_of (drop (k + 1) own) in
-      let axis_own : k < length own = omega (arith, slices_length a b rank k refl axis) in
-      let shapes : shape ≡ slice_set own k (n + m) = shape_is ∙ ap (λ l. slice_set own k (l + right)) left_is ∙ ap (λ r. slice_set own k (n + r)) right_is in
-      let inners : count_of (drop (k + 1) shape) ≡ inner = ap (λ s. count_of (drop (k + 1) s)) shapes ∙ ap count_of (drop-set-lt (k + 1) own k (n + m) (omega arith)) in
-      let widths : width ≡ n * inner = width_is ∙ ap (λ l. l * count_of (drop (k + 1) shape)) left_is ∙ ap (λ w. n * w) inners in
-      let other_widths : others ≡ m * inner = others_is ∙ ap (λ l. l * count_of (drop (k + 1) shape)) right_is ∙ ap (λ w. m * w) inners in
-      let here : place < count_of (slice_set own k (n + m)) = rw shapes at inside in
-      rw (widths, other_widths, left_is, shapes) (joined_element a b rank k place array_a array_b refl joins axis same here)
-
 -- the axis of the joined shape
 pub joined_axis : (a b : ArrayValue) (k left right : ℕ) (shape : List ℕ) → k < joined_rank a b → shape ≡ slice_set (slices_shape (joined_rank a b) k a b) k (left + right)
     → (k < length shape) × (left + right ≡ slice_index shape k)

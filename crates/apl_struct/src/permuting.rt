@@ -1,5 +1,5 @@
 //! Permuted axes, diagonals, and the axes that numbers name.
-ghost use Rattle.std.specs.Prelude.{◌≡◌, ℕ, ◌+◌, ◌*◌, ◌^◌, ◌<◌, [], All, Ok, Some, IfOk, MatchOption, true, length, sum, reverse, ◌==◌, map};
+ghost use Rattle.std.specs.Prelude.{◌≡◌, ℕ, ◌+◌, ◌-◌, ◌*◌, ◌^◌, ◌<◌, [], All, Ok, Some, IfOk, MatchOption, true, length, sum, reverse, ◌==◌, map};
 ghost use Rattle.std.specs.List.{range_with_len, list_all, list_any};
 ghost use Rattle.apl_array.specs.Array.{element_at};
 ghost use Rattle.apl_array.specs.Shape.{IsShape, count_of, index_at};
@@ -154,7 +154,7 @@ pub fn transpose<R: Threads + Sync, C: Cut + Sync, G: Gate + Sync>(
 }
 
 fn reversed_axes(alloc: Global, rank: usize) -> Result<Vec<usize>, AllocError>
-    ensures { IfOk result (λ axes. axes.items ≡ reverse (range_with_len 0 rank)) }
+    ensures { IfOk result (λ axes. axes.items ≡ map (λ k. rank - 1 - k) (range_with_len 0 rank)) }
 {
     (0..rank).map(|k| rank - 1 - k).collect(alloc)
 }

@@ -1,9 +1,11 @@
-use Rattle.std.proofs.Common.{◌≡◌, ℕ, ◌+◌, ◌-◌, ◌<◌, length, slice_index, refl, arith}
+use Rattle.std.proofs.Common.{◌≡◌, ℕ, ◌+◌, ◌-◌, ◌<◌, length, drop, slice_index, refl, ap, ◌∙◌, arith}
+use Rattle.std.specs.Prelude.{slice_set}
+use Rattle.std.proofs.lemmas.List.{drop-set-lt}
 use Rattle.apl_array.specs.Shape.{count_of, index_at}
 use Rattle.apl_array.specs.Array.{ArrayValue}
 use Rattle.apl_struct.specs.Joined.{joined_at}
 use Rattle.apl_struct.specs.Joining.{joined_rank, slices_shape, catenated_element}
-use Rattle.apl_struct.proofs.Joints.{joined_place, joined_axis}
+use Rattle.apl_struct.proofs.Joints.{joined_element, joined_axis}
 use Rattle.apl_struct.proofs.joining.join_along.Given.{Over}
 use Rattle.apl_struct.proofs.joining.join_along.Goals as goal
 use Rattle.apl_struct.proofs.joining.join_along.Goals.{After-kind-2, After-seam_along-seam}
@@ -26,14 +28,20 @@ element : (g : Over) (c : After-seam_along-seam g) (place : ℕ) → place < cou
 element g c place inside =
     let law = c.places_match_index_lists.ensures in
     let line = c.changed_axis_has_place.ensures in
-    let seam = c.seam_along-seam in
+    let seam = c.seam_along-seam.ensures in
+    let a = c.args.a.now in
+    let b = c.args.b.now in
+    let k = c.args.k in
+    let own = slices_shape (joined_rank a b) k a b in
+    let n = slice_index own k in
+    let m = right a b k in
     let some : 0 < count_of c.args.shape = omega (arith, inside) in
-    let m = right c.args.a.now c.args.b.now c.args.k in
-    let rest : slice_index c.args.shape c.args.k - c.args.left ≡ m =
-    omega (arith, (joined_axis c.args.a.now c.args.b.now c.args.k c.args.left m c.args.shape c.requires.axis c.requires.shape).1) in
-    joined_place law.below law.lawful line.count line.index line.lawful line.place c.args.a.now c.args.b.now c.args.k c.args.left m seam.result.left seam.result.right place
-    c.args.shape c.kind.ensures.lawful c.kind-2.ensures.lawful c.requires.ranks c.requires.axis c.requires.others c.requires.left refl c.requires.shape
-    (seam.ensures.left some) (rw rest at seam.ensures.right some) inside
+    let rest : slice_index c.args.shape k - c.args.left ≡ m = omega (arith, (joined_axis a b k c.args.left m c.args.shape c.requires.axis c.requires.shape).1) in
+    let shape : c.args.shape ≡ slice_set own k (n + m) = c.requires.shape ∙ ap (λ l. slice_set own k (l + m)) c.requires.left in
+    let inner : count_of (drop (k + 1) (slice_set own k (n + m))) ≡ count_of (drop (k + 1) own) = ap count_of (drop-set-lt (k + 1) own k (n + m) (omega arith)) in
+    rw (seam.left some, seam.right some, rest, c.requires.left, shape, inner)
+    (joined_element law.below law.lawful line.count line.index line.lawful line.place a b (joined_rank a b) k place c.kind.ensures.lawful c.kind-2.ensures.lawful refl c.requires.ranks
+    c.requires.axis c.requires.others (rw shape at inside))
 
 pub returns-in-Number : goal.returns-in-Number
 returns-in-Number g c = c.join_elements.ensures _ (element g (goal.at.returns-in-Number g c).After-seam_along-seam)

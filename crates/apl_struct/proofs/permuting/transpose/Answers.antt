@@ -3,7 +3,7 @@ use Rattle.std.specs.List.{range_with_len}
 use Rattle.std.proofs.lemmas.List.{length-reverse}
 use Rattle.apl_array.specs.Array.{element_at}
 use Rattle.apl_struct.proofs.Limits.{lawful_reverse}
-use Rattle.apl_struct.proofs.Permuted.{AreAxesInto-reverse}
+use Rattle.apl_struct.proofs.Permuted.{reversed_axes, AreAxesInto-reverse}
 use Rattle.apl_struct.proofs.permuting.transpose.Given.{Over}
 use Rattle.apl_struct.proofs.permuting.transpose.Goals as goal
 use Rattle.apl_struct.proofs.permuting.transpose.Goals.{After-as_slice, After-as_slice-2}
@@ -15,7 +15,7 @@ lengths g c =
 
 axes : (g : Over) (c : After-as_slice-2 g) → c.as_slice-2.result.now ≡ reverse (range_with_len 0 (length c.args.b.now.shape))
 axes g c =
-    c.as_slice-2.ensures.value ∙ c.in_ok-axes.ensures ∙ ap (λ n. reverse (range_with_len 0 n)) (c.rank.ensures.rank ∙ ap length c.shape-argument.ensures.shape)
+    c.as_slice-2.ensures.value ∙ c.in_ok-axes.ensures ∙ reversed_axes c.rank.result ∙ ap (λ n. reverse (range_with_len 0 n)) (c.rank.ensures.rank ∙ ap length c.shape-argument.ensures.shape)
 
 pub lawful_shape-requires : goal.lawful_shape-requires
 lawful_shape-requires g c =
