@@ -15,8 +15,7 @@ returns-then-count-eq0 g c =
     let a = c.args.a.now in
     let slots : Slots = c.args.slots.now in
     let none : count_of c.args.selected ≡ 0 = omega (arith, c.count-count.ensures.count, c.if-count-eq0.true) in
-    let P : ℕ → Type 0 = λ n. IsAnswerOf (answer_of a.shape (λ index. Ok (replaced_element a c.args.b.now index (last_choice c.args.origin slots c.args.selected index n))) a.kind) c.unchanged.result in
-    subst P (sym none) (c.unchanged.ensures _ (λ index lawful. refl))
+    rw none (c.unchanged.ensures _ (λ index lawful. refl))
 
 pub replace_chosen-requires-clause-some : goal.replace_chosen-requires-clause-some
 replace_chosen-requires-clause-some g c κs lives =
@@ -54,14 +53,11 @@ returns g c =
     let reaches : (p : ℕ) → walked (last ∷ others) p ≡ Some (chosen p) = λ p. ap (λ ms. walked ms p) parts ∙ c.in_ok-walk.ensures.place p in
     let copied : c.in_ok-shape.shape ≡ a.shape = c.in_ok-shape.ensures.copy ∙ c.shape.ensures.shape in
     let element : List ℕ → Elem = λ index. replaced_element a b index (last_choice c.args.origin slots selected index (count_of selected)) in
-    let P : List ℕ → Type 0 = λ s. IsAnswerOf (answer_of s (λ index. Ok (element index)) a.kind) c.replace_chosen.result in
-    subst P copied (c.replace_chosen.ensures element (λ place inside.
-    let here : place < count_of a.shape = rw copied at inside in
+    (rw copied at c.replace_chosen.ensures) element (λ place inside.
     let step = c.value_step-step.result in
     let number : number_at (last ∷ others) step place ≡ last_number chosen (value_step b) place (count_of selected) =
     same_numbers (chosen_at (last ∷ others)) chosen step place (extent_of (last ∷ others)) (λ m below. ap place_or_zero (reaches m))
     ∙ rw (extent, c.value_step-step.ensures.value) refl in
     ap (λ n. element_numbered a b n place) number
     ∙ last_chosen law.same_index law.lawful law.same_place c.args.origin a b slots selected c.in_ok-walk.ensures.lawful c.requires.values c.shape.ensures.lawful c.value_step-step.ensures.lawful
-    place (count_of selected) here (omega arith)
-    ∙ ap (λ s. element (index_at s place)) (sym copied)))
+    place (count_of selected) inside (omega arith))

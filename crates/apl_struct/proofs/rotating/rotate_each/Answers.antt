@@ -63,18 +63,16 @@ returns g c = λ element told.
     let n_is : c.axis-length.result ≡ n = c.axis-length.ensures.length ∙ ap (λ s. slice_index s k) shapes in
     let inner_is : c.inner-inner.result ≡ inner = c.inner-inner.ensures.inner ∙ ap (λ s. count_of (drop (k + 1) s)) shapes in
     let by_is : by ≡ map (rotation_of n) zs = (let plain : by ≡ map (rotation_of c.axis-length.result) zs = search rules in plain) ∙ ap (λ m. map (rotation_of m) zs) n_is in
-    rw (sym shapes)
-    (c.rotate_lines.ensures element (λ place inside.
-    let here : place < count_of b.shape = rw shapes at inside in
+    (rw (shapes, n_is, inner_is) at c.rotate_lines.ensures) element (λ place inside.
     let index = index_at b.shape place in
-    let lawful : IsIndexOf b.shape index = law.lawful b.shape place here in
+    let lawful : IsIndexOf b.shape index = law.lawful b.shape place inside in
     let i = line_index n inner place in
     let l = line_number n inner place in
     let z = slice_index_or zs (place_of (remove b.shape k) (remove index k)) (pos 0) in
     let index_is : slice_index index k ≡ i = c.split_index_has_place.ensures.index b.shape k place c.requires in
     let below : i < n = omega (arith, index_is, lawful.below k c.requires) in
     let line : l ≡ place_of (remove b.shape k) (remove index k) =
-    line_is law.below law.lawful law.same_index law.same_place others.lawful others.place b.shape k place (count_of (take k b.shape)) c.requires here
+    line_is law.below law.lawful law.same_index law.same_place others.lawful others.place b.shape k place (count_of (take k b.shape)) c.requires inside
     (replaced.count b.shape k c.requires) (others.count b.shape k c.requires) in
     let turn : slice_index by l ≡ rotation_of n z =
     rw by_is (rotation_at_line n zs l ∙ ap (λ m. rotation_of n (slice_index_or zs m (pos 0))) line) in
@@ -84,8 +82,7 @@ returns g c = λ element told.
     let j_below : j < n =
     wrapped_below n i (slice_index by l) below (let most : slice_index by l ≤ n = rw by_is (rotation_at_line_most n zs l) in most) in
     let taken = slice_set index k j in
-    let same : line_place n inner (n * inner) place j ≡ place_of b.shape taken = omega (arith, replaced.place b.shape k place j c.requires here) in
-    rw (n_is, inner_is)
-    (ap (λ p. filled_at b (Some p)) same
+    let same : line_place n inner (n * inner) place j ≡ place_of b.shape taken = omega (arith, replaced.place b.shape k place j c.requires inside) in
+    ap (λ p. filled_at b (Some p)) same
     ∙ filled_within law.below b taken c.shape.ensures.lawful (replaced.lawful b.shape index k j lawful j_below)
-    ∙ ap (λ m. element_at b (slice_set index k m)) rotated ∙ told index lawful ∙ ap (λ s. element (index_at s place)) (sym shapes))))
+    ∙ ap (λ m. element_at b (slice_set index k m)) rotated ∙ told index lawful)

@@ -12,9 +12,8 @@ taken-requires-clause-len g c κs within =
     let argument = c.in_ok-argument.argument in
     let shape : argument ≡ (with_axes (size_of c.args.a.now) c.args.b.now).shape =
     c.in_ok-argument.ensures.shape ∙ ap (λ n. (with_axes n c.args.b.now).shape) c.in_ok-numbers.ensures.len in
-    let left : c.as_slice.result.now ≡ left_numbers numbers argument =
-    c.as_slice.ensures.value ∙ c.in_ok-push_left.ensures ∙ ap (λ l. l ++ left_numbers numbers c.lengths.result.now) c.in_ok-left.ensures.items ∙ ap (left_numbers numbers) c.lengths.ensures.lengths in
-    ap length left ∙ left_length numbers argument (c.in_ok-numbers.ensures.axes ∙ sym (ap length shape))
+    rw (c.as_slice.ensures.value, c.in_ok-push_left.ensures, c.in_ok-left.ensures.items, c.lengths.ensures.lengths)
+    (left_length numbers argument (c.in_ok-numbers.ensures.axes ∙ sym (ap length shape)))
 
 pub returns : goal.returns
 returns g c =

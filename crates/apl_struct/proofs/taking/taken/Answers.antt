@@ -1,8 +1,7 @@
-use Rattle.std.proofs.Common.{◌≡◌, true, ℕ, List, map, Ok, ap, sym, subst, ◌∙◌, arith, rules}
+use Rattle.std.proofs.Common.{◌≡◌, true, map, ap, sym, ◌∙◌, arith, rules}
 use Rattle.std.specs.Prelude.{nat_abs}
-use Rattle.apl_array.specs.Shape.{IsIndexOf, is_shape, count_of, index_at}
+use Rattle.apl_array.specs.Shape.{is_shape, count_of, index_at}
 use Rattle.apl_answer.specs.Arguments.{size_of}
-use Rattle.apl_answer.specs.Pointwise.{answer_of, IsAnswerOf}
 use Rattle.apl_struct.specs.Building.{reshape_source}
 use Rattle.apl_struct.specs.Gathering.{element_or_fill}
 use Rattle.apl_struct.specs.Shaped.{with_shape}
@@ -25,35 +24,31 @@ returns-then-count-eq0 g c = λ element same.
     let b = c.args.b.now in
     let argument = c.args.argument.now in
     let numbers = c.args.numbers.now in
-    let shape = c.in_ok-shape.shape in
     let law = c.places_match_index_lists.ensures in
     let slice = lengths g (goal.at.returns-then-count-eq0 g c).After-as_slice in
-    let is : shape ≡ map nat_abs numbers = c.in_ok-shape.ensures.value ∙ slice in
+    let is : c.in_ok-shape.shape ≡ map nat_abs numbers = c.in_ok-shape.ensures.value ∙ slice in
     let passes : is_shape (map nat_abs numbers) ≡ true = ap is_shape (sym slice) ∙ c.in_ok-shape.ensures.test in
-    let P : List ℕ → Type 0 = λ s. IsAnswerOf (answer_of s (λ index. Ok (element index)) b.kind) c.repeat.result in
-    rw passes (subst P is (c.repeat.ensures element (λ place inside.
+    rw passes ((rw is at c.repeat.ensures) element (λ place inside.
     let none : count_of argument ≡ 0 = elim c.then-count-eq0.branch [
-      | then-count-eq0-via-then-count-eq0 w ↦ absurd (omega (arith, inside, w.if-count-eq0.true, c.count.ensures.count))
+      | then-count-eq0-via-then-count-eq0 w ↦ absurd (omega (arith, inside, w.if-count-eq0.true, c.count.ensures.count, ap count_of is))
       | then-count-eq0-via-else-count-eq0+then-count-eq0-2 w ↦ omega (arith, w.if-count-eq0-2.true, w.count-else-count-eq0.ensures.count)
     ] in
-    let index = index_at shape place in
-    let lawful : IsIndexOf (map nat_abs numbers) index = subst (λ s. IsIndexOf s index) is (law.lawful shape place inside) in
+    let index = index_at (map nat_abs numbers) place in
+    let lawful = law.lawful (map nat_abs numbers) place inside in
     filled_past b (reshape_source (size_of b) place) c.kind-kind.ensures.lawful (sym c.requires.count ∙ none)
-    ∙ sym (ap (element_or_fill (with_shape argument b)) (taken_none_of_empty law.below argument numbers index c.requires.len lawful none)) ∙ same index lawful)))
+    ∙ sym (ap (element_or_fill (with_shape argument b)) (taken_none_of_empty law.below argument numbers index c.requires.len lawful none)) ∙ same index lawful))
 
 pub returns : goal.returns
 returns g c = λ element same.
     let b = c.args.b.now in
     let argument = c.args.argument.now in
     let numbers = c.args.numbers.now in
-    let shape = c.in_ok-shape.shape in
     let law = c.places_match_index_lists.ensures in
     let slice = lengths g (goal.at.returns g c).After-as_slice in
-    let is : shape ≡ map nat_abs numbers = c.in_ok-shape.ensures.value ∙ slice in
+    let is : c.in_ok-shape.shape ≡ map nat_abs numbers = c.in_ok-shape.ensures.value ∙ slice in
     let passes : is_shape (map nat_abs numbers) ≡ true = ap is_shape (sym slice) ∙ c.in_ok-shape.ensures.test in
-    let P : List ℕ → Type 0 = λ s. IsAnswerOf (answer_of s (λ index. Ok (element index)) b.kind) c.gather.result in
-    rw passes (subst P is (c.gather.ensures element (λ place inside.
-    let index = index_at shape place in
-    let lawful : IsIndexOf (map nat_abs numbers) index = subst (λ s. IsIndexOf s index) is (law.lawful shape place inside) in
-    rw (c.in_ok-walk.ensures.place place, ← is)
-    (taken_element law.below argument numbers index c.requires.len lawful b c.kind-kind.ensures.lawful c.count-else-count-eq0.ensures.lawful c.requires.count ∙ same index lawful))))
+    rw passes ((rw is at c.gather.ensures) element (λ place inside.
+    let index = index_at (map nat_abs numbers) place in
+    let lawful = law.lawful (map nat_abs numbers) place inside in
+    rw (c.in_ok-walk.ensures.place place)
+    (taken_element law.below argument numbers index c.requires.len lawful b c.kind-kind.ensures.lawful c.count-else-count-eq0.ensures.lawful c.requires.count ∙ same index lawful)))
