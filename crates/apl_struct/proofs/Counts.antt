@@ -207,11 +207,10 @@ repeated_answer c k n extent counts indexes result axis many long are given =
 pub shape_refused : (c : ArrayValue) (k extent : ℕ) (counts : List ℕ) (fault : OpFault) (result : Result ArrayValue OpFault) → extent ≡ sum counts → result ≡ Err fault
     → ((fault ≡ Memory) ⊎ ((fault ≡ Limit) × (is_shape (slice_set c.shape k extent) ≡ false))) → IsAnswerOf (replicated c k counts) result
 shape_refused c k extent counts fault result same is refused =
-    ⊎_elim
-    (λ memory. inr (is ∙ ap Err memory))
-    (λ (limit : (fault ≡ Limit) × (is_shape (slice_set c.shape k extent) ≡ false)).
-    rw (ap (λ m. is_shape (slice_set c.shape k m)) (sym same) ∙ limit.1) (inl (is ∙ ap Err limit.0)))
-    refused
+    elim refused [
+      | inl memory ↦ inr (is ∙ ap Err memory)
+      | inr limit ↦ rw (← same, limit.1) (inl (is ∙ ap Err limit.0))
+    ]
 
 -- and a sum past the limit, which is refused before
 pub sum_refused : (c : ArrayValue) (k : ℕ) (counts : List ℕ) (result : Result ArrayValue OpFault) → k < length c.shape → most_elements < sum counts → result ≡ Err Limit

@@ -73,9 +73,7 @@ own_element back a p array inside =
 
 -- a scalar has the same element at whatever index list
 pub scalar_element : (b : ArrayValue) (index other : List ℕ) → length b.shape ≡ 0 → element_at b index ≡ element_at b other
-scalar_element b index other none =
-    let scalar : b.shape ≡ [] = nil_from_length b.shape none in
-    ap (λ s. element_in b (place_of s index)) scalar ∙ sym (ap (λ s. element_in b (place_of s other)) scalar)
+scalar_element b index other none = rw (nil_from_length b.shape none) refl
 
 one_item : {T : Type 0} (xs : List T) (d : T) → length xs ≡ 1 → xs ≡ get_or xs 0 d ∷ []
 one_item [] d one = absurd (omega arith)

@@ -232,17 +232,10 @@ joined_axis a b k left right shape axis is =
 pub parts_of_line : (left right n inner : ℕ) → left + right ≡ n → left * inner + right * inner ≡ n * inner
 parts_of_line left right n inner whole = sym (distributed left right inner) ∙ ap (λ w. w * inner) whole
 
-first_of_map : {T : Type 0} (f : T → Elem) (ravel : List Elem) (zs : List T) (fill : T) (e : Elem) → ravel ≡ map f zs → f fill ≡ e → slice_index_or ravel 0 e ≡ f (slice_index_or zs 0 fill)
-first_of_map f ravel zs fill e ravel_is is = ap (λ r. slice_index_or r 0 e) ravel_is ∙ ap (slice_index_or (map f zs) 0) (sym is) ∙ get_or-map f zs 0 fill
-
 -- the elements of two arguments of one type
 pub joined_elements : {T : Type 0} (f : T → Elem) (a b : ArrayValue) (xs ys : List T) (x y fill : T) (left right place : ℕ) → f fill ≡ fill_of (joined_kind a b)
     → a.ravel ≡ map f xs → b.ravel ≡ map f ys → x ≡ slice_index_or xs 0 fill → y ≡ slice_index_or ys 0 fill
     → joined_at a b left right place ≡ f (joined_value xs ys x y left right (place / (left + right)) (place % (left + right)))
 joined_elements f a b xs ys x y fill left right place fill_is ravel_a ravel_b x_is y_is =
-    let line = place / (left + right) in
-    let i = place % (left + right) in
-    let e = fill_of (joined_kind a b) in
-    let first_a : slice_index_or a.ravel 0 e ≡ f x = first_of_map f a.ravel xs fill e ravel_a fill_is ∙ ap f (sym x_is) in
-    let first_b : slice_index_or b.ravel 0 e ≡ f y = first_of_map f b.ravel ys fill e ravel_b fill_is ∙ ap f (sym y_is) in
-    rw (first_a, first_b, ravel_a, ravel_b) (joined_of_map f xs ys x y left right line i)
+    rw (ravel_a, ravel_b, ← fill_is, get_or-map f xs 0 fill, get_or-map f ys 0 fill, ← x_is, ← y_is)
+    (joined_of_map f xs ys x y left right (place / (left + right)) (place % (left + right)))

@@ -1,4 +1,4 @@
-use Rattle.std.proofs.Common.{◌≡◌, ℕ, ◌-◌, ◌*◌, ◌<◌, ◌≤◌, ◌∷◌, drop, length, slice_index, Some, ap, subst, ◌∙◌, arith}
+use Rattle.std.proofs.Common.{◌≡◌, ℕ, ◌-◌, ◌*◌, ◌<◌, ◌≤◌, ◌∷◌, drop, length, slice_index, Some, refl, ap, ◌∙◌, arith}
 use Rattle.std.specs.Prelude.{sum}
 use Rattle.std.proofs.lemmas.List.FromFn.{length-map-range_with_len, get_or-map-range_with_len}
 use Rattle.apl_array.specs.Shape.{count_of}
@@ -48,15 +48,13 @@ loop-j-preserved c =
     let shape_is : drop (j - 1) shape ≡ m ∷ drop j shape = from_axis shape j 0 c.loop-j-test.true inside in
     let strides_are : drop (j - 1) all_strides ≡ f (j - 1) ∷ drop j all_strides = from_axis all_strides j 0 c.loop-j-test.true (omega (arith, long)) ∙ ap (λ s. s ∷ drop j all_strides) own in
     let extent : w.extent ≡ m = c.whole.ensures.extent ∙ c.axis.ensures.length in
-    let all : extent_of (maps_of before) ≡ count_of (drop j shape) = c.loop-j.invariant.extent in
-    let Steps : ℕ → ℕ → Type 0 = λ e s. (i : ℕ) → i < e → step_of w i ≡ Some (i * s) in
-    let steps : Steps m (f (j - 1)) = subst (Steps m) c.stride_along-stride.ensures.sum (subst (λ e. Steps e c.stride_along-stride.result) c.axis.ensures.length c.whole.ensures.step) in
+    let steps = rw (c.stride_along-stride.ensures.sum, c.axis.ensures.length) at c.whole.ensures.step in
     record {
       few = omega (arith, c.in_ok-walk.ensures.one, c.loop-j.invariant.few);
-      extent = rw shape_is (c.in_ok-walk.ensures.extent ∙ ap (λ e. e * extent_of (maps_of before)) extent ∙ ap (λ e. m * e) all);
+      extent = rw (shape_is, c.in_ok-walk.ensures.extent, extent, c.loop-j.invariant.extent) refl;
       place = λ place.
           rw (shape_is, strides_are)
           (c.in_ok-walk.ensures.place place
-          ∙ permuted_step m (drop j shape) (f (j - 1)) (drop j all_strides) w (walked (maps_of before) place) (extent_of (maps_of before)) place extent all steps
+          ∙ permuted_step m (drop j shape) (f (j - 1)) (drop j all_strides) w (walked (maps_of before) place) (extent_of (maps_of before)) place extent c.loop-j.invariant.extent steps
           (c.loop-j.invariant.place place));
     }

@@ -34,8 +34,7 @@ replace_chosen-requires-clause-within g c κs lives = λ place inside.
     joined_parts maps c.last-item.result (omega arith) c.last-item.is ∙ c.as_slice.ensures.value ∙ c.in_ok-maps.ensures.maps in
     let reaches = ap (λ ms. walked ms place) parts ∙ c.in_ok-walk.ensures.place place in
     let copied : c.in_ok-shape.shape ≡ shape = c.in_ok-shape.ensures.copy ∙ c.shape.ensures.shape in
-    let Below : Option ℕ → Type 0 = IsReached (count_of c.in_ok-shape.shape) in
-    subst Below (sym reaches) (omega (arith, below, ap count_of copied))
+    rw reaches (omega (arith, below, ap count_of copied))
 
 pub returns : goal.returns
 returns g c =

@@ -15,8 +15,7 @@ write_line-requires-clause-within g c = λ i inside.
     let base : walked outer line ≡ Some c.in-Some.base = sym c.start_at.ensures.value ∙ c.in-Some.is in
     let there : walked (last ∷ outer) (line * map_extent last + i) ≡ and_step (map_step last i) (Some c.in-Some.base) = line_reached last outer line i (Some c.in-Some.base) base inside in
     let below : line * map_extent last + i < extent_of (last ∷ outer) = mul-add-lt line (map_extent last) i (extent_of outer) (omega arith) inside in
-    let P : ℕ → Option ℕ → Type 0 = IsReached in
-    subst (λ n. P n (and_step (map_step last i) (Some c.in-Some.base))) (sym c.loop-line.invariant.len) (subst (P (length c.args.room.now)) there (c.requires.within (line * map_extent last + i) below))
+    rw c.loop-line.invariant.len (rw there at (c.requires.within (line * map_extent last + i) below))
 
 pub unreachable-requires : goal.unreachable-requires
 unreachable-requires g c =
@@ -27,8 +26,7 @@ unreachable-requires g c =
     let base : walked outer line ≡ None = sym c.start_at.ensures.value ∙ c.in-None.is in
     let there : walked (last ∷ outer) (line * map_extent last + 0) ≡ and_step (map_step last 0) None = line_reached last outer line 0 None base some in
     let below : line * map_extent last + 0 < extent_of (last ∷ outer) = mul-add-lt line (map_extent last) 0 (extent_of outer) (omega arith) some in
-    let P : ℕ → Option ℕ → Type 0 = IsReached in
-    not_reached (length c.args.room.now) (map_step last 0) (subst (P (length c.args.room.now)) there (c.requires.within (line * map_extent last + 0) below))
+    not_reached (length c.args.room.now) (map_step last 0) (rw there at (c.requires.within (line * map_extent last + 0) below))
 
 pub loop-line-preserved : goal.loop-line-preserved
 loop-line-preserved g c = record {

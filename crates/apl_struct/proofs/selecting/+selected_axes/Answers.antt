@@ -33,8 +33,7 @@ returns-clause-place t c =
     let ns = take (length c.args.lengths.now - 1) (drop 1 c.args.lengths.now) in
     let ss = take (length c.args.slots.now - 1) (drop 1 c.args.slots.now) in
     let parts = parts_of c.args.origin c.args.lengths.now c.args.slots.now slot (omega arith) (omega arith) c.slot-item.is c.requires in
-    let Steps : ℕ → Type 0 = λ m. (i : ℕ) → i < slot_count n slot → map_step c.slot_map-map.result i ≡ Some (slot_index c.args.origin slot i * m) in
-    let steps = subst Steps c.in_ok-inner.ensures.count c.slot_map-map.ensures.step in
+    let steps = rw c.in_ok-inner.ensures.count at c.slot_map-map.ensures.step in
     let first = λ (place : ℕ). place_first c.args.origin n slot ns ss c.slot_map-map.result (reached_from inner.start (maps_of inner.walk) place) (extent_of (maps_of inner.walk)) place
     parts.slot.some c.in_ok-inner.ensures.extent (c.in_ok-inner.ensures.place place) c.slot_map-map.ensures.extent steps in
     IfOk-weaker c.with.result _ _ (λ s is place. is place ∙ rw (parts.lengths_are, parts.slots_are) (first place)) c.with.ensures.place

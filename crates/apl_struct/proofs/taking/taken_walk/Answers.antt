@@ -1,4 +1,4 @@
-use Rattle.std.proofs.Common.{◌≡◌, ℕ, ℤ, pos, ◌+◌, ◌-◌, ◌*◌, ◌<◌, ◌∷◌, drop, get_or, to_z, of_z, w64, to_z-of_z, slice_index, ap, subst, ◌∙◌, arith}
+use Rattle.std.proofs.Common.{◌≡◌, ℕ, ℤ, pos, ◌+◌, ◌-◌, ◌*◌, ◌<◌, ◌∷◌, drop, get_or, to_z, of_z, w64, to_z-of_z, slice_index, refl, ap, ◌∙◌, arith}
 use Rattle.std.specs.Prelude.{nat_abs, option_map}
 use Rattle.apl_array.specs.Shape.{count_of}
 use Rattle.apl_struct.specs.Taking.{taken_index}
@@ -44,15 +44,12 @@ loop-k-preserved c =
     let numbers_are : drop (k - 1) numbers ≡ m ∷ drop k numbers = from_axis numbers k (pos 0) c.loop-k-test.true c.loop-k.auto.k in
     let argument_is : drop (k - 1) argument ≡ n ∷ drop k argument = from_axis argument k 0 c.loop-k-test.true (omega (arith, c.loop-k.auto.k, c.requires.len)) in
     let extent : w.extent ≡ nat_abs m = c.taken_window-window.ensures.extent ∙ ap nat_abs read in
-    let all = c.loop-k.invariant.extent in
-    let Steps : ℤ → ℕ → ℕ → Type 0 = λ z l s. (i : ℕ) → i < nat_abs z → step_of w i ≡ option_map (λ j. j * s) (taken_index z l i) in
-    let steps : Steps m n (count_of (drop k argument)) =
-    subst (Steps m n) inner (subst (λ l. Steps m l c.inner.result) c.axis.ensures.length (subst (λ z. Steps z c.axis.result c.inner.result) read c.taken_window-window.ensures.step)) in
+    let steps = rw (read, c.axis.ensures.length, inner) at c.taken_window-window.ensures.step in
     record {
       few = omega (arith, c.in_ok-walk.ensures.one, c.loop-k.invariant.few);
-      extent = rw numbers_are (c.in_ok-walk.ensures.extent ∙ ap (λ e. e * extent_of (maps_of before)) extent ∙ ap (λ e. nat_abs m * e) all);
+      extent = rw (numbers_are, c.in_ok-walk.ensures.extent, extent, c.loop-k.invariant.extent) refl;
       place = λ place.
           rw (numbers_are, argument_is)
           (c.in_ok-walk.ensures.place place
-          ∙ taken_step m (drop k numbers) n (drop k argument) w (walked (maps_of before) place) (extent_of (maps_of before)) place extent all steps (c.loop-k.invariant.place place));
+          ∙ taken_step m (drop k numbers) n (drop k argument) w (walked (maps_of before) place) (extent_of (maps_of before)) place extent c.loop-k.invariant.extent steps (c.loop-k.invariant.place place));
     }
