@@ -72,10 +72,7 @@ module _ (below : (shape index : List ℕ) → IsIndexOf shape index → place_o
       let base_lawful = lawful (remove shape k) p p_below in
       let index = insert base k i in
       let at_place : place_of shape index ≡ place =
-      placed shape k p i axis p_below
-      ∙ ap (λ x. (x * m + i) * inner + p % inner) (line_outer m inner place m_some inner_some)
-      ∙ ap (λ x. (outer * m + i) * inner + x) (line_inner m inner place m_some inner_some)
-      ∙ line_parts m inner place m_some inner_some in
+      rw (placed shape k p i axis p_below, line_outer m inner place m_some inner_some, line_inner m inner place m_some inner_some) (line_parts m inner place m_some inner_some) in
       let is : index_at shape place ≡ index = ap (index_at shape) (sym at_place) ∙ same_index shape index (inserted shape base k i axis base_lawful i_below) in
       let long : k ≤ length base = omega (arith, base_lawful.len, length-remove shape k axis, axis) in
       let back : remove (index_at shape place) k ≡ base = ap (λ x. remove x k) is ∙ remove-insert base k i long in
@@ -167,7 +164,4 @@ rotation_of_all a numbers k index are one = rw one (number_in a.ravel 0 ∙ ap (
 
 pub rotation_of_line : (a : ArrayValue) (numbers : List ℤ) (others : List ℕ) (k : ℕ) (index : List ℕ) → numbers_of a ≡ numbers → has_one_element a.shape ≡ false → a.shape ≡ others
     → rotation_at a k index ≡ slice_index_or numbers (place_of others (remove index k)) (pos 0)
-rotation_of_line a numbers others k index are one same =
-    rw one
-    (number_in a.ravel (place_of a.shape (remove index k)) ∙ ap (λ ns. slice_index_or ns (place_of a.shape (remove index k)) (pos 0)) are
-    ∙ ap (λ s. slice_index_or numbers (place_of s (remove index k)) (pos 0)) same)
+rotation_of_line a numbers others k index are one same = rw (one, number_in a.ravel (place_of a.shape (remove index k)), are, same) refl

@@ -100,10 +100,9 @@ returns g c = λ element same.
     let extent : map_extent map ≡ m = c.map-map.ensures.extent ∙ sym c.requires.extent in
     let block_is : c.count-3.result / blocks ≡ count_of b.shape / outer =
     ap (λ o. c.count-3.result / o) known.3.outer_is ∙ ap (λ p. p / outer) (c.count-3.ensures.count ∙ ap count_of c.shape-2.ensures.shape) in
-    rw (made.0, sym shape_is) (c.gather.ensures element (λ place inside.
-    let here : place < count_of (slice_set vector.shape k m) = rw shape_is at inside in
+    rw made.0 ((rw shape_is at c.gather.ensures) element (λ place inside.
     let reached : place < blocks * (map_extent map * apart) =
-    rw (extent, sym known.1, known.3.outer_is) (omega (arith, known.3.count_is, c.count-2.ensures.count, inside)) in
+    rw (extent, sym known.1, known.3.outer_is) (omega (arith, known.3.count_is, c.count-2.ensures.count, ap count_of shape_is, inside)) in
     let placed = rw (block_is, extent, known.2) at (c.in_ok-walk.ensures.place place reached) in
     let i = place / inner % m in
     let i_below : i < m = mod-lt (place / inner) (rw known.1 at known.3.length_some) in
@@ -112,7 +111,6 @@ returns g c = λ element same.
     let index = index_at (slice_set vector.shape k m) place in
     ap (filled_at b) placed
     ∙ along_element law.below law.lawful c.replaced_index_has_place.ensures.count line.lawful line.place b n k m place (map_step map i) (taken i)
-    c.shape-2.ensures.lawful c.requires.axis c.requires.length known.3.outer_some here (taking_below n c.args.taking i c.requires.taking (omega (arith, i_below, c.requires.extent))) step
+    c.shape-2.ensures.lawful c.requires.axis c.requires.length known.3.outer_some inside (taking_below n c.args.taking i c.requires.taking (omega (arith, i_below, c.requires.extent))) step
     ∙ ap (λ i. element_or_fill vector (option_map (slice_set index k) (taken i))) (sym (line.index vector.shape k m place known.0))
-    ∙ same index (law.lawful (slice_set vector.shape k m) place here)
-    ∙ ap (λ s. element (index_at s place)) (sym shape_is)))
+    ∙ same index (law.lawful (slice_set vector.shape k m) place inside)))

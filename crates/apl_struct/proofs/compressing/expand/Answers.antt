@@ -32,11 +32,9 @@ returns g c =
     let bits_are : length bits ≡ count_of a.shape = sym (ap length numbers) ∙ length-map a.ravel number_of ∙ c.shape.ensures.lawful.len in
     let ones_is : ones ≡ sum counts = made.1.2 in
     let long : ones ≡ c.vector_length.result = search rules in
-    let length_is : c.vector_length.result ≡ slice_index vector.shape k =
-    c.vector_length.ensures.length ∙ ap (λ m. slice_index (as_vector m b).shape j) ones_is ∙ ap (slice_index vector.shape) k_is in
+    let length_is : c.vector_length.result ≡ slice_index vector.shape k = rw (ones_is, k_is) at c.vector_length.ensures.length in
     let fit : (sum counts == slice_index vector.shape k) ≡ true = eq-eqb (sum counts) (slice_index vector.shape k) (sym ones_is ∙ long ∙ length_is) in
-    let bits_in : slice_set (as_vector ones b).shape j (length bits) ≡ slice_set vector.shape k (count_of a.shape) =
-    ap (λ m. slice_set (as_vector m b).shape j (length bits)) ones_is ∙ ap (λ i. slice_set vector.shape i (length bits)) k_is ∙ ap (slice_set vector.shape k) bits_are in
+    let bits_in : slice_set (as_vector ones b).shape j (length bits) ≡ slice_set vector.shape k (count_of a.shape) = rw (ones_is, k_is, bits_are) refl in
     let within : j < max 1 (rank_of b) =
     ⊎_elim
     (λ below. omega (arith, below, c.vector_rank.ensures.rank))

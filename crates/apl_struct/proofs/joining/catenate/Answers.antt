@@ -22,10 +22,8 @@ returns g c =
     let at = rw rank_is at c.in-Some.ensures in
     let k_is : c.in-Some.k ≡ k = at.1 in
     let ranks : can_join a b ≡ true = search rules in
-    let others : is_same_shape (remove own k) (remove other k) ≡ true = rw (rank_is, k_is) at c.in_ok-lengths.ensures.0 in
+    let joint = rw (rank_is, k_is) at c.in_ok-lengths.ensures in
     let kinds : (not (has_elements a && has_elements b) || is_same_kind a.kind b.kind) ≡ true = search rules in
-    let lengths : c.in_ok-lengths.lengths.items ≡ slice_set own k (n + m) = rw (rank_is, k_is) at c.in_ok-lengths.ensures.1 in
-    let left : c.in_ok-lengths.left ≡ n = rw (rank_is, k_is) at c.in_ok-lengths.ensures.2 in
-    let lawful : is_shape (slice_set own k (n + m)) ≡ true = ap is_shape (sym lengths ∙ sym c.as_slice.ensures) ∙ c.in_ok-shape.ensures.test in
-    let shapes : c.in_ok-shape.shape ≡ slice_set own k (n + m) = c.in_ok-shape.ensures.value ∙ c.as_slice.ensures ∙ lengths in
-    answered row c.join_along.result (at.0, (ranks, (others, (kinds, (lawful, tt))))) (rw (shapes, k_is, left) at c.join_along.ensures)
+    let lawful : is_shape (slice_set own k (n + m)) ≡ true = ap is_shape (sym joint.1 ∙ sym c.as_slice.ensures) ∙ c.in_ok-shape.ensures.test in
+    let shapes : c.in_ok-shape.shape ≡ slice_set own k (n + m) = c.in_ok-shape.ensures.value ∙ c.as_slice.ensures ∙ joint.1 in
+    answered row c.join_along.result (at.0, (ranks, (joint.0, (kinds, (lawful, tt))))) (rw (shapes, k_is, joint.2) at c.join_along.ensures)

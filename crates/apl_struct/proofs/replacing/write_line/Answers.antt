@@ -19,8 +19,7 @@ loop-i-preserved g c = record {
       let here : i < map_extent c.args.last = omega arith in
       let step : map_step c.args.last i ≡ Some c.in-Some.taken = sym c.step.ensures.value ∙ c.in-Some.is in
       let place : c.in-Some.taken + base ≡ choice n = ap (λ s. place_or_zero (and_step s (Some base))) (sym step) ∙ steps i here in
-      let within : IsReached (length c.args.room.now) (and_step (Some c.in-Some.taken) (Some base)) =
-      subst (λ s. IsReached (length c.args.room.now) (and_step s (Some base))) step (c.requires.within i here) in
+      let within = rw step at (c.requires.within i here) in
       let below : c.in-Some.taken + base < length room = omega (arith, within, len) in
       let next : suc n ≡ c.args.from + (i + 1) = omega arith in
       value_more elements values room fill c.element_or.result choice c.args.step n (c.in-Some.taken + base) below place c.element_or.ensures
