@@ -1,9 +1,9 @@
 -- Indexes that counts repeat, and lists of numbers as counts.
-use Rattle.std.proofs.Common.{◌≡◌, ℕ, zero, suc, add-one, ◌+◌, ◌-◌, ◌*◌, ◌/◌, ◌<◌, List, [], ◌∷◌, ◌++◌, take, length, replicate, slice_index, refl, ap, sym, ◌∙◌, ⊎_elim, arith, ℤ, pos, negsuc, true, false, Bool, int_eq, map, slice_index_or, inl, inr, int_lt, nat_abs, ◌&&◌, to_z, of_z, w64, nat_le, slice_set, Result, Err}
-use Rattle.std.specs.Prelude.{◌≤◌, All, sum, flat_map, ◌^◌, ◌==◌, ◌||◌, ◌⊎◌}
+use Rattle.std.proofs.Common.{◌≡◌, ℕ, zero, suc, add-one, ◌+◌, ◌-◌, ◌*◌, ◌/◌, ◌<◌, List, [], ◌∷◌, ◌++◌, take, length, replicate, slice_index, refl, ap, sym, ◌∙◌, ⊎_elim, arith, ℤ, pos, negsuc, true, false, int_eq, map, slice_index_or, inl, inr, int_lt, nat_abs, to_z, of_z, w64, nat_le, slice_set, Result, Err}
+use Rattle.std.specs.Prelude.{◌≤◌, All, sum, flat_map, ◌^◌, ◌==◌, ◌⊎◌}
 use Rattle.std.specs.List.{range_with_len, list_all}
 use Rattle.std.proofs.Math.Nat.{div-eq_of_lt, add-div_right}
-use Rattle.std.proofs.lemmas.Bool.{or_cases, cases_lt, true≢false, cases_Bool, eqb-true, le-ltb, and_parts}
+use Rattle.std.proofs.lemmas.Bool.{or_cases, cases_lt, true≢false, cases_Bool, eqb-true, le-ltb}
 use Rattle.std.proofs.lemmas.List.{append-nil, append_assoc, length-append, length-replicate, get_or_append_left, get_or-append_right, get_or-replicate, length-map, length-set, get_or-set_same}
 use Rattle.std.proofs.lemmas.List.Elements.{All-nil, All-append, All-replicate, All-get_or}
 use Rattle.std.proofs.Math.Bool.{and-true, and-false}

@@ -1,8 +1,8 @@
 use Rattle.std.proofs.Common.{◌≡◌, ◌+◌, true, slice_index, sym, ap, ◌∙◌, rules}
-use Rattle.std.specs.Prelude.{◌||◌, ◌&&◌, not, remove, slice_set}
+use Rattle.std.specs.Prelude.{◌||◌, ◌&&◌, not, slice_set}
 use Rattle.apl_array.specs.Axes.{axis_of}
 use Rattle.apl_array.specs.Shape.{is_shape}
-use Rattle.apl_answer.specs.Arguments.{has_elements, is_same_kind, is_same_shape}
+use Rattle.apl_answer.specs.Arguments.{has_elements, is_same_kind}
 use Rattle.apl_struct.specs.Joining.{joined_rank, can_join, slices_shape, catenate_row}
 use Rattle.apl_struct.proofs.Passing.{answered}
 use Rattle.apl_struct.proofs.joining.catenate.Goals as goal

@@ -1,9 +1,8 @@
-use Rattle.std.proofs.Common.{◌≡◌, ℕ, ◌-◌, ◌*◌, ◌<◌, ◌≤◌, ◌∷◌, drop, length, slice_index, Some, refl, ap, ◌∙◌, arith}
+use Rattle.std.proofs.Common.{◌≡◌, ℕ, ◌-◌, ◌≤◌, ◌∷◌, drop, length, slice_index, refl, ap, ◌∙◌, arith}
 use Rattle.std.specs.Prelude.{sum}
 use Rattle.std.proofs.lemmas.List.FromFn.{length-map-range_with_len, get_or-map-range_with_len}
-use Rattle.apl_array.specs.Shape.{count_of}
 use Rattle.apl_array.specs.Transposition.{strides, items_onto, source_strides}
-use Rattle.apl_walk.specs.Maps.{step_of, extent_of, walked}
+use Rattle.apl_walk.specs.Maps.{extent_of, walked}
 use Rattle.apl_walk.specs.Walks.{maps_of}
 use Rattle.apl_struct.proofs.Taken.{from_axis, axis_before}
 use Rattle.apl_struct.proofs.Permuted.{stride_near, permuted_step}

@@ -1,11 +1,10 @@
-use Rattle.std.proofs.Common.{◌≡◌, ◌-◌, ◌<◌, ℕ, List, ◌∷◌, length, take, drop, Option, Some, Ok, refl, ap, subst, sym, ◌∙◌, arith}
+use Rattle.std.proofs.Common.{◌≡◌, ◌-◌, ℕ, List, ◌∷◌, length, take, drop, Some, refl, ap, ◌∙◌, arith}
 use Rattle.apl_array.specs.declared.array.Elem.{Elem}
-use Rattle.apl_array.specs.Shape.{count_of, index_at}
-use Rattle.apl_answer.specs.Pointwise.{answer_of, IsAnswerOf}
+use Rattle.apl_array.specs.Shape.{count_of}
 use Rattle.apl_walk.specs.Maps.{extent_of, walked}
 use Rattle.apl_walk.specs.Walks.{maps_of}
 use Rattle.apl_struct.specs.Indexing.{Slots, last_choice, replaced_element}
-use Rattle.apl_struct.specs.Numbering.{place_or_zero, IsReached, chosen_at, last_number, number_at, element_numbered, value_step}
+use Rattle.apl_struct.specs.Numbering.{place_or_zero, chosen_at, last_number, number_at, element_numbered, value_step}
 use Rattle.apl_struct.specs.Selecting.{chosen_index, chosen_place}
 use Rattle.apl_struct.proofs.Replacement.{same_numbers, joined_parts, last_chosen}
 use Rattle.apl_struct.proofs.replacing.replace_selected.Goals as goal

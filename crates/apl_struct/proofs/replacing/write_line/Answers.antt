@@ -1,8 +1,8 @@
-use Rattle.std.proofs.Common.{◌≡◌, suc, ◌+◌, ◌<◌, length, sym, subst, rules, ap, ◌∙◌, arith}
+use Rattle.std.proofs.Common.{◌≡◌, suc, ◌+◌, ◌<◌, length, sym, rules, ap, ◌∙◌, arith}
 use Rattle.std.specs.Prelude.{Some}
 use Rattle.apl_walk.specs.Steps.{and_step}
 use Rattle.apl_walk.specs.Maps.{map_extent, map_step}
-use Rattle.apl_struct.specs.Numbering.{place_or_zero, IsReached, last_number, value_numbered}
+use Rattle.apl_struct.specs.Numbering.{place_or_zero, last_number, value_numbered}
 use Rattle.apl_struct.proofs.Replacement.{value_more}
 use Rattle.apl_struct.proofs.replacing.write_line.Goals as goal
 

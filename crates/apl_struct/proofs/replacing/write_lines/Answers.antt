@@ -1,9 +1,9 @@
-use Rattle.std.proofs.Common.{◌≡◌, ℕ, ◌+◌, ◌*◌, ◌<◌, ◌∷◌, length, sym, subst, ap, ◌∙◌, arith}
-use Rattle.std.specs.Prelude.{Option, Some, None}
+use Rattle.std.proofs.Common.{◌≡◌, ℕ, ◌+◌, ◌*◌, ◌<◌, ◌∷◌, length, sym, ap, ◌∙◌, arith}
+use Rattle.std.specs.Prelude.{Some, None}
 use Rattle.std.proofs.lemmas.Nat.{mul-add-lt}
 use Rattle.apl_walk.specs.Steps.{and_step}
 use Rattle.apl_walk.specs.Maps.{map_extent, map_step, extent_of, walked}
-use Rattle.apl_struct.specs.Numbering.{place_or_zero, IsReached, last_number, value_numbered}
+use Rattle.apl_struct.specs.Numbering.{place_or_zero, last_number, value_numbered}
 use Rattle.apl_struct.proofs.Replacement.{line_reached, not_reached}
 use Rattle.apl_struct.proofs.replacing.write_lines.Goals as goal
 

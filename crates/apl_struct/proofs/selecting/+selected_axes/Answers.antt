@@ -1,8 +1,8 @@
-use Rattle.std.proofs.Common.{◌≡◌, ℕ, ◌-◌, ◌*◌, ◌<◌, length, take, drop, slice_index, Some, rules, subst, ◌∙◌, arith}
+use Rattle.std.proofs.Common.{ℕ, ◌-◌, length, take, drop, slice_index, rules, ◌∙◌, arith}
 use Rattle.std.proofs.lemmas.Result.{IfOk-weaker}
-use Rattle.apl_walk.specs.Maps.{extent_of, map_step}
+use Rattle.apl_walk.specs.Maps.{extent_of}
 use Rattle.apl_walk.specs.Walks.{maps_of}
-use Rattle.apl_struct.specs.Selecting.{reached_from, slot_count, slot_index}
+use Rattle.apl_struct.specs.Selecting.{reached_from}
 use Rattle.apl_struct.proofs.Sources.{parts_of, place_first}
 use Rattle.apl_struct.proofs.selecting.+selected_axes.Goals as goal
 

@@ -1,4 +1,4 @@
-use Rattle.std.proofs.Common.{◌≡◌, ◌++◌, length, refl, sym, ap, ◌∙◌}
+use Rattle.std.proofs.Common.{◌≡◌, length, refl, sym, ap, ◌∙◌}
 use Rattle.apl_array.specs.Array.{element_at}
 use Rattle.apl_answer.specs.Arguments.{size_of, numbers_of}
 use Rattle.apl_struct.specs.Shaped.{with_shape, left_numbers}

@@ -1,8 +1,7 @@
-use Rattle.std.proofs.Common.{◌≡◌, ℕ, ℤ, pos, ◌+◌, ◌-◌, ◌*◌, ◌<◌, ◌∷◌, drop, get_or, to_z, of_z, w64, to_z-of_z, slice_index, refl, ap, ◌∙◌, arith}
-use Rattle.std.specs.Prelude.{nat_abs, option_map}
+use Rattle.std.proofs.Common.{◌≡◌, pos, ◌+◌, ◌-◌, ◌∷◌, drop, get_or, to_z, of_z, w64, to_z-of_z, slice_index, refl, ap, ◌∙◌, arith}
+use Rattle.std.specs.Prelude.{nat_abs}
 use Rattle.apl_array.specs.Shape.{count_of}
-use Rattle.apl_struct.specs.Taking.{taken_index}
-use Rattle.apl_walk.specs.Maps.{step_of, extent_of, walked}
+use Rattle.apl_walk.specs.Maps.{extent_of, walked}
 use Rattle.apl_walk.specs.Walks.{maps_of}
 use Rattle.apl_struct.proofs.Taken.{from_axis, magnitude_before, axis_before, taken_step}
 use Rattle.apl_struct.proofs.taking.taken_walk.Goals as goal
