@@ -119,9 +119,6 @@ pub bit_most : (z : ℤ) → is_bit z ≡ true → place_number z ≤ 1
 bit_most (pos n) bit = grind (arith, nat_tests)
 bit_most (negsuc n) bit = absurd (true≢false (sym bit))
 
-pub sum_same : (n c : ℕ) → sum (replicate n c) ≡ n * c
-sum_same n c = sum_by-replicate (λ x. x) n c
-
 -- one more value behind others
 pub push_each : (xs : List ℕ) (x : ℕ) (f : ℕ → ℕ) → ((j : ℕ) → j < length xs → slice_index xs j ≡ f j) → x ≡ f (length xs)
     → (j : ℕ) → j < length xs + 1 → slice_index (xs ++ x ∷ []) j ≡ f j
@@ -147,13 +144,10 @@ pub natural_is : (z : ℤ) → to_z w64 (of_z w64 z) ≡ z → int_lt (to_z w64 
 natural_is (pos n) turned least = refl
 natural_is (negsuc n) turned least = absurd (true≢false (sym (ap (λ z. int_lt z (pos 0)) turned) ∙ least))
 
-same_number : (z : ℤ) → is_natural z ≡ true → nat_abs z ≡ place_number z
-same_number (pos n) natural = refl
-same_number (negsuc n) natural = absurd (true≢false (sym natural))
-
 -- a count is what its cast is
 pub cast_is : (z : ℤ) → is_natural z ≡ true → to_z w64 (of_z w64 z) ≡ z → nat_abs (to_z w64 (of_z w64 z)) ≡ place_number z
-cast_is z natural turned = ap nat_abs turned ∙ same_number z natural
+cast_is (pos n) natural turned = ap nat_abs turned
+cast_is (negsuc n) natural turned = absurd (true≢false (sym natural))
 
 pub natural_sum : (numbers : List ℤ) (i : ℕ) → i < length numbers → sum (take (i + 1) (map place_number numbers)) ≡ sum (take i (map place_number numbers)) + place_number (slice_index_or numbers i (pos 0))
 natural_sum numbers i inside =
@@ -227,4 +221,4 @@ pub is_count : (n : ℕ) (z : ℤ) → to_z w64 (of_z w64 z) ≡ z → int_lt (t
 is_count n z turned least =
     let natural : is_natural z ≡ true = natural_is z turned least in
     let cast : nat_abs (to_z w64 (of_z w64 z)) ≡ place_number z = cast_is z natural turned in
-    record { natural = natural; cast = cast; sum_is = sum_same n (place_number z) ∙ ap (λ m. n * m) (sym cast) }
+    record { natural = natural; cast = cast; sum_is = sum_by-replicate (λ m. m) n (place_number z) ∙ ap (λ m. n * m) (sym cast) }

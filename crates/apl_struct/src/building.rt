@@ -1,11 +1,11 @@
 //! Arrays as they are, without elements, or in other shapes, and numbers from the origin.
-ghost use Rattle.std.specs.Prelude.{◌≡◌, ◌≤◌, ◌<◌, ◌==◌, ◌||◌, [], ◌∷◌, map, not, Ok, Some, true, IfOk, ℕ, List};
+ghost use Rattle.std.specs.Prelude.{◌≡◌, ◌≤◌, ◌<◌, ◌==◌, map, Ok, Some, true, IfOk, ℕ, List};
 ghost use Rattle.std.specs.List.{list_all};
 ghost use Rattle.apl_array.specs.Axes.{place_number};
 ghost use Rattle.apl_array.specs.Shape.{count_of, IsShape, is_shape};
 ghost use Rattle.apl_array.specs.declared.shape.TheConstants.{MOST_ELEMENTS};
 ghost use Rattle.apl_pool.specs.declared.kernel.TheConstants.{MOST_PLACES};
-ghost use Rattle.apl_answer.specs.Arguments.{has_elements, is_natural, size_of};
+ghost use Rattle.apl_answer.specs.Arguments.{is_natural, size_of};
 ghost use Rattle.apl_answer.specs.Pointwise.{IsArrayAt, IsShapeOf, answer_of, IsAnswerOf, IsArrayBy};
 ghost use Rattle.apl_answer.specs.Rows.{Answers};
 ghost use Rattle.apl_walk.specs.Gathered.{filled_at};

@@ -1,11 +1,10 @@
 //! Joined arrays.
 ghost use Rattle.std.specs.Prelude.{◌-◌, MatchOption, [], ◌≡◌, ◌+◌, ◌*◌, ◌<◌, ◌≤◌, ◌==◌, ◌&&◌, ◌||◌, map, length, not, true, Ok, IfOk, slice_index, slice_set, insert, remove, drop};
-ghost use Rattle.apl_array.specs.declared.array.Elem.TheVariants.{Int, Chr};
 ghost use Rattle.apl_array.specs.Shape.{count_of};
 ghost use Rattle.apl_array.specs.declared.shape.TheConstants.{MOST_ELEMENTS};
 ghost use Rattle.smallvec.specs.SmallVec.{small_vec_len};
 ghost use Rattle.apl_pool.specs.declared.kernel.TheConstants.{MOST_PLACES};
-ghost use Rattle.apl_answer.specs.Arguments.{has_elements, is_numbers, is_number_kind, is_same_kind, is_same_shape};
+ghost use Rattle.apl_answer.specs.Arguments.{has_elements, is_same_kind, is_same_shape};
 ghost use Rattle.apl_answer.specs.Pointwise.{answer_of, IsAnswerOf, IsArrayAt};
 ghost use Rattle.apl_answer.specs.Rows.{Answers};
 ghost use Rattle.apl_struct.specs.Joined.{joined_at, IsJoint};

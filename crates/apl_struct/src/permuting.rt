@@ -1,6 +1,6 @@
 //! Permuted axes, diagonals, and the axes that numbers name.
 ghost use Rattle.std.specs.Prelude.{◌≡◌, ℕ, ◌+◌, ◌-◌, ◌*◌, ◌^◌, ◌<◌, [], All, Ok, Some, IfOk, MatchOption, true, length, sum, reverse, ◌==◌, map};
-ghost use Rattle.std.specs.List.{range_with_len, list_all, list_any};
+ghost use Rattle.std.specs.List.{range_with_len, list_all};
 ghost use Rattle.apl_array.specs.Array.{element_at};
 ghost use Rattle.apl_array.specs.Shape.{IsShape, count_of, index_at};
 ghost use Rattle.apl_array.specs.Transposition.{AreAxesInto, strides, items_onto, least, inner_product, source_index, transposed_shape, source_strides};

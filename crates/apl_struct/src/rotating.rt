@@ -1,9 +1,7 @@
 //! Reversed and rotated lines.
-ghost use Rattle.std.specs.Prelude.{◌≡◌, ◌||◌, ◌==◌, ◌⊎◌, true, ℕ, ◌+◌, ◌%◌, ◌<◌, ◌≤◌, Some, IfOk, map, length, slice_index, remove};
+ghost use Rattle.std.specs.Prelude.{◌≡◌, ◌==◌, ℕ, ◌+◌, ◌<◌, ◌≤◌, Some, map, length, slice_index};
 ghost use Rattle.apl_array.specs.Array.{element_at};
-ghost use Rattle.apl_array.specs.Shape.{IsIndexOf};
 ghost use Rattle.apl_pool.specs.declared.kernel.TheConstants.{MOST_PLACES};
-ghost use Rattle.apl_answer.specs.Arguments.{is_same_shape, has_one_element, rank_of};
 ghost use Rattle.apl_answer.specs.Pointwise.{IsArrayAt, IsArrayBy};
 ghost use Rattle.apl_answer.specs.Rows.{Answers};
 ghost use Rattle.apl_struct.specs.Gathering.{along_axis};
