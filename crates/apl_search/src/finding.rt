@@ -91,7 +91,8 @@ pub(crate) struct Finder<'a, T: Searchable> {
 }
 
 impl<'a, T: Searchable> Finder<'a, T> {
-    /// The list, for so many elements that are looked for in it.
+    /// The list, in which so many elements are looked for. It gets a table if its numbers span less than four for each of its elements and
+    /// one for each of those.
     pub(crate) fn new(alloc: Global, elements: &'a [T], searched: usize) -> Result<Self, AllocError>
         requires count { length elements.now ≤ MOST_PLACES }
         requires searched { searched ≤ MOST_PLACES }

@@ -18,7 +18,7 @@ pub(crate) trait Reply: Copy {
         ensures { result ≡ pos (number self count place) };
 }
 
-/// Writes what is answered of elements, which are looked for in a table of a list of so many, into the room for it.
+/// Writes what is answered of each element into the room for it. The entries are those of a list of `count` elements.
 #[inline(always)]
 pub(crate) fn write_replies<T: Keyed, R: Reply>(
     entries: Entries<'_>,
