@@ -46,8 +46,40 @@ where
     }
 }
 
-/// Writes the values at the places from `first` up to before `to` into the room for those from `from`
-/// on, one by one.
+/// How many places are written before a test whether there are more.
+const TURN: usize = 4;
+
+/// Writes the values at `count` places from `first` on into the room for those from `from` on, one by one.
+#[inline(always)]
+fn write_some<K: Kernel>(
+    kernel: &K,
+    from: usize,
+    first: usize,
+    count: usize,
+    room: &mut [K::Out],
+) -> Result<(), Stop>
+where
+    K::Out: Copy,
+    requires order { from ≤ first }
+    requires places { first + count ≤ K.place_count kernel.now }
+    requires most { first + count ≤ MOST_PLACES }
+    requires room { first + count ≤ from + length room.old }
+    requires before { AreWritten (K.outcome kernel.now) from first room.old }
+    ensures ok { OnOk result (AreWritten (K.outcome kernel.now) from (first + count) room.new) }
+    ensures stop { (to : ℕ) → first + count ≤ to → IfErr result (IsStopFrom (K.outcome kernel.now) from to) }
+    ensures len { length room.new ≡ length room.old }
+{
+    for offset in 0..count {
+        let place = first + offset;
+        match kernel.at(place) {
+            Ok(value) => room[place - from] = value,
+            Err(fault) => return Err(stop_at(place, fault)),
+        }
+    }
+    Ok(())
+}
+
+/// Writes the values at the places from `first` up to before `to` into the room for those from `from` on.
 fn write_places<K: Kernel>(
     kernel: &K,
     from: usize,
@@ -67,13 +99,11 @@ where
     ensures stop { IfErr result (IsStopFrom (K.outcome kernel.now) from to) }
     ensures len { length room.new ≡ length room.old }
 {
-    for place in first..to {
-        match kernel.at(place) {
-            Ok(value) => room[place - from] = value,
-            Err(fault) => return Err(stop_at(place, fault)),
-        }
+    let rest = (to - first) % TURN;
+    for turn in 0..(to - first) / TURN {
+        write_some(kernel, from, first + turn * TURN, TURN, room)?;
     }
-    Ok(())
+    write_some(kernel, from, to - rest, rest, room)
 }
 
 /// Puts the values of a piece into the room for them.
