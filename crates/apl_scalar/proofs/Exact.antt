@@ -1,5 +1,5 @@
 -- What is refused where an exact value leaves the range.
-use Rattle.std.proofs.Common.{◌≡◌, ◌↔◌, ℕ, ◌^◌, ◌<◌, ◌≤◌, ℤ, pos, true, Ok, Err, refl, ⊎_elim, arith}
+use Rattle.std.proofs.Common.{◌≡◌, ◌↔◌, ℕ, ◌^◌, ◌<◌, ◌≤◌, Bool, true, false, if◌then◌else◌, ℤ, pos, Ok, Err, refl, ⊎_elim, arith}
 use Rattle.std.proofs.lemmas.Bool.{cases_Bool}
 use Rattle.std.proofs.lemmas.Int.{ints}
 use Rattle.std.specs.Prelude.{FitsSigned}
@@ -29,3 +29,11 @@ module _ (range : RangeLaw) where
 
   pub exact_large : (n : ℕ) → 2 ^ 63 ≤ n → exact (pos n) ≡ Err Limit
   exact_large n h = exact_past (pos n) (λ fits. absurd (omega (arith, ints, fits)))
+
+-- an exact number that is in the range is itself
+pub exact_is : (z v : ℤ) → exact z ≡ Ok v → z ≡ v
+exact_is z v is = by_test (in_range z) is
+  where
+    by_test : (inside : Bool) → (if inside then Ok z else Err Limit) ≡ Ok v → z ≡ v
+    by_test true is = cc
+    by_test false is = absurd cc

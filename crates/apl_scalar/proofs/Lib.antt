@@ -3,6 +3,7 @@ pub mod Bits
 pub mod Signs
 pub mod Counting
 pub mod Powers
+pub mod PowerBits
 pub mod Residues
 pub mod Sources
 pub mod Places

@@ -1,6 +1,6 @@
 //! Exact arithmetic, refused only if the exact result leaves the range. No loop runs once for
 //! each unit of a large number.
-ghost use Rattle.std.specs.Prelude.{◌≡◌, true, Ok, pos, negsuc, ◌+ℤ◌, ◌-ℤ◌, ◌*ℤ◌, FitsSigned, unsigned_abs, ◌+◌, ◌%◌, ◌^◌, ◌<◌, ◌≤◌, ◌==◌, if◌then◌else◌};
+ghost use Rattle.std.specs.Prelude.{◌≡◌, ℕ, true, Ok, pos, negsuc, ◌+ℤ◌, ◌-ℤ◌, ◌*ℤ◌, FitsSigned, unsigned_abs, ◌+◌, ◌%◌, ◌^◌, ◌<◌, ◌≤◌, ◌==◌, if◌then◌else◌};
 ghost use Rattle.std.specs.Int.{int_pow, int_signum, w32};
 ghost use Rattle.apl_scalar.specs.Arithmetic.{factorial, binomial, residue};
 ghost use Rattle.apl_scalar.specs.Scalar.{exact, reciprocal, quotient, power, factorial_of, combinations};
@@ -90,6 +90,40 @@ pub(crate) fn likely_product(x: i64, y: i64) -> (i64, u64)
     range_is_decided();
     let farther = above_least_half(x) | above_least_half(y);
     (lower_half(x) * lower_half(y), farther >> 32)
+}
+
+/// `x` to the power `bit`, which is 0 or 1.
+#[inline(always)]
+fn power_of_bit(x: i64, bit: u64) -> i64
+    requires { bit ≤ 1 }
+    ensures { result ≡ int_pow x bit }
+{
+    if bit == 0 { 1 } else { x }
+}
+
+/// `root` times itself and times `x` to the power `bit`, and doubts if a factor has more than 32 bits. So the exponent of a root that is a
+/// power of `x` gets one more bit.
+#[inline(always)]
+fn likely_next_power(x: i64, root: i64, bit: u64) -> (i64, u64)
+    requires { bit ≤ 1 }
+    ensures { (n : ℕ) → root ≡ int_pow x n → result.1 ≡ 0 → exact (int_pow x (n + n + bit)) ≡ Ok result.0 }
+{
+    let (square, square_doubts) = likely_product(root, root);
+    let (next, doubts) = likely_product(square, power_of_bit(x, bit));
+    (next, square_doubts | doubts)
+}
+
+/// `x` to the power `y` by the three bits of an exponent below 8, and doubts if it has others or a factor has more than 32 bits. It has no
+/// branches. Squares and cubes, the most common powers, come so up to a base of 46340.
+#[inline(always)]
+pub(crate) fn likely_power(x: i64, y: i64) -> (i64, u64)
+    ensures { result.1 ≡ 0 → power x y ≡ Ok result.0 }
+{
+    let exponent = y.cast_unsigned();
+    let first = power_of_bit(x, exponent / 4 % 2);
+    let (root, root_doubts) = likely_next_power(x, first, exponent / 2 % 2);
+    let (value, doubts) = likely_next_power(x, root, exponent % 2);
+    (value, root_doubts | doubts | exponent / 8)
 }
 
 /// The magnitude of `x`, and the doubts whether 64 bits hold it.

@@ -3,8 +3,8 @@
 ghost use Rattle.apl_scalar.specs.Scalar.{bit};
 
 use crate::arithmetic::{
-    combinations, factorial, likely_difference, likely_magnitude, likely_product, likely_sum,
-    likely_value, limited, power, product, quotient, reciprocal, residue, sign,
+    combinations, factorial, likely_difference, likely_magnitude, likely_power, likely_product,
+    likely_sum, likely_value, limited, power, product, quotient, reciprocal, residue, sign,
 };
 use crate::truth::{
     and, bit, likely_and, likely_nand, likely_negation, likely_nor, likely_or, nand, negation, nor,
@@ -76,7 +76,6 @@ pub(crate) fn has_dyadic_runs(f: ScalarFunction) -> bool {
         f,
         ScalarFunction::Divide
             | ScalarFunction::Stile
-            | ScalarFunction::Star
             | ScalarFunction::Bang
             | ScalarFunction::Tilde
     )
@@ -285,6 +284,11 @@ impl Function for Star {
 
     fn identity() -> Option<i64> {
         Some(1)
+    }
+
+    #[inline(always)]
+    fn likely(left: i64, right: i64) -> (i64, u64) {
+        likely_power(left, right)
     }
 }
 

@@ -51,6 +51,38 @@ fn write_likely<P: Results>(results: P, from: usize, count: usize, room: &mut [i
     all_doubts == 0
 }
 
+/// How many results are written in one turn of a loop.
+const TURN: usize = 4;
+
+/// Writes the next `count` results into the room for the places from `from` on, of which it has `done`. It answers the
+/// place of the first fault, or where these end.
+#[inline(always)]
+fn write_some<P: Results>(
+    results: P,
+    from: usize,
+    done: usize,
+    count: usize,
+    room: &mut [i64],
+) -> usize
+    requires places { from + done + count ≤ P.served results }
+    requires most { from + done + count ≤ MOST_PLACES }
+    requires room { done + count ≤ length room.old }
+    requires before { AreWritten (P.outcome results) from (from + done) room.old }
+    ensures order { from ≤ result }
+    ensures within { result ≤ from + done + count }
+    ensures values { AreWritten (P.outcome results) from result room.new }
+    ensures len { length room.new ≡ length room.old }
+{
+    for offset in 0..count {
+        let k = done + offset;
+        match results.result_at(from + k) {
+            Ok(value) => room[k] = value,
+            Err(_) => return from + k,
+        }
+    }
+    from + done + count
+}
+
 /// Writes results into the room for the places from `from` on, one by one. It answers the place of the first fault,
 /// or where the places end.
 fn write_before_fault<P: Results>(results: P, from: usize, count: usize, room: &mut [i64]) -> usize
@@ -62,13 +94,14 @@ fn write_before_fault<P: Results>(results: P, from: usize, count: usize, room: &
     ensures values { AreWritten (P.outcome results) from result room.new }
     ensures len { length room.new ≡ length room.old }
 {
-    for k in 0..count {
-        match results.result_at(from + k) {
-            Ok(value) => room[k] = value,
-            Err(_) => return from + k,
+    for turn in 0..count / TURN {
+        let stopped = write_some(results, from, turn * TURN, TURN, room);
+        if stopped < from + turn * TURN + TURN {
+            return stopped;
         }
     }
-    from + count
+    let rest = count % TURN;
+    write_some(results, from, count - rest, rest, room)
 }
 
 /// Writes a run of results into the room for the places from `from` up to before `to`. It answers the place at which it stopped: that of a
