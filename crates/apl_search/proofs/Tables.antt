@@ -6,7 +6,7 @@ use Rattle.std.proofs.lemmas.Int.{ints}
 use Rattle.std.proofs.lemmas.List.{length-set, get_or-set_same, get_or-set_other, drop_all}
 use Rattle.std.proofs.lemmas.List.Elements.{All-map}
 use Rattle.std.proofs.lemmas.List.Sums.{position_or_len_is, prefix_len-le-length}
-use Rattle.apl_search.specs.Tables.{place_of, IsNumberWithin, IsTable}
+use Rattle.apl_search.specs.Tables.{place_of, IsNumberWithin, ArePlacesFrom, IsTable}
 use Rattle.apl_search.proofs.Grades.{false_of}
 
 pub missing : (numbers : List ℤ) (x : ℤ) → ((k : ℕ) → k < length numbers → get_or numbers k (pos 0) ≡ x → ⊥) → place_of numbers x ≡ length numbers
@@ -55,15 +55,11 @@ module _ (numbers : List ℤ) (least : ℤ) (places : List ℕ) (table : IsTable
       cases_ltz x y = grind (arith, ints)
 
 module _ (numbers : List ℤ) (least : ℤ) where
-  -- entries have the first places from a place on
-  abbrev pub ArePlacesFrom : ℕ → List ℕ → Type 0
-  ArePlacesFrom from places = (k d : ℕ) → k < length places → get_or places k d ≡ from + place_of (drop from numbers) (least +ℤ pos k)
-
-  pub none_yet : (places : List ℕ) → All (λ p. p ≡ length numbers) places → ArePlacesFrom (length numbers) places
+  pub none_yet : (places : List ℕ) → All (λ p. p ≡ length numbers) places → ArePlacesFrom numbers least (length numbers) places
   none_yet places all = λ k d inside. all k d inside ∙ rw (drop_all (length numbers) numbers (le_refl (length numbers))) (omega arith)
 
   pub one_more : (places : List ℕ) (from entry : ℕ) (x : ℤ) → from < length numbers → get_or numbers from x ≡ x → least +ℤ pos entry ≡ x → entry < length places
-      → ArePlacesFrom (from + 1) places → ArePlacesFrom from (set places entry from)
+      → ArePlacesFrom numbers least (from + 1) places → ArePlacesFrom numbers least from (set places entry from)
   one_more places from entry x inside at is within before = λ k d h.
       let l : k < length places = omega (arith, h, length-set places entry from) in
       let first : drop from numbers ≡ x ∷ drop (from + 1) numbers = drop-cons numbers from x inside ∙ (let next : suc from ≡ from + 1 = omega arith in rw (next, at) refl) in

@@ -1,5 +1,5 @@
 -- First places of numbers in a table. No contract of a public function cites this file.
-use Rattle.std.specs.Prelude.{◌≡◌, ℕ, ℤ, pos, ◌+◌, ◌^◌, ◌<◌, ◌+ℤ◌, ◌≤ℤ◌, ◌<ℤ◌, List, length, All, slice_index_or}
+use Rattle.std.specs.Prelude.{◌≡◌, ℕ, ℤ, pos, ◌+◌, ◌^◌, ◌<◌, ◌+ℤ◌, ◌≤ℤ◌, ◌<ℤ◌, List, length, drop, All, slice_index_or}
 use Rattle.std.specs.List.{position_or_len}
 use Rattle.std.specs.Ordering.{int_eq}
 
@@ -16,3 +16,12 @@ pub record IsTable (numbers : List ℤ) (least : ℤ) (places : List ℕ) : Type
   pub within : All (IsNumberWithin least (length places)) numbers
   pub top : (least +ℤ pos (length places)) ≤ℤ pos (2 ^ 63 + 1)
   pub each : (k d : ℕ) → k < length places → slice_index_or places k d ≡ place_of numbers (least +ℤ pos k)
+
+-- entries that have the first places from a place on
+abbrev pub ArePlacesFrom : List ℤ → ℤ → ℕ → List ℕ → Type 0
+ArePlacesFrom numbers least from places = (k d : ℕ) → k < length places → slice_index_or places k d ≡ from + place_of (drop from numbers) (least +ℤ pos k)
+
+-- replies to the first numbers of a list, each by its place in a table
+abbrev pub AreReplies : (ℕ → ℕ) → ℤ → List ℕ → List ℤ → ℕ → List ℤ → Type 0
+AreReplies number least places keys count replies =
+    (numbers : List ℤ) → IsTable numbers least places → (k : ℕ) (d : ℤ) → k < count → slice_index_or replies k d ≡ pos (number (place_of numbers (slice_index_or keys k (pos 0))))

@@ -2,7 +2,7 @@ use Rattle.std.proofs.Common.{◌≡◌, ℤ, pos, ◌<◌, ◌≤◌, length, m
 use Rattle.std.proofs.lemmas.Bool.{cases_lt}
 use Rattle.std.proofs.lemmas.List.{length-set, get_or-map, get_or-set_same, get_or-set_other}
 use Rattle.apl_search.specs.Tables.{place_of}
-use Rattle.apl_search.proofs.replies.write_replies.Goals as goal
+use Rattle.apl_search.proofs.replies.write_replies_up_to.Goals as goal
 
 pub loop-k-preserved : goal.loop-k-preserved
 loop-k-preserved g c =
@@ -14,7 +14,7 @@ loop-k-preserved g c =
     let x = to_z w64 (of_z w64 c.number.result) in
     let read : x ≡ c.number.result = search rules in
     let number : to_z w64 (of_z w64 c.key.result) ≡ c.key.result = search rules in
-    let inside : k < length elements = search rules in
+    let inside : k < length elements = omega (arith, c.loop-k-test.true, c.requires.inside) in
     let within : k < length room = omega (arith, inside, kept.len, c.requires.room) in
     let here : get_or (map key elements) k (pos 0) ≡ c.key.result = get_or-map key elements k c.index-elements-k.result (pos 0) inside ∙ ap key (sym c.index-elements-k.is) ∙ sym c.key.ensures in
     record {
@@ -33,4 +33,4 @@ loop-k-preserved g c =
 
 pub returns-clause-values : goal.returns-clause-values
 returns-clause-values g c = λ numbers table k d inside.
-    c.loop-k.invariant.values numbers table k d (let all : length c.args.elements.now ≤ c.loop-k.k = search rules in omega (arith, inside, all))
+    c.loop-k.invariant.values numbers table k d (let all : c.args.to ≤ c.loop-k.k = search rules in omega (arith, inside, all))

@@ -1,0 +1,10 @@
+use Rattle.std.proofs.Common.{◌≡◌, ◌≤◌, length, map}
+use Rattle.apl_search.specs.Tables.{ArePlacesFrom}
+use Rattle.apl_search.proofs.table.write_places_between.Given as goal
+
+abbrev pub invariant-loop-place : goal.invariant-loop-place
+invariant-loop-place g l = record {
+  order : l.from ≤ l.place;
+  len : length l.places ≡ length l.fn.places;
+  from : ArePlacesFrom (map g.T.Keyed.key l.values) l.least l.place l.places;
+}
