@@ -1,8 +1,9 @@
 -- What is known of the numbers in front of others, with one more number behind them.
-use Rattle.std.proofs.Common.{◌≡◌, ℕ, ◌*◌, ◌≤◌, ℤ, pos, negsuc, neg_ℤ, ◌+ℤ◌, ◌-ℤ◌, ◌*ℤ◌, ◌≤ℤ◌, int_le, Bool, true, false, true≢false, cond, not, ◌&&◌, List, [], ◌∷◌, ◌++◌, Result, Ok, Err, refl, sym, ap, ◌∙◌, arith, mul-le-mul_right, if◌then◌else◌}
+use Rattle.std.proofs.Common.{◌≡◌, ℕ, ◌*◌, ◌≤◌, ℤ, pos, negsuc, neg_ℤ, ◌+ℤ◌, ◌-ℤ◌, ◌*ℤ◌, ◌≤ℤ◌, int_le, Bool, true, false, true≢false, cond, not, ◌&&◌, List, [], ◌∷◌, ◌++◌, Result, Ok, Err, refl, sym, ap, ◌∙◌, subst, arith, mul-le-mul_right, if◌then◌else◌}
 use Rattle.std.proofs.lemmas.Int.{ints, clamps, unsigned_abs-mul}
 use Rattle.std.proofs.Math.Nat.{mul_assoc}
-use Rattle.std.specs.Prelude.{max, unsigned_abs}
+use Rattle.std.specs.Prelude.{unsigned_abs}
+use borrow.Author.Differences.{product_is}
 use Rattle.std.specs.Int.{int_min, int_max}
 use Rattle.apl_array.specs.declared.function.ScalarFunction.{ScalarFunction}
 use Rattle.apl_array.specs.declared.function.ScalarFunction.TheVariants.{Times}
@@ -17,7 +18,7 @@ use Rattle.apl_summary.specs.declared.coefficients.Coefficients.{Coefficients}
 use Rattle.apl_summary.specs.Coefficients.{scaled_outcome}
 use Rattle.apl_summary.specs.declared.constants.Constants.{Constants}
 use Rattle.apl_summary.specs.Constants.{are_in_range, signed_outcome, signed_function, AreConstants}
-use Rattle.apl_summary.specs.Fronts.{signed_total, all_with_plus, sums_fit, sum_outcome, IsRunningSum, IsBoundedSum, IsBoundedProduct, IsRunningExtreme, AreRunningBits}
+use Rattle.apl_summary.specs.Fronts.{signed_total, all_with_plus, sums_fit, sum_outcome, IsRunningSum, IsBoundedSum, IsBoundedProduct, product_of_all, IsRunningExtreme, AreRunningBits}
 use Rattle.apl_summary.proofs.Products.{mul_assoc_ℤ}
 use Rattle.apl_summary.proofs.ExtremeItems.{two_in_range, one_is, nested}
 use Rattle.apl_summary.proofs.TwoValuedAnswers.{two_valued_is_bit}
@@ -259,18 +260,14 @@ product_near x right most near small =
     let is = unsigned_abs-mul x right in
     in_range_true (x *ℤ right) (in_by_magnitude (x *ℤ right) (omega (arith, less, small, is)))
 
-within_whole : (most x right : ℕ) → max (most * x) 1 * right ≤ 9223372036854775807 → (most * x) * right ≤ 9223372036854775807
-within_whole most x right small =
-    let less : most * x ≤ max (most * x) 1 = omega arith in
-    omega (arith, mul-le-mul_right right less, small)
-
 -- the numbers meet a product whose magnitude times `most` is in the range
-pub product_front : (total x : ℤ) (most : ℕ) (numbers : List ℤ) → 1 ≤ most → IsBoundedProduct total most numbers → IsBoundedProduct (total *ℤ x) (max (most * unsigned_abs x) 1) (numbers ++ x ∷ [])
-product_front total x most numbers some is = record {
+pub product_front : (total x : ℤ) (most next : ℕ) (numbers : List ℤ) → 1 ≤ most → most * unsigned_abs x ≤ next → IsBoundedProduct total most numbers → IsBoundedProduct (total *ℤ x) next (numbers ++ x ∷ [])
+product_front total x most next numbers some less is = record {
   multiplies = λ right small.
-      let whole = within_whole most (unsigned_abs x) (unsigned_abs right) small in
-      let less : 1 * unsigned_abs x ≤ most * unsigned_abs x = mul-le-mul_right (unsigned_abs x) some in
-      let near : unsigned_abs x ≤ most * unsigned_abs x = omega (arith, less) in
+      let grown = mul-le-mul_right (unsigned_abs right) less in
+      let whole : (most * unsigned_abs x) * unsigned_abs right ≤ 9223372036854775807 = omega (arith, grown, small) in
+      let one : 1 * unsigned_abs x ≤ most * unsigned_abs x = mul-le-mul_right (unsigned_abs x) some in
+      let near : unsigned_abs x ≤ most * unsigned_abs x = omega (arith, one) in
       let all : most * unsigned_abs (x *ℤ right) ≡ (most * unsigned_abs x) * unsigned_abs right = ap (λ n. most * n) (unsigned_abs-mul x right) ∙ sym (mul_assoc most (unsigned_abs x) (unsigned_abs right)) in
       fold_behind times numbers x right
       ∙ ap (λ (b : Bool). and_then (cond b (Ok (x *ℤ right)) (Err Limit)) (fold_onto times numbers)) (product_near x right (most * unsigned_abs x) near whole)
@@ -278,22 +275,29 @@ product_front total x most numbers some is = record {
       ∙ ap (λ (z : ℤ). Ok z) (sym (mul_assoc_ℤ total x right));
 }
 
+all_times : (has_zero : Bool) (after x : ℤ) → product_of_all has_zero after *ℤ x ≡ product_of_all has_zero (after *ℤ x)
+all_times true after x = let is = product_is (pos 0) x in omega (arith, ints, is)
+all_times false after x = refl
+
+-- where the product after the last 0 keeps the range and is not -2^63, the numbers multiply
+pub product_value : (has_zero : Bool) (after x next : ℤ) (numbers : List ℤ) → next ≡ after *ℤ x → unsigned_abs next ≤ 9223372036854775807
+    → IsBoundedProduct (product_of_all has_zero after) (unsigned_abs after) numbers → fold_onto times numbers x ≡ Ok (product_of_all has_zero next)
+product_value has_zero after x next numbers product small is =
+    let size : unsigned_abs next ≡ unsigned_abs after * unsigned_abs x = ap unsigned_abs product ∙ unsigned_abs-mul after x in
+    is.multiplies x (omega (arith, size, small)) ∙ ap (λ (z : ℤ). Ok z) (all_times has_zero after x ∙ ap (product_of_all has_zero) (sym product))
+
+-- with one more number the product of all is `all`, and no product of an end has a magnitude above `most`
+pub product_after : (has_zero : Bool) (after x next all : ℤ) (most : ℕ) (numbers : List ℤ) → next ≡ after *ℤ x → 1 ≤ unsigned_abs after → all ≡ product_of_all has_zero next → unsigned_abs next ≤ most
+    → IsBoundedProduct (product_of_all has_zero after) (unsigned_abs after) numbers → IsBoundedProduct all most (numbers ++ x ∷ [])
+product_after has_zero after x next all most numbers product some total less is =
+    let size : unsigned_abs next ≡ unsigned_abs after * unsigned_abs x = ap unsigned_abs product ∙ unsigned_abs-mul after x in
+    subst (λ (z : ℤ). IsBoundedProduct z most (numbers ++ x ∷ [])) (all_times has_zero after x ∙ ap (product_of_all has_zero) (sym product) ∙ sym total)
+    (product_front (product_of_all has_zero after) x (unsigned_abs after) most numbers some (omega (arith, size, less)) is)
+
 -- what the items do where all coefficients are near enough to 0
 pub product_is_bounded : (c : Coefficients) (most : ℕ) → unsigned_abs c.least ≤ most → unsigned_abs c.greatest ≤ most → (right : ℤ) → most * unsigned_abs right ≤ 9223372036854775807 → scaled_outcome c right ≡ Ok (c.total *ℤ right)
 product_is_bounded c most least greatest right small =
     ap (λ (b : Bool). cond b (Ok (c.total *ℤ right)) (Err Limit)) (true_and _ _ (product_near c.least right most least small) (product_near c.greatest right most greatest small))
-
-pub between_is_near : (least total greatest : ℤ) (most : ℕ) → least ≤ℤ total → total ≤ℤ greatest → unsigned_abs least ≤ most → unsigned_abs greatest ≤ most → unsigned_abs total ≤ most
-between_is_near least (pos n) (pos m) most low high near_least near_greatest = omega (arith, ints, high, near_greatest)
-between_is_near least (pos n) (negsuc m) most low high near_least near_greatest = absurd (omega (arith, ints, high))
-between_is_near (pos m) (negsuc n) greatest most low high near_least near_greatest = absurd (omega (arith, ints, low))
-between_is_near (negsuc m) (negsuc n) greatest most low high near_least near_greatest = omega (arith, ints, low, near_least)
-
-pub product_is_near : (total x : ℤ) (most : ℕ) → unsigned_abs total ≤ most → unsigned_abs (total *ℤ x) ≤ max (most * unsigned_abs x) 1
-product_is_near total x most near =
-    let less = mul-le-mul_right (unsigned_abs x) near in
-    let is = unsigned_abs-mul total x in
-    omega (arith, less, is)
 
 pub factor_in_range : (right : ℤ) (most : ℕ) → 1 ≤ most → most * unsigned_abs right ≤ 9223372036854775807 → IsI64 right
 factor_in_range right most some small =

@@ -72,6 +72,10 @@ AreSumsAfter is_plus is_negated total least greatest numbers count values =
 
 -- ---- products
 
+-- the product of all numbers, from that of those after the last 0
+abbrev pub product_of_all : (has_zero : Bool) → (after_zero : ℤ) → ℤ
+product_of_all has_zero after_zero = if has_zero then pos 0 else after_zero
+
 -- The product of the numbers. A number after them of which the magnitude times `most` is in the range is refused by no end of them.
 pub record IsBoundedProduct (total : ℤ) (most : ℕ) (numbers : List ℤ) : Type 0 where
   pub multiplies : (right : ℤ) → most * unsigned_abs right ≤ 9223372036854775807 → fold_onto (dyadic_numbers Times) numbers right ≡ Ok (total *ℤ right)

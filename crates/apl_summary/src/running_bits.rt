@@ -1,5 +1,5 @@
 //! What bits answer for the next one, under a function with two values.
-ghost use Rattle.std.specs.Prelude.{◌≡◌, ◌-◌, ◌<◌, ◌≤◌, pos, [], Ok, IfSome, if◌then◌else◌};
+ghost use Rattle.std.specs.Prelude.{◌≡◌, ℕ, ◌+◌, ◌-◌, ◌<◌, ◌≤◌, ◌^◌, pos, [], Ok, IfSome, if◌then◌else◌};
 ghost use Rattle.apl_pool.specs.declared.summary.TheConstants.{LONGEST_RUN};
 ghost use Rattle.apl_pool.specs.Summaries.{IsSummaryFrom};
 ghost use Rattle.apl_scalar.specs.Scalar.{bit, is_one, dyadic_numbers};
@@ -11,6 +11,9 @@ use crate::running::PrefixState;
 use crate::two_valued::TwoValuedFunction;
 use apl_pool::Kernel;
 use std::marker::PhantomData;
+
+/// How many items are met in one turn of a loop.
+const TURN: usize = 4;
 
 /// What numbers answer for 0 and for 1. The answers are kept as numbers, since the compiler packs two of type `bool` into one at each step.
 #[derive(Drop)]
@@ -95,6 +98,29 @@ impl<P: TwoValuedFunction + Drop> RunningBits<P> {
         Some((value, next))
     }
 
+    /// The answers of the numbers and of the items at the next `count` places, if these are bits.
+    #[inline(always)]
+    fn with_places<K: Kernel<Out = i64>>(
+        self,
+        kernel: &K,
+        place: usize,
+        count: usize,
+    ) -> Option<Self>
+        requires places { place + count ≤ K.place_count kernel.now }
+        requires fits { place + count < 2 ^ 64 }
+        ensures { IfSome result (λ s. (from : ℕ) → from ≤ place → AreBitsFrom P.FUNCTION (K.outcome kernel.now) from place (is_one self.for_zero) (is_one self.for_one) → AreBitsFrom P.FUNCTION (K.outcome kernel.now) from (place + count) (is_one s.for_zero) (is_one s.for_one)) }
+    {
+        let mut bits = self;
+        for offset in 0..count {
+            let Ok(item) = kernel.at(place + offset) else {
+                return None;
+            };
+            let (_, next) = bits.with(item)?;
+            bits = next;
+        }
+        Some(bits)
+    }
+
     /// The answers of the items at the places from `from` up to before `to`, if they are bits.
     #[inline(always)]
     fn of_places<K: Kernel<Out = i64>>(kernel: &K, from: usize, to: usize) -> Option<Self>
@@ -103,14 +129,12 @@ impl<P: TwoValuedFunction + Drop> RunningBits<P> {
         ensures { IfSome result (λ s. AreBitsFrom P.FUNCTION (K.outcome kernel.now) from to (is_one s.for_zero) (is_one s.for_one)) }
     {
         let mut bits = RunningBits::none();
-        for place in from..to {
-            let Ok(item) = kernel.at(place) else {
-                return None;
-            };
-            let (_, next) = bits.with(item)?;
+        for turn in 0..(to - from) / TURN {
+            let next = bits.with_places(kernel, from + turn * TURN, TURN)?;
             bits = next;
         }
-        Some(bits)
+        let rest = (to - from) % TURN;
+        bits.with_places(kernel, to - rest, rest)
     }
 }
 

@@ -15,6 +15,9 @@ use apl_pool::{Kernel, LONGEST_RUN};
 /// The most magnitude of two numbers whose product is not tested.
 const MOST_FACTOR: i64 = 1 << 31;
 
+/// How many items are met in one turn of a loop.
+const TURN: usize = 4;
+
 /// `Coefficients` in numbers of 64 bits.
 #[derive(Clone, Copy)]
 pub struct SmallCoefficients {
@@ -95,6 +98,35 @@ fn factor_at<K: Kernel<Out = i64>>(kernel: &K, place: usize) -> Option<i64>
     }
 }
 
+impl SmallCoefficients {
+    /// The coefficients of the `count` items before a place and of the items from there on, if they and their partial products are small.
+    #[inline(always)]
+    fn with_places<K: Kernel<Out = i64>>(
+        self,
+        kernel: &K,
+        place: usize,
+        count: usize,
+    ) -> Option<SmallCoefficients>
+        requires before { count ≤ place }
+        requires places { place ≤ K.place_count kernel.now }
+        requires few { self.count + count ≤ LONGEST_RUN }
+        requires lawful { AreCoefficients (widened self) }
+        ensures count { IfSome result (λ s. s.count ≡ self.count + count) }
+        ensures lawful { IfSome result (λ s. AreCoefficients (widened s)) }
+        ensures summary { IfSome result (λ s. (to : ℕ) → place ≤ to → IsSummaryFrom (dyadic_numbers Times) (λ (c : Coefficients). c.count) scaled_outcome (K.outcome kernel.now) place to (widened self) → IsSummaryFrom (dyadic_numbers Times) (λ (c : Coefficients). c.count) scaled_outcome (K.outcome kernel.now) (place - count) to (widened s)) }
+    {
+        let mut coefficients = self;
+        for offset in 0..count {
+            if !is_factor(coefficients.total) {
+                return None;
+            }
+            let item = factor_at(kernel, place - 1 - offset)?;
+            coefficients = coefficients.behind(item);
+        }
+        Some(coefficients)
+    }
+}
+
 /// The coefficients of the items at the places from `from` up to before `to`, if all of them and their
 /// partial products are small.
 #[inline(always)]
@@ -109,14 +141,12 @@ pub fn small_coefficients<K: Kernel<Out = i64>>(
     ensures summary { IfSome result (λ s. IsSummaryFrom (dyadic_numbers Times) (λ (c : Coefficients). c.count) scaled_outcome (K.outcome kernel.now) from to (widened s)) }
     ensures lawful { IfSome result (λ s. AreCoefficients (widened s)) }
 {
-    let mut place = to - 1;
-    let mut coefficients = SmallCoefficients::one(factor_at(kernel, place)?);
-    while from < place {
-        if !is_factor(coefficients.total) {
-            return None;
-        }
-        place -= 1;
-        coefficients = coefficients.behind(factor_at(kernel, place)?);
+    let last = to - 1;
+    let mut coefficients = SmallCoefficients::one(factor_at(kernel, last)?);
+    for turn in 0..(last - from) / TURN {
+        let next = coefficients.with_places(kernel, last - turn * TURN, TURN)?;
+        coefficients = next;
     }
-    Some(coefficients)
+    let rest = (last - from) % TURN;
+    coefficients.with_places(kernel, from + rest, rest)
 }

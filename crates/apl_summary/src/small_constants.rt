@@ -15,6 +15,9 @@ use apl_pool::{Kernel, LONGEST_RUN};
 /// The most magnitude of a small item, so that those of a run add up to 2^62 at most.
 const MOST_SMALL: i64 = 1 << 52;
 
+/// How many items are met in one turn of a loop.
+const TURN: usize = 4;
+
 /// `Bounds` in numbers of 64 bits.
 #[derive(Clone, Copy)]
 pub struct SmallBounds {
@@ -187,6 +190,35 @@ fn small_item<K: Kernel<Out = i64>>(kernel: &K, place: usize) -> Option<i64>
     }
 }
 
+impl SmallConstants {
+    /// The constants of the `count` items before a place and of the items from there on, if they are small.
+    #[inline(always)]
+    fn with_places<K: Kernel<Out = i64>>(
+        self,
+        is_plus: bool,
+        kernel: &K,
+        place: usize,
+        count: usize,
+    ) -> Option<SmallConstants>
+        requires before { count ≤ place }
+        requires places { place ≤ K.place_count kernel.now }
+        requires few { self.count + count ≤ LONGEST_RUN }
+        requires small { AreSmallConstants self.count self }
+        requires lawful { AreConstants is_plus (widened self) }
+        ensures count { IfSome result (λ s. s.count ≡ self.count + count) }
+        ensures small { IfSome result (λ s. AreSmallConstants s.count s) }
+        ensures lawful { IfSome result (λ s. AreConstants is_plus (widened s)) }
+        ensures summary { IfSome result (λ s. (to : ℕ) → place ≤ to → IsSummaryFrom (dyadic_numbers (signed_function is_plus)) (λ (c : Constants). c.count) signed_outcome (K.outcome kernel.now) place to (widened self) → IsSummaryFrom (dyadic_numbers (signed_function is_plus)) (λ (c : Constants). c.count) signed_outcome (K.outcome kernel.now) (place - count) to (widened s)) }
+    {
+        let mut constants = self;
+        for offset in 0..count {
+            let item = small_item(kernel, place - 1 - offset)?;
+            constants = constants.behind(is_plus, item);
+        }
+        Some(constants)
+    }
+}
+
 /// The constants of the items at the places from `from` up to before `to`, if all of them are small.
 #[inline(always)]
 pub fn small_constants<K: Kernel<Out = i64>>(
@@ -201,11 +233,12 @@ pub fn small_constants<K: Kernel<Out = i64>>(
     ensures summary { IfSome result (λ s. IsSummaryFrom (dyadic_numbers (signed_function is_plus)) (λ (c : Constants). c.count) signed_outcome (K.outcome kernel.now) from to (widened s)) }
     ensures lawful { IfSome result (λ s. AreConstants is_plus (widened s)) }
 {
-    let mut place = to - 1;
-    let mut constants = SmallConstants::one(is_plus, small_item(kernel, place)?);
-    while from < place {
-        place -= 1;
-        constants = constants.behind(is_plus, small_item(kernel, place)?);
+    let last = to - 1;
+    let mut constants = SmallConstants::one(is_plus, small_item(kernel, last)?);
+    for turn in 0..(last - from) / TURN {
+        let next = constants.with_places(is_plus, kernel, last - turn * TURN, TURN)?;
+        constants = next;
     }
-    Some(constants)
+    let rest = (last - from) % TURN;
+    constants.with_places(is_plus, kernel, from + rest, rest)
 }

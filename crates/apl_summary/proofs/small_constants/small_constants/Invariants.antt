@@ -1,4 +1,4 @@
-use Rattle.std.proofs.Common.{◌-◌, ◌<◌, ◌≤◌}
+use Rattle.std.proofs.Common.{◌≡◌, ◌+◌, ◌-◌, ◌*◌}
 use Rattle.apl_pool.specs.Summaries.{IsSummaryFrom}
 use Rattle.apl_scalar.specs.Scalar.{dyadic_numbers}
 use Rattle.apl_summary.specs.declared.constants.Constants.{Constants}
@@ -6,13 +6,10 @@ use Rattle.apl_summary.specs.Constants.{signed_function, signed_outcome, AreCons
 use Rattle.apl_summary.specs.SmallConstants.{widened, AreSmallConstants}
 use Rattle.apl_summary.proofs.small_constants.small_constants.Given as goal
 
-abbrev pub invariant-loop-place : goal.invariant-loop-place
-invariant-loop-place g l =
-    IsSummaryFrom (dyadic_numbers (signed_function l.is_plus)) (λ (c : Constants). c.count) signed_outcome (g.K.Kernel.outcome l.kernel) l.place l.to (widened l.constants)
-    × AreConstants l.is_plus (widened l.constants)
-    × AreSmallConstants (l.to - l.place) l.constants
-    × (l.from ≤ l.place)
-    × (l.place < l.to)
-
-abbrev pub decreases-loop-place : goal.decreases-loop-place
-decreases-loop-place g l = l.place - l.from
+abbrev pub invariant-loop-turn : goal.invariant-loop-turn
+invariant-loop-turn g l = record {
+  count : l.constants.count ≡ l.turn * 4 + 1;
+  small : AreSmallConstants l.constants.count l.constants;
+  lawful : AreConstants l.is_plus (widened l.constants);
+  summary : IsSummaryFrom (dyadic_numbers (signed_function l.is_plus)) (λ (c : Constants). c.count) signed_outcome (g.K.Kernel.outcome l.kernel) (l.last - l.turn * 4) l.to (widened l.constants);
+}

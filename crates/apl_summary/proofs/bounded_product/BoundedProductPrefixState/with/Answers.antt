@@ -1,34 +1,33 @@
-use Rattle.std.proofs.Common.{◌≡◌, ◌*◌, ◌*ℤ◌, to_z, of_z, w64, refl, ap, ◌∙◌, rules, arith}
+use Rattle.std.proofs.Common.{◌≡◌, ℤ, ◌*ℤ◌, Ok, to_z, of_z, w64, refl, sym, ap, ◌∙◌, rules}
 use Rattle.std.specs.Prelude.{unsigned_abs}
-use Rattle.apl_summary.proofs.Fronts.{product_front, product_is_near}
+use Rattle.apl_summary.specs.Fronts.{product_of_all}
+use Rattle.apl_summary.proofs.Fronts.{product_value, product_after}
 use Rattle.apl_summary.proofs.bounded_product.BoundedProductPrefixState.with.Goals as goal
-use Rattle.apl_summary.proofs.bounded_product.BoundedProductPrefixState.with.Goals.{After-product-total}
+use Rattle.apl_summary.proofs.bounded_product.BoundedProductPrefixState.with.Goals.{After-product_of_all-total}
 
-total_is : (c : After-product-total) → to_z w64 (of_z w64 c.product-total.result) ≡ c.args.self.now.total *ℤ c.args.number
-total_is c =
+product_is : (c : After-product_of_all-total) → c.in_ok-after_zero.after_zero ≡ c.args.self.now.after_zero *ℤ c.args.number
+product_is c =
     let fits = c.ranges.number in
     let kept : to_z w64 (of_z w64 c.args.number) ≡ c.args.number = search rules in
-    let kept_total : to_z w64 (of_z w64 c.args.self.now.total) ≡ c.args.self.now.total = search rules in
-    let stored : to_z w64 (of_z w64 c.product-total.result) ≡ c.product-total.result = search rules in
-    stored ∙ c.product-total.ensures ∙ rw (kept, kept_total) refl
+    let kept_before : to_z w64 (of_z w64 c.args.self.now.after_zero) ≡ c.args.self.now.after_zero = search rules in
+    c.in_ok-after_zero.ensures ∙ rw (kept, kept_before) refl
 
-most_is : (c : After-product-total) → c.in_ok-most.most ≡ c.args.self.now.most * unsigned_abs c.args.number
-most_is c =
-    let fits = c.ranges.number in
-    let kept : to_z w64 (of_z w64 c.args.number) ≡ c.args.number = search rules in
-    let said = c.unsigned_abs.ensures.value in
-    let size : c.unsigned_abs.result ≡ unsigned_abs c.args.number = cc in
-    c.in_ok-most.ensures.value ∙ ap (λ n. c.args.self.now.most * n) size
-
-pub invariant_of-result : goal.invariant_of-result
-invariant_of-result c =
+pub returns-clause-value : goal.returns-clause-value
+returns-clause-value c = λ xs is.
     let s = c.args.self.now in
-    let at = (goal.at.invariant_of-result c).After-product-total in
-    let near = product_is_near s.total c.args.number s.most s.near in
-    rw (total_is at, c.max.ensures, most_is at) (record { some = omega arith; near = near })
+    let p = c.in_ok-after_zero.after_zero in
+    let at = (goal.at.returns-clause-value c).After-product_of_all-total in
+    let kept : to_z w64 (of_z w64 p) ≡ p = search rules in
+    let stored : to_z w64 (of_z w64 c.product_of_all-total.result) ≡ c.product_of_all-total.result = search rules in
+    let total = stored ∙ c.product_of_all-total.ensures ∙ ap (product_of_all s.has_zero) kept in
+    product_value s.has_zero s.after_zero c.args.number p xs (product_is at) (rw kept at c.in_ok-next.ensures.range) is ∙ ap (λ (z : ℤ). Ok z) (sym total)
 
 pub returns-clause-front : goal.returns-clause-front
 returns-clause-front c = λ xs is.
     let s = c.args.self.now in
-    let at = (goal.at.returns-clause-front c).After-product-total in
-    rw (total_is at, c.max.ensures, most_is at) (product_front s.total c.args.number s.most xs s.some is)
+    let next = c.in_ok-next.next in
+    let p = c.in_ok-after_zero.after_zero in
+    let at = (goal.at.returns-clause-front c).After-product_of_all-total in
+    let kept : to_z w64 (of_z w64 p) ≡ p = search rules in
+    product_after s.has_zero s.after_zero c.args.number p (product_of_all next.has_zero next.after_zero) (unsigned_abs next.after_zero) xs (product_is at) s.some
+    (rw kept at c.in_ok-next.ensures.all) (rw kept at c.in_ok-next.ensures.most) is
