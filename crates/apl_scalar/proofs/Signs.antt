@@ -1,10 +1,10 @@
 -- The signs of sums and differences of 64 bits that wrap.
-use Rattle.std.proofs.Common.{◌≡◌, ℕ, suc, pos, negsuc, inl, inr, ◌+◌, ◌-◌, ◌*◌, ◌%◌, ◌^◌, ◌<◌, ◌≤◌, ◌+ℤ◌, ◌-ℤ◌, to_z, w64, ap, ◌∙◌, arith}
+use Rattle.std.proofs.Common.{◌≡◌, ℕ, suc, pos, negsuc, inl, inr, ◌+◌, ◌-◌, ◌*◌, ◌%◌, ◌^◌, ◌<◌, ◌≤◌, ◌+ℤ◌, ◌-ℤ◌, ℤ, FitsSigned, to_z, of_z, w64, ap, ◌∙◌, arith}
 use Rattle.std.specs.Int.{bit_at}
 use Rattle.std.specs.Int.Bits.{bit_and, bit_xor}
 use Rattle.std.proofs.Math.Facts.{to_z-neg}
 use Rattle.std.proofs.lemmas.Bool.{cases_lt}
-use Rattle.std.proofs.lemmas.Int.{ints}
+use Rattle.std.proofs.lemmas.Int.{ints, to_z-of_z}
 use Rattle.std.proofs.lemmas.Nat.Bits.{bit_at_and, bit_at_xor}
 
 negative : (n : ℕ) → 2 ^ 63 ≤ n → n < 2 ^ 64 → to_z w64 n ≡ negsuc (2 ^ 64 - suc n)
@@ -32,3 +32,9 @@ pub difference_signs : (x y s : ℕ) → x < 2 ^ 64 → y < 2 ^ 64 → s ≡ (x 
 difference_signs x y s left right is low =
     let both = bit_at_and (bit_xor x y) (bit_xor x s) 63 in
     omega (arith, ints, both, bit_at_xor x y 63, bit_at_xor x s 63, signed x left, signed y right, signed s (omega arith))
+
+-- the bits of an argument are those of the number
+pub signed_argument : (x : ℤ) (n : ℕ) → FitsSigned w64 x → n ≡ of_z w64 (to_z w64 (of_z w64 x)) → to_z w64 n ≡ x
+signed_argument x n fits is =
+    let read = to_z-of_z w64 x fits in
+    ap (to_z w64) is ∙ ap (λ z. to_z w64 (of_z w64 z)) read ∙ read

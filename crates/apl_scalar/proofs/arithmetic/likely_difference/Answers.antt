@@ -1,8 +1,7 @@
 use Rattle.std.proofs.Common.{◌≡◌, ◌^◌, ◌<◌, ◌-ℤ◌, FitsSigned, to_z, of_z, w64, refl, sym, ap, ◌∙◌, arith, rules}
-use Rattle.std.proofs.lemmas.Int.{to_z-of_z}
 use Rattle.apl_scalar.specs.Scalar.{exact}
 use Rattle.apl_scalar.proofs.Exact.{RangeLaw, exact_fits}
-use Rattle.apl_scalar.proofs.Signs.{difference_signs}
+use Rattle.apl_scalar.proofs.Signs.{signed_argument, difference_signs}
 use Rattle.apl_scalar.proofs.arithmetic.likely_difference.Goals as goal
 
 pub returns : goal.returns
@@ -11,10 +10,8 @@ returns c = λ none.
     let y = c.args.y in
     let left = c.cast_unsigned-left.result in
     let right = c.cast_unsigned-right.result in
-    let read_x = to_z-of_z w64 x c.ranges.x in
-    let read_y = to_z-of_z w64 y c.ranges.y in
-    let left_is : to_z w64 left ≡ x = ap (to_z w64) c.cast_unsigned-left.ensures ∙ ap (λ z. to_z w64 (of_z w64 z)) read_x ∙ read_x in
-    let right_is : to_z w64 right ≡ y = ap (to_z w64) c.cast_unsigned-right.ensures ∙ ap (λ z. to_z w64 (of_z w64 z)) read_y ∙ read_y in
+    let left_is = signed_argument x left c.ranges.x c.cast_unsigned-left.ensures in
+    let right_is = signed_argument y right c.ranges.y c.cast_unsigned-right.ensures in
     let left_fits : left < 2 ^ 64 = search rules in
     let right_fits : right < 2 ^ 64 = search rules in
     let stored : to_z w64 (of_z w64 c.cast_signed.result) ≡ c.cast_signed.result = search rules in
