@@ -55,7 +55,14 @@ fn are_indexes(numbers: &[i64], origin: Origin, axis_length: usize) -> bool
         let from = turn * TURN;
         are_all = are_indexes_up_to(are_all, numbers, origin, axis_length, from, from + TURN);
     }
-    are_indexes_up_to(are_all, numbers, origin, axis_length, turns * TURN, numbers.len())
+    are_indexes_up_to(
+        are_all,
+        numbers,
+        origin,
+        axis_length,
+        turns * TURN,
+        numbers.len(),
+    )
 }
 
 /// Whether each number of the slots, less the origin, is an index of the slot's axis.
