@@ -11,3 +11,8 @@ expanded_entry bits i = if slice_index bits i == 1 then sum (take i bits) else A
 abbrev pub AreEntriesOf : List ℤ → List ℕ → (ones : ℕ) → Type 0
 AreEntriesOf bits entries ones =
     (length entries ≡ length bits) × ((i : ℕ) → i < length bits → slice_index entries i ≡ expanded_entry (map place_number bits) i) × (ones ≡ sum (map place_number bits)) × (ones ≤ length bits)
+
+-- the first n entries of bits, and how many ones are before place n
+abbrev pub AreEntriesUpTo : List ℤ → (n : ℕ) → List ℕ → (ones : ℕ) → Type 0
+AreEntriesUpTo bits n entries ones =
+    ((i : ℕ) → i < n → slice_index entries i ≡ expanded_entry (map place_number bits) i) × (ones ≡ sum (take n (map place_number bits))) × (ones ≤ n)

@@ -70,3 +70,8 @@ HaveValues choice step n elements values fill count room = (p : ℕ) → p < cou
 abbrev pub AreWrittenOver : {T : Type 0} → (chosen : ℕ → ℕ) (extent from step : ℕ) (values : List T) (fill : T) (old new : List T) → Type 0
 AreWrittenOver {T} chosen extent from step values fill old new = (choice : ℕ → ℕ) (elements : List T) → ((i : ℕ) → i < extent → chosen i ≡ choice (from + i))
     → HaveValues choice step from elements values fill (length old) old → HaveValues choice step (from + extent) elements values fill (length old) new
+
+-- the same where the choices of a line up to before `end` are written, and those before `first` were before
+abbrev pub AreWrittenUpTo : {T : Type 0} → (chosen : ℕ → ℕ) (extent from first end step : ℕ) (values : List T) (fill : T) (old new : List T) → Type 0
+AreWrittenUpTo {T} chosen extent from first end step values fill old new = (choice : ℕ → ℕ) (elements : List T) → ((i : ℕ) → i < extent → chosen i ≡ choice (from + i))
+    → HaveValues choice step (from + first) elements values fill (length old) old → HaveValues choice step (from + end) elements values fill (length old) new

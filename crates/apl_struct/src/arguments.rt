@@ -8,6 +8,9 @@ ghost use Rattle.apl_struct.specs.Axes.{axis_number_of};
 use apl_answer::OpFault;
 use apl_array::Array;
 
+/// How many numbers are taken in one turn of a loop.
+pub(crate) const TURN: usize = 4;
+
 /// The numbers of an array in row order. It is of numbers or without elements (`Domain`).
 pub(crate) fn numbers_among(a: &Array) -> Result<&[i64], OpFault>
     ensures numbers { MatchResult result (λ ns. (is_numbers a.now ≡ true) × (numbers_of a.now ≡ ns.now)) (λ fault. (fault ≡ Domain) × (is_numbers a.now ≡ false)) }

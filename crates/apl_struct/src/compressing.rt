@@ -1,5 +1,5 @@
 //! Indexes of an axis that numbers keep, repeat or leave for fills.
-ghost use Rattle.std.specs.Prelude.{◌≡◌, ◌<◌, ◌≤◌, if◌then◌else◌, Err, map, max, length, replicate, slice_index, ◌+◌, ◌++◌, true, false, IfOk, MatchOption, sum, vec_len, vec_capacity, pos};
+ghost use Rattle.std.specs.Prelude.{◌≡◌, ◌<◌, ◌≤◌, if◌then◌else◌, Err, map, max, length, replicate, slice_index, take, ◌+◌, ◌++◌, true, false, IfOk, MatchOption, sum, vec_len, vec_capacity, pos};
 ghost use Rattle.std.specs.List.{list_all};
 ghost use Rattle.apl_array.specs.Axes.{place_number};
 ghost use Rattle.apl_pool.specs.declared.kernel.TheConstants.{MOST_PLACES};
@@ -9,11 +9,11 @@ ghost use Rattle.apl_answer.specs.Rows.{Answers};
 ghost use Rattle.apl_struct.specs.Compressing.{as_vector, repeated_indexes, replicate_row, expand_row};
 ghost use Rattle.apl_struct.specs.Replicating.{replicated, IsSumOf};
 ghost use Rattle.std.specs.Ordering.{int_eq};
-ghost use Rattle.apl_struct.specs.Expanding.{AreEntriesOf};
+ghost use Rattle.apl_struct.specs.Expanding.{AreEntriesOf, AreEntriesUpTo};
 ghost use Rattle.apl_struct.specs.declared.compressing.TheConstants.{ABSENT};
 
 use crate::along::{Taking, gather_along, shape_with_axis, vector_length, vector_rank};
-use crate::arguments::numbers_among;
+use crate::arguments::{TURN, numbers_among};
 use crate::building::empty;
 use apl_answer::OpFault;
 use apl_array::{Array, Axis, MOST_ELEMENTS};
@@ -61,20 +61,54 @@ fn push_times(table: &mut Vec<u32>, index: u32, times: usize)
     }
 }
 
-/// Puts an index as often behind others as its count says. It is put there `spare` times in any case, and what is past its count is
+/// Puts an index as often behind others as its count says. It is put there `SPARE` times in any case, and what is past its count is
 /// taken away again. So nothing hangs on a small count, which no processor can foresee.
 #[inline(always)]
-fn append_times(table: &mut Vec<u32>, index: u32, count: usize, spare: usize)
-    requires { vec_len table.old + count + spare ≤ vec_capacity table.old }
+fn append_times(table: &mut Vec<u32>, index: u32, count: usize)
+    requires { vec_len table.old + count + SPARE ≤ vec_capacity table.old }
     ensures items { table.new.items ≡ table.old.items ++ replicate count index }
     ensures capacity { vec_capacity table.new ≡ vec_capacity table.old }
 {
     let end = table.len() + count;
-    push_times(table, index, spare);
-    if count > spare {
-        push_times(table, index, count - spare);
+    push_times(table, index, SPARE);
+    if count > SPARE {
+        push_times(table, index, count - SPARE);
     }
     table.truncate(end);
+}
+
+/// Whether each number is 0 or 1. The loop has no branches, and a processor does several numbers at once.
+fn are_bits(numbers: &[i64]) -> bool
+    ensures { result ≡ list_all is_bit numbers.now }
+{
+    let mut are_all = true;
+    for number in numbers {
+        are_all &= is_bit(*number);
+    }
+    are_all
+}
+
+/// Puts the indexes of the ones from `from` up to before `to` into a table, after those of the ones before them. It answers how many it
+/// has then. What is put at the index of a zero is written over by the next.
+#[inline(always)]
+fn keep_up_to(bits: &[i64], from: usize, to: usize, kept: usize, table: &mut [u32]) -> usize
+    requires bits { list_all is_bit bits.now ≡ true }
+    requires order { from ≤ to }
+    requires places { to ≤ length bits.now }
+    requires most { length bits.now ≤ MOST_PLACES }
+    requires room { length table.old ≡ length bits.now }
+    requires few { kept ≤ from }
+    requires before { take kept table.old ≡ repeated_indexes (take from (map place_number bits.now)) }
+    ensures few { result ≤ to }
+    ensures kept { take result table.new ≡ repeated_indexes (take to (map place_number bits.now)) }
+    ensures len { length table.new ≡ length table.old }
+{
+    let mut kept = kept;
+    for i in from..to {
+        table[kept] = i as u32;
+        kept += bits[i] as usize;
+    }
+    kept
 }
 
 /// The indexes of the ones, where each number is 0 or 1.
@@ -82,14 +116,36 @@ fn kept_indexes(alloc: Global, bits: &[i64]) -> Result<Option<Vec<u32>>, AllocEr
     requires most { length bits.now ≤ MOST_PLACES }
     ensures { IfOk result (λ found. MatchOption found (list_all is_bit bits.now ≡ false) (λ table. (list_all is_bit bits.now ≡ true) × (table.items ≡ repeated_indexes (map place_number bits.now)))) }
 {
-    let mut table = Vec::with_capacity(alloc, bits.len() + 1)?;
-    for (i, bit) in bits.iter().enumerate() {
-        if !is_bit(*bit) {
-            return Ok(None);
-        }
-        append_times(&mut table, i as u32, *bit as usize, 1);
+    if !are_bits(bits) {
+        return Ok(None);
     }
+    let mut table = vec![in alloc; 0; bits.len()]?;
+    let places = table.as_mut_slice();
+    let turns = bits.len() / TURN;
+    let mut kept = 0;
+    for turn in 0..turns {
+        kept = keep_up_to(bits, turn * TURN, turn * TURN + TURN, kept, places);
+    }
+    kept = keep_up_to(bits, turns * TURN, bits.len(), kept, places);
+    table.truncate(kept);
     Ok(Some(table))
+}
+
+/// Puts the indexes from `from` up to before `to` into a table, each as often as its count says, after those before them.
+#[inline(always)]
+fn list_up_to(counts: &[i64], from: usize, to: usize, table: &mut Vec<u32>)
+    requires counts { list_all is_natural counts.now ≡ true }
+    requires order { from ≤ to }
+    requires places { to ≤ length counts.now }
+    requires most { length counts.now ≤ MOST_PLACES }
+    requires room { sum (map place_number counts.now) + SPARE ≤ vec_capacity table.old }
+    requires before { table.old.items ≡ repeated_indexes (take from (map place_number counts.now)) }
+    ensures items { table.new.items ≡ repeated_indexes (take to (map place_number counts.now)) }
+    ensures capacity { vec_capacity table.new ≡ vec_capacity table.old }
+{
+    for i in from..to {
+        append_times(table, i as u32, counts[i] as usize);
+    }
 }
 
 /// Each index as often as its count says, which is so often in all.
@@ -101,13 +157,15 @@ fn listed_indexes(alloc: Global, counts: &[i64], all: usize) -> Result<Vec<u32>,
     ensures { IfOk result (λ table. table.items ≡ repeated_indexes (map place_number counts.now)) }
 {
     let mut table = Vec::with_capacity(alloc, all + SPARE)?;
-    for (i, count) in counts.iter().enumerate() {
-        append_times(&mut table, i as u32, *count as usize, SPARE);
+    let turns = counts.len() / TURN;
+    for turn in 0..turns {
+        list_up_to(counts, turn * TURN, turn * TURN + TURN, &mut table);
     }
+    list_up_to(counts, turns * TURN, counts.len(), &mut table);
     Ok(table)
 }
 
-/// Each index of axis `k` as often as its count says. Counts that are all 0 or 1 are listed while they are judged.
+/// Each index of axis `k` as often as its count says. Counts that are all 0 or 1 are listed by a loop of their own.
 fn replicate_each<W: Crew>(
     workers: &W,
     b: &Array,
@@ -202,6 +260,27 @@ fn entry_at(bit: i64, ones: u32) -> u32
     if bit == 1 { ones } else { ABSENT }
 }
 
+/// Puts the entries at the bits from `from` up to before `to` into a list. `before` ones are before them. It answers how many ones are
+/// before `to`.
+#[inline(always)]
+fn expand_up_to(bits: &[i64], from: usize, to: usize, before: u32, entries: &mut [u32]) -> u32
+    requires bits { list_all is_bit bits.now ≡ true }
+    requires order { from ≤ to }
+    requires places { to ≤ length bits.now }
+    requires most { length bits.now ≤ MOST_PLACES }
+    requires room { length entries.old ≡ length bits.now }
+    requires before { AreEntriesUpTo bits.now from entries.old before }
+    ensures entries { AreEntriesUpTo bits.now to entries.new result }
+    ensures len { length entries.new ≡ length entries.old }
+{
+    let mut ones = before;
+    for i in from..to {
+        entries[i] = entry_at(bits[i], ones);
+        ones += bits[i] as u32;
+    }
+    ones
+}
+
 /// How many ones are before each one, and `ABSENT` at each zero, and how many there are, where each number is 0 or 1.
 fn expanded_entries(alloc: Global, bits: &[i64]) -> Result<Option<(Vec<u32>, usize)>, AllocError>
     requires most { length bits.now ≤ MOST_PLACES }
@@ -209,16 +288,18 @@ fn expanded_entries(alloc: Global, bits: &[i64]) -> Result<Option<(Vec<u32>, usi
         (list_all is_bit bits.now ≡ false)
         (λ made. (list_all is_bit bits.now ≡ true) × AreEntriesOf bits.now made.0.items made.1)) }
 {
-    let mut entries = Vec::with_capacity(alloc, bits.len())?;
-    let mut ones = 0;
-    for bit in bits {
-        if !is_bit(*bit) {
-            return Ok(None);
-        }
-        entries.push_reserved(entry_at(*bit, ones));
-        ones += *bit as u32;
+    if !are_bits(bits) {
+        return Ok(None);
     }
-    Ok(Some((entries, ones as usize)))
+    let mut list = vec![in alloc; 0; bits.len()]?;
+    let entries = list.as_mut_slice();
+    let turns = bits.len() / TURN;
+    let mut ones = 0;
+    for turn in 0..turns {
+        ones = expand_up_to(bits, turn * TURN, turn * TURN + TURN, ones, entries);
+    }
+    ones = expand_up_to(bits, turns * TURN, bits.len(), ones, entries);
+    Ok(Some((list, ones as usize)))
 }
 
 /// `A\B`, expand: the next index of an axis at each one of `A`, and a fill at each zero.

@@ -12,8 +12,9 @@ ghost use Rattle.apl_walk.specs.declared.maps.TheConstants.{MOST_MAPS};
 ghost use Rattle.apl_walk.specs.Maps.{map_extent, map_step, extent_of};
 ghost use Rattle.apl_walk.specs.Steps.{and_step};
 ghost use Rattle.apl_struct.specs.Selecting.{IsCheckedResult, IsSelection};
-ghost use Rattle.apl_struct.specs.Numbering.{place_or_zero, chosen_at, number_at, AreWithin, HaveValues, AreWrittenOver, IsReached, value_numbered, element_numbered, replacement_checks, value_step, IsReplacement};
+ghost use Rattle.apl_struct.specs.Numbering.{place_or_zero, chosen_at, number_at, AreWithin, HaveValues, AreWrittenOver, AreWrittenUpTo, IsReached, value_numbered, element_numbered, replacement_checks, value_step, IsReplacement};
 
+use crate::arguments::TURN;
 use crate::building::unchanged;
 use crate::indexing::selection;
 use crate::selecting::{NumberArray, selected_walk};
@@ -23,6 +24,71 @@ use apl_pool::{Crew, Cut, Gate, Pool, Stop, Workers, fill};
 use apl_walk::{AxisMap, ByLines, Cyclic, Map, element_or, start_at};
 use std::alloc::Global;
 use std::thread::Threads;
+
+/// A line of choices.
+#[derive(Clone, Copy)]
+struct Line {
+    /// The place where the line begins.
+    base: usize,
+    /// The number of the first choice.
+    from: usize,
+    /// How far apart the values of neighbouring choices are.
+    step: usize,
+    ghost near: { step ≤ 1 },
+}
+
+/// Writes the values of the choices of a line from `first` up to before `end`, each at its place.
+#[inline(always)]
+fn write_up_to<T: Copy, M: AxisMap>(
+    last: M,
+    line: Line,
+    first: usize,
+    end: usize,
+    values: &[T],
+    fill: T,
+    room: &mut [T],
+)
+    requires order { first ≤ end }
+    requires end { end ≤ M.extent last }
+    requires most { line.from + M.extent last ≤ MOST_PLACES }
+    requires within { (i : ℕ) → i < M.extent last → IsReached (length room.old) (and_step (M.step last i) (Some line.base)) }
+    ensures values { AreWrittenUpTo (λ i. place_or_zero (and_step (M.step last i) (Some line.base))) (M.extent last) line.from first end line.step values.now fill room.old room.new }
+    ensures len { length room.new ≡ length room.old }
+{
+    for i in first..end {
+        match last.step(i) {
+            Some(taken) => {
+                let value = element_or(values, (line.from + i) * line.step, fill);
+                room[taken + line.base] = value;
+            }
+            None => unreachable!(),
+        }
+    }
+}
+
+/// Writes the values of the choices of a line, each at its place. The map of its axis is known by its type.
+#[inline(always)]
+fn write_along<T: Copy, M: AxisMap>(last: M, line: Line, values: &[T], fill: T, room: &mut [T])
+    requires most { line.from + M.extent last ≤ MOST_PLACES }
+    requires within { (i : ℕ) → i < M.extent last → IsReached (length room.old) (and_step (M.step last i) (Some line.base)) }
+    ensures values { AreWrittenOver (λ i. place_or_zero (and_step (M.step last i) (Some line.base))) (M.extent last) line.from line.step values.now fill room.old room.new }
+    ensures len { length room.new ≡ length room.old }
+{
+    let extent = last.extent();
+    let turns = extent / TURN;
+    for turn in 0..turns {
+        write_up_to(
+            last,
+            line,
+            turn * TURN,
+            turn * TURN + TURN,
+            values,
+            fill,
+            room,
+        );
+    }
+    write_up_to(last, line, turns * TURN, extent, values, fill, room);
+}
 
 /// Writes the values of the choices of a line, from the choice `from` on, each at its place. The line begins at the place `base`, and
 /// the values of neighbouring choices are `step` apart.
@@ -41,11 +107,11 @@ fn write_line<T: Copy>(
     ensures values { AreWrittenOver (λ i. place_or_zero (and_step (map_step last.entry i) (Some base))) (map_extent last.entry) from step values.now fill room.old room.new }
     ensures len { length room.new ≡ length room.old }
 {
-    for i in 0..last.extent() {
-        match last.step(i) {
-            Some(taken) => room[taken + base] = element_or(values, (from + i) * step, fill),
-            None => unreachable!(),
-        }
+    let line = Line { base, from, step };
+    match last {
+        Map::Listed(last) => write_along(last, line, values, fill, room),
+        Map::Window(last) => write_along(last, line, values, fill, room),
+        last => write_along(last, line, values, fill, room),
     }
 }
 

@@ -1,11 +1,11 @@
-use Rattle.std.proofs.Common.{◌≡◌, ◌+◌, ◌≤◌, map, take, vec_capacity}
+use Rattle.std.proofs.Common.{◌≡◌, ◌+◌, ◌*◌, ◌≤◌, map, take, vec_capacity}
 use Rattle.apl_array.specs.Axes.{place_number}
 use Rattle.apl_struct.specs.Compressing.{repeated_indexes}
 use Rattle.apl_struct.specs.declared.compressing.TheConstants.{SPARE}
 use Rattle.apl_struct.proofs.compressing.listed_indexes.Given as goal
 
-abbrev pub invariant-loop-i : goal.invariant-loop-i
-invariant-loop-i l = record {
-  kept : l.table.items ≡ repeated_indexes (take l.i (map place_number l.counts));
+abbrev pub invariant-loop-turn : goal.invariant-loop-turn
+invariant-loop-turn l = record {
+  kept : l.table.items ≡ repeated_indexes (take (l.turn * 4) (map place_number l.counts));
   room : l.all + SPARE ≤ vec_capacity l.table;
 }

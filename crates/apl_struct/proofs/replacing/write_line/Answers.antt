@@ -1,35 +1,15 @@
-use Rattle.std.proofs.Common.{◌≡◌, suc, ◌+◌, ◌<◌, length, sym, rules, ap, ◌∙◌, arith}
+use Rattle.std.proofs.Common.{ℕ, ◌<◌, length, subst}
 use Rattle.std.specs.Prelude.{Some}
+use Rattle.apl_walk.specs.declared.maps.Map.{Map}
 use Rattle.apl_walk.specs.Steps.{and_step}
 use Rattle.apl_walk.specs.Maps.{map_extent, map_step}
-use Rattle.apl_struct.specs.Numbering.{place_or_zero, last_number, value_numbered}
-use Rattle.apl_struct.proofs.Replacement.{value_more}
+use Rattle.apl_struct.specs.Numbering.{IsReached}
 use Rattle.apl_struct.proofs.replacing.write_line.Goals as goal
 
-pub loop-i-preserved : goal.loop-i-preserved
-loop-i-preserved g c = record {
-  values = λ choice elements steps before p inside.
-      let i = c.loop-i.i in
-      let n = c.args.from + i in
-      let base = c.args.base in
-      let room = c.loop-i.room in
-      let values = c.args.values.now in
-      let fill = c.args.fill in
-      let len : length room ≡ length c.args.room.now = c.loop-i.invariant.len in
-      let here : i < map_extent c.args.last = omega arith in
-      let step : map_step c.args.last i ≡ Some c.in-Some.taken = sym c.step.ensures.value ∙ c.in-Some.is in
-      let place : c.in-Some.taken + base ≡ choice n = ap (λ s. place_or_zero (and_step s (Some base))) (sym step) ∙ steps i here in
-      let within = rw step at (c.requires.within i here) in
-      let below : c.in-Some.taken + base < length room = omega (arith, within, len) in
-      let next : suc n ≡ c.args.from + (i + 1) = omega arith in
-      value_more elements values room fill c.element_or.result choice c.args.step n (c.in-Some.taken + base) below place c.element_or.ensures
-      (λ q low. c.loop-i.invariant.values choice elements steps before q (omega (arith, low, len))) p (omega (arith, inside, len))
-      ∙ ap (λ m. value_numbered elements values fill (last_number choice c.args.step p m) p) next;
-  len = search rules;
-}
+pub write_along-requires-clause-within : goal.write_along-requires-clause-within
+write_along-requires-clause-within g c =
+    subst (λ (m : Map). (i : ℕ) → i < map_extent m → IsReached (length c.args.room.now) (and_step (map_step m i) (Some c.args.base))) c.in-Listed.is c.requires.within
 
-pub returns-clause-values : goal.returns-clause-values
-returns-clause-values g c = λ choice elements steps before p inside.
-    let all : c.args.from + c.loop-i.i ≡ c.args.from + map_extent c.args.last = omega arith in
-    c.loop-i.invariant.values choice elements steps before p inside
-    ∙ ap (λ m. value_numbered elements c.args.values.now c.args.fill (last_number choice c.args.step p m) p) all
+pub write_along-requires-in-Window-clause-within : goal.write_along-requires-in-Window-clause-within
+write_along-requires-in-Window-clause-within g c =
+    subst (λ (m : Map). (i : ℕ) → i < map_extent m → IsReached (length c.args.room.now) (and_step (map_step m i) (Some c.args.base))) c.in-Window.is c.requires.within
