@@ -34,5 +34,6 @@ pub mod Distances
 pub mod Adding
 pub mod NearFolds
 pub mod BitFolds
+pub mod ExtremeFolds
 pub mod Reordered
 pub mod Examples

@@ -9,8 +9,8 @@ ghost use Rattle.apl_reduce.specs.Items.{item_in};
 
 use crate::folding::{element_at, fold_step};
 use crate::line_folds::Foldable;
-use crate::run_folds::has_quick_runs;
 use apl_answer::ElementType;
+use apl_array::ScalarFunction;
 use apl_pool::Fault;
 use apl_scalar::dyadic_elements;
 use apl_scalar::function_types::Function;
@@ -79,8 +79,22 @@ pub(crate) fn fold_last_rows<F: Function, T: ElementType>(
     true
 }
 
-/// Folds the numbers of one more row on the left into the totals, by `+ - ∧ ∨`. It says whether all results are sure. The loop has no
-/// branches, and a processor does several places at once.
+/// Whether the likely results of the function have no branches, and few of them are in doubt. Those of `×` are in doubt past 32 bits.
+#[inline(always)]
+fn has_likely_rows<F: Function>() -> bool {
+    !matches!(
+        F::FUNCTION,
+        ScalarFunction::Times
+            | ScalarFunction::Divide
+            | ScalarFunction::Stile
+            | ScalarFunction::Star
+            | ScalarFunction::Bang
+            | ScalarFunction::Tilde
+    )
+}
+
+/// Folds the numbers of one more row on the left into the totals. It says whether all results are sure. If likely results have no
+/// branches, the loop has none, and a processor does several places at once.
 #[inline(always)]
 fn fold_likely<F: Function>(row: &[i64], totals: &mut [i64]) -> bool
     requires { length totals.old ≤ length row.now }
@@ -120,7 +134,7 @@ fn fold_row<F: Function, T: Foldable>(row: &[T], totals: &mut [i64]) -> bool
     ensures len { length totals.new ≡ length totals.old }
 {
     match T::numbers(row) {
-        Some(numbers) if has_quick_runs::<F>() => fold_likely::<F>(numbers, totals),
+        Some(numbers) if has_likely_rows::<F>() => fold_likely::<F>(numbers, totals),
         _ => fold_each::<F, T>(row, totals),
     }
 }

@@ -18,6 +18,7 @@ mod digit_laws;
 mod dyadic;
 mod encoding;
 mod exact_folds;
+mod extreme_folds;
 mod folded_rows;
 mod folding;
 mod inner_products;

@@ -1,4 +1,4 @@
-//! Right folds of neighbouring numbers by `+ - ∧ ∨`, run by run from the last one.
+//! Right folds of neighbouring numbers by `+ - ⌈ ⌊ ∧ ∨`, run by run from the last one.
 ghost use Rattle.std.specs.Prelude.{◌≡◌, ◌+◌, ◌*◌, ◌<◌, ◌≤◌, IfSome, Ok, length, map};
 ghost use Rattle.apl_array.specs.declared.array.Elem.TheVariants.{Int};
 ghost use Rattle.apl_pool.specs.declared.kernel.TheConstants.{MOST_PLACES};
@@ -7,6 +7,7 @@ ghost use Rattle.apl_reduce.specs.Folded.{folded_onto};
 ghost use Rattle.apl_reduce.specs.Items.{item_in};
 
 use crate::bit_folds::bit_fold;
+use crate::extreme_folds::extreme_fold;
 use crate::folding::fold_items;
 use crate::near_sums::{MOST_PAIRS, pair_sums};
 use apl_array::{ScalarFunction, range_is_decided};
@@ -15,12 +16,6 @@ use apl_scalar::function_types::Function;
 
 /// Totals are near 0 if they are less than this far from it.
 const NEAR_TOTAL: u64 = 1 << 62;
-
-/// Whether folds by the function are sums and differences of the items.
-#[inline(always)]
-fn adds<F: Function>() -> bool {
-    matches!(F::FUNCTION, ScalarFunction::Plus | ScalarFunction::Minus)
-}
 
 /// The fold of pairs of neighbours onto a total, if all numbers and the total are so near 0 that no step leaves the range. A pair's second
 /// number is turned by `-`, and the total that comes in to it twice.
@@ -45,7 +40,15 @@ fn near_fold<F: Function>(numbers: &[i64], first: usize, pairs: usize, total: i6
 /// Whether folds by the function are made of several numbers at once, without a branch at each.
 #[inline(always)]
 pub(crate) fn has_quick_runs<F: Function>() -> bool {
-    adds::<F>() || matches!(F::FUNCTION, ScalarFunction::And | ScalarFunction::Or)
+    matches!(
+        F::FUNCTION,
+        ScalarFunction::Plus
+            | ScalarFunction::Minus
+            | ScalarFunction::Ceiling
+            | ScalarFunction::Floor
+            | ScalarFunction::And
+            | ScalarFunction::Or
+    )
 }
 
 /// The fold of pairs of neighbours onto a total at once, unless it is in doubt.
@@ -55,10 +58,14 @@ fn quick_fold<F: Function>(numbers: &[i64], first: usize, pairs: usize, total: i
     requires few { pairs ≤ MOST_PAIRS }
     ensures { IfSome result (λ z. folded_onto F.FUNCTION (item_in (map Int numbers.now)) first (2 * pairs) (Ok total) ≡ Ok z) }
 {
-    if adds::<F>() {
-        near_fold::<F>(numbers, first, pairs, total)
-    } else {
-        bit_fold::<F>(numbers, first, 2 * pairs, total)
+    match F::FUNCTION {
+        ScalarFunction::Plus | ScalarFunction::Minus => {
+            near_fold::<F>(numbers, first, pairs, total)
+        }
+        ScalarFunction::Ceiling | ScalarFunction::Floor => {
+            extreme_fold::<F>(numbers, first, 2 * pairs, total)
+        }
+        _ => bit_fold::<F>(numbers, first, 2 * pairs, total),
     }
 }
 
