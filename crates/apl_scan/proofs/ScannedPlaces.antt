@@ -1,16 +1,16 @@
 -- Places of lines of neighbours, and what stands before them.
-use Rattle.std.proofs.Common.{◌≡◌, ℕ, zero, suc, ℤ, pos, ◌+◌, ◌-◌, ◌*◌, ◌/◌, ◌%◌, ◌<◌, ◌≤◌, List, [], ◌∷◌, ◌++◌, length, take, drop, Option, Some, None, Result, Ok, slice_index_or, slice_set, ap, sym, ◌∙◌, arith, drop-cons, drop-drop, take-add, take-suc, take-take, get_or-drop, get_or-take, length-drop, length-set, refl, get_or-set_same, get_or-set_other, ⊎_elim, mul-le-mul_right}
+use Rattle.std.proofs.Common.{◌≡◌, ℕ, zero, suc, ℤ, pos, ◌+◌, ◌-◌, ◌*◌, ◌/◌, ◌%◌, ◌<◌, ◌≤◌, List, [], ◌∷◌, ◌++◌, length, take, drop, Option, Some, None, Result, Ok, slice_index_or, slice_set, ap, sym, subst, ◌∙◌, arith, drop-cons, drop-drop, take-add, take-suc, take-take, get_or-drop, get_or-take, length-drop, length-set, refl, get_or-set_same, get_or-set_other, ⊎_elim, mul-le-mul_right}
 use Rattle.std.specs.Prelude.{IfSome, MatchOption}
 use Rattle.std.proofs.lemmas.Bool.{cases_lt}
-use Rattle.std.proofs.Math.Seq.{take-length}
-use Rattle.std.proofs.Math.Nat.{mod-lt, zero-mod, div-one, div-add-mod', div-eq_of_lt-le}
+use Rattle.std.proofs.lemmas.List.{length-append, get_or_append_left, get_or-append_right}
+use Rattle.std.proofs.Math.Nat.{mod-lt, mul-mod_left, div-one, div-add-mod', div-eq_of_lt-le}
 use Rattle.apl_pool.specs.declared.kernel.Fault.{Fault}
 use Rattle.apl_pool.specs.declared.kernel.TheConstants.{MOST_PLACES}
 use Rattle.apl_pool.specs.Pool.{AreValues}
 use Rattle.apl_pool.specs.Runs.{AreWritten}
 use Rattle.apl_pool.specs.Summaries.{and_then, fold_onto, IsSummaryOf}
 use Rattle.apl_scan.specs.declared.chunks.TheConstants.{CHUNK}
-use Rattle.apl_summary.specs.Running.{AreFoldsBehind, IsSummaryOrNone}
+use Rattle.apl_summary.specs.Running.{AreFoldsBehind, HasFoldsAppended, IsSummaryOrNone}
 use Rattle.apl_scan.specs.Lines.{folded, number_along, numbers_before, scan_at}
 use Rattle.apl_scan.specs.Running.{stretch, chunk_start, IsChunkBefore}
 
@@ -151,16 +151,32 @@ written_behind step numbers room items from count len line within most same are 
       ∙ are j d here;
 }
 
--- folds behind no number are those of the places of one line
-pub line_of_folds : (step : ℤ → ℤ → Result ℤ Fault) (numbers room : List ℤ) → length room ≡ length numbers → 0 < length numbers → AreFoldsBehind step [] numbers (length numbers) room
-    → AreValues (scan_at step numbers (length numbers) 1) (length numbers) room
-line_of_folds step numbers room same some are =
-    let count = length numbers in
-    let none : 0 % count ≡ 0 = zero-mod count in
-    let before : stretch numbers (0 - 0 % count) (0 % count) ≡ [] = rw none refl in
-    let all : take count (drop 0 numbers) ≡ numbers = take-length numbers in
-    let written = written_behind step numbers room count 0 count count (omega (arith, none)) (omega arith) (omega arith) same (rw (before, all) are) in
-    record { len = same; each = λ place d inside. let here : 0 + place ≡ place = omega arith in ap (scan_at step numbers count 1) (sym here) ∙ written.each place d (omega (arith, inside)) }
+-- a line lies within the numbers
+pub line_within : (count items line : ℕ) → line < count / items → line * items + items ≤ count
+line_within count items line inside = omega (arith, div-add-mod' count items, mul-le-mul_right items inside)
+
+-- the folds of one line more
+pub line_appended : (step : ℤ → ℤ → Result ℤ Fault) (numbers old new : List ℤ) (items line first : ℕ) → 0 < items → first ≡ line * items → first + items ≤ length numbers
+    → HasFoldsAppended step (take items (drop first numbers)) old new → length new ≡ first + items
+    → AreValues (scan_at step numbers items 1) first old → AreValues (scan_at step numbers items 1) (first + items) new
+line_appended step numbers old new items line first some at within has all are =
+    let count : length has.folds ≡ items = omega (arith, all, are.len, ap length has.values ∙ length-append old has.folds) in
+    let none : first % items ≡ 0 = ap (λ p. p % items) at ∙ mul-mod_left line items in
+    let before : stretch numbers (first - first % items) (first % items) ≡ [] = rw none refl in
+    let folds = subst (λ n. AreFoldsBehind step [] (take items (drop first numbers)) n has.folds) count has.are in
+    let written = written_behind step numbers has.folds items first items items (omega (arith, none)) within (omega arith) count (rw before folds) in
+    record {
+      len = all;
+      each = λ place d inside.
+          ⊎_elim
+          (λ less. are.each place d less ∙ ap (λ (z : ℤ). Ok z) (sym (get_or_append_left old has.folds d place (omega (arith, less, are.len)))))
+          (λ more.
+          let here : first + (place - first) ≡ place = omega (arith, more) in
+          ap (scan_at step numbers items 1) (sym here) ∙ written.each (place - first) d (omega (arith, more, inside))
+          ∙ ap (λ (z : ℤ). Ok z) (sym (get_or-append_right old has.folds first place d are.len more)))
+          (cases_lt place first)
+          ∙ ap (λ l. Ok (slice_index_or l place d)) (sym has.values);
+    }
 
 -- ---- the chunks of all lines
 

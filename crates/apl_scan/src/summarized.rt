@@ -202,18 +202,23 @@ fn room_for<W: Crew>(workers: &W, count: usize) -> Result<Vec<i64>, AllocError>
     }
 }
 
-/// The folds of numbers up to each, in one pass from the left, if the summaries put all of them.
-fn put_line<S: Running, W: Crew>(
+/// The folds of numbers up to each place of lines of neighbours, line after line in one pass, if the summaries put all of them.
+fn put_lines<S: Running, W: Crew>(
     workers: &W,
     numbers: &[i64],
+    items: usize,
 ) -> Result<Option<Vec<i64>>, AllocError>
-    requires some { 0 < length numbers.now }
-    ensures { IfOk result (λ line. IfSome line (λ v. AreValues (scan_at S.step numbers.now (length numbers.now) 1) (length numbers.now) v.items)) }
+    requires items { 0 < items }
+    requires lines { length numbers.now / items * items ≡ length numbers.now }
+    ensures { IfOk result (λ lines. IfSome lines (λ v. AreValues (scan_at S.step numbers.now items 1) (length numbers.now) v.items)) }
 {
-    let room = room_for(workers, numbers.len())?;
-    let values = S::append_scan(numbers, room);
-    if values.len() < numbers.len() {
-        return Ok(None);
+    let mut values = room_for(workers, numbers.len())?;
+    for line in 0..numbers.len() / items {
+        let first = line * items;
+        values = S::append_scan(&numbers[first..first + items], values);
+        if values.len() < first + items {
+            return Ok(None);
+        }
     }
     Ok(Some(values))
 }
@@ -230,8 +235,8 @@ fn fill_summarized<S: Running + Copy + Drop + Send + Sync, W: Crew>(
     ensures values { IfOk result (λ v. AreValues (scan_at S.step numbers.now items 1) (length numbers.now) v.items) }
     ensures stop { IfErr result (IsStopOf (scan_at S.step numbers.now items 1) (length numbers.now)) }
 {
-    if items == numbers.len() && !workers.pool().is_shared(items) {
-        if let Some(values) = put_line::<S, W>(workers, numbers)? {
+    if !workers.pool().is_shared(numbers.len()) {
+        if let Some(values) = put_lines::<S, W>(workers, numbers, items)? {
             return Ok(values);
         }
     }

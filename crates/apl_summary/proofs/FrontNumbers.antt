@@ -1,10 +1,11 @@
 -- The numbers in front of others, and one more.
 use Rattle.std.proofs.Common.{◌≡◌, ℕ, suc, ℤ, pos, ◌+◌, ◌<◌, List, [], ◌∷◌, ◌++◌, length, take, Result, Ok, Err, slice_index_or, slice_set, refl, sym, ap, ◌∙◌, ⊎_elim, arith, take-suc, get_or-set_same, get_or-set_other}
 use Rattle.std.proofs.lemmas.Bool.{cases_lt}
-use Rattle.std.proofs.lemmas.List.{get_or_append_left, get_or_push}
+use Rattle.std.proofs.lemmas.List.{append-nil, length-append, length_push, get_or_append_left, get_or_push}
 use Rattle.apl_pool.specs.declared.kernel.Fault.{Fault}
 use Rattle.apl_pool.specs.Summaries.{and_then, fold_onto}
-use Rattle.apl_summary.specs.Running.{AreFoldsBehind}
+use Rattle.apl_summary.specs.Fronts.{HasMoreAppended}
+use Rattle.apl_summary.specs.Running.{AreFoldsBehind, HasFoldsAppended}
 
 fold_append : (step : ℤ → ℤ → Result ℤ Fault) (left right : List ℤ) (r : ℤ) → fold_onto step (left ++ right) r ≡ and_then (fold_onto step right r) (fold_onto step left)
 fold_append step [] right r = sym (kept (fold_onto step right r))
@@ -44,14 +45,29 @@ one_more_put step before numbers room k value here is are = λ j d inside.
     ∙ ap (λ (z : ℤ). Ok z) (sym (get_or-set_same room k value d here) ∙ ap (λ n. slice_index_or (slice_set room k value) n d) (sym same)))
     (cases_lt j k)
 
-pub one_more_appended : (step : ℤ → ℤ → Result ℤ Fault) (before numbers values : List ℤ) (k : ℕ) (value : ℤ) → length values ≡ k
-    → fold_onto step (before ++ take k numbers) (slice_index_or numbers k (pos 0)) ≡ Ok value
-    → AreFoldsBehind step before numbers k values → AreFoldsBehind step before numbers (k + 1) (values ++ value ∷ [])
-one_more_appended step before numbers values k value len is are = λ j d inside.
-    ⊎_elim
-    (λ less. are j d less ∙ ap (λ (z : ℤ). Ok z) (sym (get_or_append_left values (value ∷ []) d j (omega (arith, less, len)))))
-    (λ last.
-    let same : j ≡ k = omega (arith, inside, last) in
-    ap (λ n. fold_onto step (before ++ take n numbers) (slice_index_or numbers n (pos 0))) same ∙ is
-    ∙ ap (λ (z : ℤ). Ok z) (sym (get_or_push values value d j (len ∙ sym same))))
-    (cases_lt j k)
+pub none_appended : (step : ℤ → ℤ → Result ℤ Fault) (numbers values : List ℤ) → HasFoldsAppended step numbers values values
+none_appended step numbers values = record {
+  folds = [];
+  values = sym (append-nil values);
+  are = λ k d inside. absurd (omega (arith, inside));
+}
+
+pub one_more_appended : (step : ℤ → ℤ → Result ℤ Fault) (numbers old values : List ℤ) (from offset : ℕ) (value : ℤ) → length values ≡ length old + offset
+    → fold_onto step (take (from + offset) numbers) (slice_index_or numbers (from + offset) (pos 0)) ≡ Ok value
+    → HasMoreAppended step numbers from old values → HasMoreAppended step numbers from old (values ++ value ∷ [])
+one_more_appended step numbers old values from offset value len is more = λ before there had.
+    let has = more before there had in
+    let k = from + offset in
+    let count : length has.folds ≡ k = omega (arith, len, there, ap length has.values ∙ length-append before has.folds) in
+    record {
+      folds = has.folds ++ value ∷ [];
+      values = ap (λ l. l ++ value ∷ []) has.values ∙ nested before has.folds (value ∷ []);
+      are = λ j d inside.
+          ⊎_elim
+          (λ less. has.are j d less ∙ ap (λ (z : ℤ). Ok z) (sym (get_or_append_left has.folds (value ∷ []) d j less)))
+          (λ last.
+          let same : j ≡ k = omega (arith, inside, last, count, length_push has.folds value) in
+          ap (λ n. fold_onto step (take n numbers) (slice_index_or numbers n (pos 0))) same ∙ is
+          ∙ ap (λ (z : ℤ). Ok z) (sym (get_or_push has.folds value d j (count ∙ sym same))))
+          (cases_lt j (length has.folds));
+    }

@@ -1,5 +1,5 @@
 -- What is known of the numbers before others. No contract of a public function cites this file.
-use Rattle.std.specs.Prelude.{◌≡◌, ℕ, ◌+◌, ◌-◌, ◌*◌, ◌≤◌, Bool, true, false, ◌&&◌, ℤ, pos, negsuc, neg_ℤ, ◌+ℤ◌, ◌-ℤ◌, ◌*ℤ◌, ◌≤ℤ◌, int_le, unsigned_abs, List, [], ◌∷◌, ◌++◌, take, Result, Ok, Err, if◌then◌else◌}
+use Rattle.std.specs.Prelude.{◌≡◌, ℕ, ◌+◌, ◌-◌, ◌*◌, ◌≤◌, Bool, true, false, ◌&&◌, ℤ, pos, negsuc, neg_ℤ, ◌+ℤ◌, ◌-ℤ◌, ◌*ℤ◌, ◌≤ℤ◌, int_le, unsigned_abs, List, [], ◌∷◌, ◌++◌, length, take, Result, Ok, Err, if◌then◌else◌}
 use Rattle.apl_array.specs.declared.function.ScalarFunction.{ScalarFunction}
 use Rattle.apl_array.specs.declared.function.ScalarFunction.TheVariants.{Times}
 use Rattle.apl_array.specs.Range.{least_number, greatest_number}
@@ -12,7 +12,7 @@ use Rattle.apl_summary.specs.declared.constants.Bounds.{Bounds}
 use Rattle.apl_summary.specs.declared.constants.Constants.{Constants}
 use Rattle.apl_summary.specs.Constants.{bounds, of_both, signed_function}
 use Rattle.apl_summary.specs.Extremes.{extreme_function, extreme_of_two}
-use Rattle.apl_summary.specs.Running.{AreFoldsBehind}
+use Rattle.apl_summary.specs.Running.{AreFoldsBehind, HasFoldsAppended}
 
 -- ---- numbers before others
 
@@ -21,6 +21,10 @@ use Rattle.apl_summary.specs.Running.{AreFoldsBehind}
 abbrev pub AreMoreFolds : {S : Type 0} → (ℤ → ℤ → Result ℤ Fault) → (is_of : S → List ℤ → Type 0) → (front : S) → (numbers : List ℤ) → (from : ℕ) → (old : List ℤ) → (to : ℕ) → (values : List ℤ) → Type 0
 AreMoreFolds step is_of front numbers from old to values =
     (before : List ℤ) → is_of front (before ++ take from numbers) → AreFoldsBehind step before numbers from old → AreFoldsBehind step before numbers to values
+
+-- to whatever values the folds of all numbers up to each of the first `from` were appended, after the old ones more of them are appended
+abbrev pub HasMoreAppended : (ℤ → ℤ → Result ℤ Fault) → (numbers : List ℤ) → (from : ℕ) → (old new : List ℤ) → Type 0
+HasMoreAppended step numbers from old new = (before : List ℤ) → length before + from ≡ length old → HasFoldsAppended step numbers before old → HasFoldsAppended step numbers before new
 
 -- of whatever numbers the front is, with the first `from` of these after them, the next front is with the first `to`
 abbrev pub IsFrontBehind : {S : Type 0} → (is_of : S → List ℤ → Type 0) → (front : S) → (numbers : List ℤ) → (from to : ℕ) → (next : S) → Type 0

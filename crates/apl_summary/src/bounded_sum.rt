@@ -1,9 +1,9 @@
 //! Sums of all numbers up to each, or differences, while the numbers are so small together that none is refused.
-ghost use Rattle.std.specs.Prelude.{◌≡◌, ℕ, ℤ, pos, neg_ℤ, ◌-ℤ◌, ◌≤ℤ◌, ◌≤◌, [], nat_eq, IfSome, length, vec_len, vec_capacity};
+ghost use Rattle.std.specs.Prelude.{◌≡◌, ℕ, ℤ, pos, neg_ℤ, ◌-ℤ◌, ◌+◌, ◌≤ℤ◌, ◌≤◌, [], nat_eq, IfSome, length, vec_len, vec_capacity};
 ghost use Rattle.apl_pool.specs.Summaries.{IsI64};
 ghost use Rattle.apl_scalar.specs.Scalar.{dyadic_numbers};
 ghost use Rattle.apl_summary.specs.Constants.{signed_function};
-ghost use Rattle.apl_summary.specs.Running.{AreFoldsBehind};
+ghost use Rattle.apl_summary.specs.Running.{HasFoldsAppended};
 ghost use Rattle.apl_summary.specs.Fronts.{signed_total, IsBoundedSum, IsBoundOf, AreSumsAfter};
 
 use crate::range::{greater_of, lesser_of};
@@ -139,18 +139,19 @@ pub fn put_sums_behind<const MINUS: u8>(
     scan_run_after(front, numbers, room)
 }
 
-/// Puts the folds by `+` or `-` of all numbers up to each into a list that is empty and has room for them. It stops before the first that
-/// it can't tell.
+/// Appends the folds by `+` or `-` of all numbers up to each of these to a list that has room for them. It stops before the first that it
+/// can't tell.
 pub fn append_sums<const MINUS: u8>(numbers: &[i64], values: Vec<i64>) -> Vec<i64>
-    requires empty { vec_len values ≡ 0 }
-    requires room { length numbers.now ≤ vec_capacity values }
-    ensures most { vec_len result ≤ length numbers.now }
-    ensures folds { AreFoldsBehind (dyadic_numbers (signed_function (nat_eq MINUS 0))) [] numbers.now (vec_len result) result.items }
+    requires room { vec_len values + length numbers.now ≤ vec_capacity values }
+    ensures most { vec_len result ≤ vec_len values + length numbers.now }
+    ensures folds { HasFoldsAppended (dyadic_numbers (signed_function (nat_eq MINUS 0))) numbers.now values.items result.items }
+    ensures capacity { vec_capacity result ≡ vec_capacity values }
 {
+    let start = values.len();
     let mut values = append_scan_after(BoundedSum::<MINUS>::none(), numbers, values);
-    if values.len() == numbers.len() {
+    if values.len() == start + numbers.len() {
         return values;
     }
-    values.clear();
+    values.truncate(start);
     append_scan_after(RunningSum::<MINUS>::none(), numbers, values)
 }

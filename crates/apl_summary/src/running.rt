@@ -2,8 +2,8 @@
 ghost use Rattle.std.specs.Prelude.{◌≡◌, ◌≤◌, ◌+◌, ℕ, ℤ, List, [], ◌∷◌, ◌++◌, Result, Ok, IfOk, IfErr, IfSome, length, take, vec_len, vec_capacity};
 ghost use Rattle.apl_pool.specs.declared.kernel.Fault.{Fault};
 ghost use Rattle.apl_pool.specs.Summaries.{fold_onto};
-ghost use Rattle.apl_summary.specs.Running.{AreFoldsBehind, AreFoldsAfter};
-ghost use Rattle.apl_summary.specs.Fronts.{AreMoreFolds, IsFrontBehind};
+ghost use Rattle.apl_summary.specs.Running.{AreFoldsBehind, AreFoldsAfter, HasFoldsAppended};
+ghost use Rattle.apl_summary.specs.Fronts.{AreMoreFolds, HasMoreAppended, IsFrontBehind};
 
 use apl_pool::{Fault, Summary};
 
@@ -21,13 +21,13 @@ pub trait Running: Summary<Item = i64> {
         0
     }
 
-    /// Puts the folds of all numbers up to each into a list that is empty and has room for them. It puts the first of them, all or fewer,
+    /// Appends the folds of all numbers up to each of these to a list that has room for them. It appends the first of them, all or fewer,
     /// and takes no memory.
     fn append_scan(_numbers: &[i64], values: Vec<i64>) -> Vec<i64>
-        requires empty { vec_len values ≡ 0 }
-        requires room { length _numbers.now ≤ vec_capacity values }
-        ensures most { vec_len result ≤ length _numbers.now }
-        ensures folds { AreFoldsBehind Self.Summary.step [] _numbers.now (vec_len result) result.items }
+        requires room { vec_len values + length _numbers.now ≤ vec_capacity values }
+        ensures most { vec_len result ≤ vec_len values + length _numbers.now }
+        ensures folds { HasFoldsAppended Self.Summary.step _numbers.now values.items result.items }
+        ensures capacity { vec_capacity result ≡ vec_capacity values }
     {
         values
     }
@@ -104,26 +104,25 @@ pub fn scan_run_after<F: PrefixState + Drop>(front: F, numbers: &[i64], room: &m
     }
 }
 
-/// Appends the folds of all numbers up to each of the next `count`. It answers the front of all of these, or none if it stopped before the
-/// first that the front can't tell.
+/// Appends the folds of all numbers up to each of `count` from a place on. The front is of the numbers before that place. It answers the
+/// front of all of these, or none if it stopped before the first that the front can't tell.
 #[inline(always)]
 fn append_some<F: PrefixState + Drop>(
     front: F,
     numbers: &[i64],
     values: &mut Vec<i64>,
+    from: usize,
     count: usize,
 ) -> Option<F>
-    requires places { vec_len values.old + count ≤ length numbers.now }
+    requires places { from + count ≤ length numbers.now }
     requires room { vec_len values.old + count ≤ vec_capacity values.old }
-    requires front { F.is_of front (take (vec_len values.old) numbers.now) }
-    requires folds { AreFoldsBehind F.step [] numbers.now (vec_len values.old) values.old.items }
+    requires front { F.is_of front (take from numbers.now) }
     ensures all { IfSome result (λ next. vec_len values.new ≡ vec_len values.old + count) }
     ensures most { vec_len values.new ≤ vec_len values.old + count }
-    ensures front { IfSome result (λ next. F.is_of next (take (vec_len values.new) numbers.now)) }
-    ensures folds { AreFoldsBehind F.step [] numbers.now (vec_len values.new) values.new.items }
+    ensures front { IfSome result (λ next. F.is_of next (take (from + count) numbers.now)) }
+    ensures folds { HasMoreAppended F.step numbers.now from values.old.items values.new.items }
     ensures capacity { vec_capacity values.new ≡ vec_capacity values.old }
 {
-    let from = values.len();
     let mut state = front;
     for offset in 0..count {
         let (value, next) = state.with(numbers[from + offset])?;
@@ -133,8 +132,8 @@ fn append_some<F: PrefixState + Drop>(
     Some(state)
 }
 
-/// Puts the folds of all numbers up to each into a list that is empty and has room for them. The front is of no
-/// number. It stops before the first that this can't tell.
+/// Appends the folds of all numbers up to each of these to a list that has room for them. The front is of no number. It stops before the
+/// first that this can't tell.
 #[inline(always)]
 pub fn append_scan_after<F: PrefixState + Drop>(
     front: F,
@@ -142,20 +141,20 @@ pub fn append_scan_after<F: PrefixState + Drop>(
     values: Vec<i64>,
 ) -> Vec<i64>
     requires none { F.is_of front [] }
-    requires empty { vec_len values ≡ 0 }
-    requires room { length numbers.now ≤ vec_capacity values }
-    ensures most { vec_len result ≤ length numbers.now }
-    ensures folds { AreFoldsBehind F.step [] numbers.now (vec_len result) result.items }
+    requires room { vec_len values + length numbers.now ≤ vec_capacity values }
+    ensures most { vec_len result ≤ vec_len values + length numbers.now }
+    ensures folds { HasFoldsAppended F.step numbers.now values.items result.items }
     ensures capacity { vec_capacity result ≡ vec_capacity values }
 {
     let mut front = front;
     let mut values = values;
-    for _turn in 0..numbers.len() / TURN {
-        match append_some(front, numbers, &mut values, TURN) {
+    for turn in 0..numbers.len() / TURN {
+        match append_some(front, numbers, &mut values, turn * TURN, TURN) {
             Some(next) => front = next,
             None => return values,
         }
     }
-    let _all = append_some(front, numbers, &mut values, numbers.len() % TURN);
+    let rest = numbers.len() % TURN;
+    let _all = append_some(front, numbers, &mut values, numbers.len() - rest, rest);
     values
 }
