@@ -12,5 +12,6 @@ pub mod FourExtremes
 pub mod ConsecutiveLists
 pub mod RunningSums
 pub mod FrontNumbers
+pub mod ColumnFolds
 pub mod Fronts
 pub mod BitRuns

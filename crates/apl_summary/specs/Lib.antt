@@ -10,3 +10,4 @@ pub mod RowFolds
 pub mod ConsecutiveSums
 pub mod Running
 pub mod Fronts
+pub mod Columns

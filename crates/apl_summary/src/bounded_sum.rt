@@ -65,7 +65,7 @@ fn total_with(is_negated: bool, total: i64, number: i64) -> i64
 
 impl<const MINUS: u8> BoundedSum<MINUS> {
     /// The bounded sum of no number.
-    fn none() -> Self
+    pub fn none() -> Self
         ensures { IsBoundedSum (nat_eq MINUS 0) result.is_negated result.total result.slack [] }
     {
         BoundedSum {

@@ -4,8 +4,10 @@ ghost use Rattle.apl_pool.specs.Summaries.{IsI64};
 
 use crate::extremum::{Extremum, extremum_of_run};
 use crate::running::{Running, append_scan_after, scan_run_after};
+use crate::running_columns::append_columns_after;
 use crate::running_extreme::RunningExtreme;
 use apl_pool::{Fault, Kernel, Summary};
+use std::alloc::{AllocError, Global};
 
 /// The summary of numbers under `⌊` if `GREATEST` is 0, else under `⌈`: the least or the greatest of
 /// them. Nothing that comes in is refused.
@@ -67,5 +69,16 @@ impl<const GREATEST: u8> Running for Extreme<GREATEST> {
 
     fn append_scan(numbers: &[i64], values: Vec<i64>) -> Vec<i64> {
         append_scan_after(RunningExtreme::<GREATEST>::none(), numbers, values)
+    }
+
+    fn append_columns(
+        alloc: Global,
+        numbers: &[i64],
+        items: usize,
+        inner: usize,
+        values: Vec<i64>,
+    ) -> Result<Vec<i64>, AllocError> {
+        let front = RunningExtreme::<GREATEST>::none();
+        append_columns_after(front, alloc, numbers, items, inner, values)
     }
 }

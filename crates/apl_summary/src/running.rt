@@ -1,11 +1,13 @@
 //! Numbers after others, each folded with all before it.
-ghost use Rattle.std.specs.Prelude.{◌≡◌, ◌≤◌, ◌+◌, ℕ, ℤ, List, [], ◌∷◌, ◌++◌, Result, Ok, IfOk, IfErr, IfSome, length, take, vec_len, vec_capacity};
+ghost use Rattle.std.specs.Prelude.{◌≡◌, ◌<◌, ◌≤◌, ◌+◌, ℕ, ℤ, List, [], ◌∷◌, ◌++◌, Result, Ok, IfOk, IfErr, IfSome, length, take, vec_len, vec_capacity};
 ghost use Rattle.apl_pool.specs.declared.kernel.Fault.{Fault};
 ghost use Rattle.apl_pool.specs.Summaries.{fold_onto};
 ghost use Rattle.apl_summary.specs.Running.{AreFoldsBehind, AreFoldsAfter, HasFoldsAppended};
 ghost use Rattle.apl_summary.specs.Fronts.{AreMoreFolds, HasMoreAppended, IsFrontBehind};
+ghost use Rattle.apl_summary.specs.Columns.{AreColumnFolds};
 
 use apl_pool::{Fault, Summary};
+use std::alloc::{AllocError, Global};
 
 /// A summary after which numbers are folded, each with all before it.
 pub trait Running: Summary<Item = i64> {
@@ -30,6 +32,26 @@ pub trait Running: Summary<Item = i64> {
         ensures capacity { vec_capacity result ≡ vec_capacity values }
     {
         values
+    }
+
+    /// Puts the folds of all numbers of its column up to each place into a list that is empty and has room for them. The numbers are in
+    /// blocks of `items` rows of `inner` numbers. It puts the first of them, all or fewer.
+    fn append_columns(
+        _alloc: Global,
+        _numbers: &[i64],
+        _items: usize,
+        _inner: usize,
+        values: Vec<i64>,
+    ) -> Result<Vec<i64>, AllocError>
+        requires items { 0 < _items }
+        requires inner { 0 < _inner }
+        requires empty { vec_len values ≡ 0 }
+        requires room { length _numbers.now ≤ vec_capacity values }
+        ensures most { IfOk result (λ v. vec_len v ≤ length _numbers.now) }
+        ensures folds { IfOk result (λ v. AreColumnFolds Self.Summary.step _numbers.now _items _inner (vec_len v) v.items) }
+        ensures capacity { IfOk result (λ v. vec_capacity v ≡ vec_capacity values) }
+    {
+        Ok(values)
     }
 }
 

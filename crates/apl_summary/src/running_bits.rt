@@ -10,13 +10,13 @@ use crate::answers::{Answers, number};
 use crate::running::PrefixState;
 use crate::two_valued::TwoValuedFunction;
 use apl_pool::Kernel;
+use std::alloc::AllocError;
 use std::marker::PhantomData;
 
 /// How many items are met in one turn of a loop.
 const TURN: usize = 4;
 
 /// What numbers answer for 0 and for 1. The answers are kept as numbers, since the compiler packs two of type `bool` into one at each step.
-#[derive(Drop)]
 pub struct RunningBits<P> {
     pub for_zero: i64,
     pub for_one: i64,
@@ -24,6 +24,14 @@ pub struct RunningBits<P> {
     ghost zero: { for_zero ≡ bit (is_one for_zero) },
     ghost one: { for_one ≡ bit (is_one for_one) },
 }
+
+impl<P> Clone for RunningBits<P> {
+    fn clone(&self) -> Result<Self, AllocError> {
+        Ok(*self)
+    }
+}
+
+impl<P> Copy for RunningBits<P> {}
 
 /// Whether a number is 1.
 #[inline(always)]

@@ -5,8 +5,10 @@ ghost use Rattle.apl_summary.specs.Coefficients.{AreCoefficients};
 use crate::bounded_product::BoundedProduct;
 use crate::coefficients::Coefficients;
 use crate::running::{Running, append_scan_after, scan_run_after};
+use crate::running_columns::append_columns_after;
 use crate::small_coefficients::small_coefficients;
 use apl_pool::{Fault, Kernel, Summary};
+use std::alloc::{AllocError, Global};
 
 /// The summary of numbers under `×`.
 ///
@@ -72,5 +74,15 @@ impl Running for Scaled {
 
     fn append_scan(numbers: &[i64], values: Vec<i64>) -> Vec<i64> {
         append_scan_after(BoundedProduct::none(), numbers, values)
+    }
+
+    fn append_columns(
+        alloc: Global,
+        numbers: &[i64],
+        items: usize,
+        inner: usize,
+        values: Vec<i64>,
+    ) -> Result<Vec<i64>, AllocError> {
+        append_columns_after(BoundedProduct::none(), alloc, numbers, items, inner, values)
     }
 }

@@ -2,12 +2,14 @@
 ghost use Rattle.std.specs.Prelude.{◌≡◌, ℕ, nat_eq};
 ghost use Rattle.apl_summary.specs.Constants.{AreConstants};
 
-use crate::bounded_sum::{append_sums, put_sums_behind};
+use crate::bounded_sum::{BoundedSum, append_sums, put_sums_behind};
 use crate::constants::Constants;
 use crate::running::Running;
+use crate::running_columns::append_columns_after;
 use crate::running_sum::RunningSum;
 use crate::small_constants::small_constants;
 use apl_pool::{Fault, Kernel, Summary};
+use std::alloc::{AllocError, Global};
 
 /// The summary of numbers under `+` if `MINUS` is 0, else under `-`.
 ///
@@ -73,5 +75,22 @@ impl<const MINUS: u8> Running for SignedSum<MINUS> {
 
     fn append_scan(numbers: &[i64], values: Vec<i64>) -> Vec<i64> {
         append_sums::<MINUS>(numbers, values)
+    }
+
+    fn append_columns(
+        alloc: Global,
+        numbers: &[i64],
+        items: usize,
+        inner: usize,
+        values: Vec<i64>,
+    ) -> Result<Vec<i64>, AllocError> {
+        let front = BoundedSum::<MINUS>::none();
+        let mut values = append_columns_after(front, alloc, numbers, items, inner, values)?;
+        if values.len() == numbers.len() {
+            return Ok(values);
+        }
+        values.clear();
+        let front = RunningSum::<MINUS>::none();
+        append_columns_after(front, alloc, numbers, items, inner, values)
     }
 }

@@ -5,10 +5,12 @@ ghost use Rattle.apl_summary.specs.Answers.{is_two_valued};
 use crate::answers::Answers;
 use crate::running::{Running, append_scan_after, scan_run_after};
 use crate::running_bits::{RunningBits, answers_of_run};
+use crate::running_columns::append_columns_after;
 use apl_pool::{Fault, Kernel, Summary};
 use apl_scalar::function_types::{
     And, Equal, Function, Greater, GreaterOrEqual, Less, LessOrEqual, Nand, Nor, NotEqual, Or,
 };
+use std::alloc::{AllocError, Global};
 use std::marker::PhantomData;
 
 /// A scalar function whose results are 0 and 1 alone.
@@ -122,5 +124,22 @@ impl<P: TwoValuedFunction + Drop> Running for TwoValued<P> {
 
     fn append_scan(numbers: &[i64], values: Vec<i64>) -> Vec<i64> {
         append_scan_after(RunningBits::<P>::none(), numbers, values)
+    }
+
+    fn append_columns(
+        alloc: Global,
+        numbers: &[i64],
+        items: usize,
+        inner: usize,
+        values: Vec<i64>,
+    ) -> Result<Vec<i64>, AllocError> {
+        append_columns_after(
+            RunningBits::<P>::none(),
+            alloc,
+            numbers,
+            items,
+            inner,
+            values,
+        )
     }
 }
