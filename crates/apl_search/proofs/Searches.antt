@@ -11,7 +11,7 @@ use Rattle.apl_array.specs.Array.{ArrayValue, IsArray, element_in, kind_of}
 use Rattle.apl_array.specs.Axes.{origin_number}
 use Rattle.apl_array.specs.Shape.{count_of, place_of, index_at}
 use Rattle.apl_search.specs.Searching.{is_same_element}
-use Rattle.apl_search.specs.Finding.{element_of, first_place, found_outcome, member_outcome}
+use Rattle.apl_search.specs.Finding.{first_place, found_outcome, member_outcome}
 use Rattle.apl_search.proofs.Grades.{false_of}
 
 both_more : (m n : ℕ) → nat_lt m n ≡ nat_lt (1 + m) (suc n)

@@ -1,4 +1,4 @@
-use Rattle.std.proofs.Common.{◌≡◌, ℤ, pos, map, get_or, to_z, of_z, w64, sym, ap, ◌∙◌, rules}
+use Rattle.std.proofs.Common.{◌≡◌, pos, map, get_or, to_z, of_z, w64, sym, ap, ◌∙◌, rules}
 use Rattle.std.proofs.lemmas.List.{get_or-map}
 use Rattle.apl_search.specs.Tables.{place_of}
 use Rattle.apl_search.proofs.replies.fn.write_replies.number.Goals as goal
