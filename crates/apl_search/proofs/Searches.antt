@@ -11,7 +11,7 @@ use Rattle.apl_array.specs.Array.{ArrayValue, IsArray, element_in, kind_of}
 use Rattle.apl_array.specs.Axes.{origin_number}
 use Rattle.apl_array.specs.Shape.{count_of, place_of, index_at}
 use Rattle.apl_search.specs.Searching.{is_same_element}
-use Rattle.apl_search.specs.Finding.{element_of, first_place, found_outcome, member_outcome}
+use Rattle.apl_search.specs.Finding.{first_place, found_outcome, member_outcome}
 use Rattle.apl_search.proofs.Grades.{false_of}
 
 both_more : (m n : ℕ) → nat_lt m n ≡ nat_lt (1 + m) (suc n)
@@ -54,8 +54,8 @@ module _ (a b : ArrayValue) (lawful_a : IsArray a) (lawful_b : IsArray b) (diffe
       let x = element_in b place in
       rw (same, any_is_found (λ y. is_same_element y x) a.ravel, nowhere a b lawful_a lawful_b differ place inside, below_itself (length a.ravel)) refl
 
--- the elements of a part of a list
-pub element_of_part : {T : Type 0} (elem_of : T → Elem) (xs : List T) (from to k : ℕ) → k < to - from → element_of (map elem_of (take (to - from) (drop from xs))) k ≡ element_of (map elem_of xs) (from + k)
-element_of_part elem_of xs from to k inside =
-    ap (λ ys. element_of ys k) (sym (take-map elem_of (to - from) (drop from xs)) ∙ ap (take (to - from)) (sym (drop-map elem_of from xs)))
-    ∙ get_or-take (to - from) (drop from (map elem_of xs)) k (Int (pos 0)) inside ∙ get_or-drop from (map elem_of xs) k (Int (pos 0))
+-- what is at a place of a part of a list
+pub part_at : {T U : Type 0} (f : T → U) (xs : List T) (from to k : ℕ) (d : U) → k < to - from → get_or (map f (take (to - from) (drop from xs))) k d ≡ get_or (map f xs) (from + k) d
+part_at f xs from to k d inside =
+    ap (λ ys. get_or ys k d) (sym (take-map f (to - from) (drop from xs)) ∙ ap (take (to - from)) (sym (drop-map f from xs)))
+    ∙ get_or-take (to - from) (drop from (map f xs)) k d inside ∙ get_or-drop from (map f xs) k d

@@ -8,7 +8,7 @@ ghost use Rattle.apl_search.specs.Sorting.{AreInOrder};
 ghost use Rattle.apl_search.specs.Tables.{place_of};
 
 use crate::replies::{Reply, write_replies};
-use crate::sorting::{Keyed, Placed, Upwards, in_order};
+use crate::sorting::{Keyed, Placed, in_order};
 use crate::table::Table;
 use apl_answer::ElementType;
 use std::alloc::{AllocError, Global};
@@ -65,7 +65,7 @@ impl Places {
         if let Some(table) = Table::new(alloc, elements, most)? {
             return Ok(Places::InTable(table));
         }
-        let placed = in_order::<Upwards, T>(alloc, elements)?;
+        let placed = in_order(alloc, elements)?;
         Ok(Places::InOrder(placed))
     }
 

@@ -10,6 +10,7 @@ mod finding;
 mod laws;
 mod ordering;
 mod replies;
+mod runs;
 mod searching;
 mod sorting;
 mod table;

@@ -1,5 +1,6 @@
-use Rattle.std.proofs.Common.{◌≡◌, ◌+◌, ◌-◌, ◌<◌, ◌≤◌, sym, arith, rules}
-use Rattle.apl_search.proofs.Searches.{element_of_part}
+use Rattle.std.proofs.Common.{◌≡◌, pos, ◌+◌, ◌-◌, ◌<◌, ◌≤◌, sym, arith, rules}
+use Rattle.apl_array.specs.declared.array.Elem.TheVariants.{Int}
+use Rattle.apl_search.proofs.Searches.{part_at}
 use Rattle.apl_search.proofs.searching.SearchedKernel.write_run.Goals as goal
 
 pub returns-clause-values : goal.returns-clause-values
@@ -15,6 +16,6 @@ returns-clause-values g c =
           let within : k < c.write_replies.result = omega (arith, inside) in
           let short : c.write_replies.result ≤ to - from = search rules in
           let first : 0 + k ≡ k = omega arith in
-          let part = element_of_part elem_of elements from to k (omega (arith, within, short)) in
+          let part = part_at elem_of elements from to k (Int (pos 0)) (omega (arith, within, short)) in
           rw (sym part) (rw first at (written.each k d (omega (arith, within))));
     }
