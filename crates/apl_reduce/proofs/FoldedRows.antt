@@ -7,9 +7,10 @@ use Rattle.apl_array.specs.declared.array.Elem.TheVariants.{Int}
 use Rattle.apl_array.specs.declared.function.ScalarFunction.{ScalarFunction}
 use Rattle.apl_pool.specs.Runs.{AreWritten}
 use Rattle.apl_scalar.specs.Scalar.{dyadic_of}
-use Rattle.apl_reduce.specs.Folded.{number_step, folded, element_along, AreFolds, fold_at}
+use Rattle.apl_reduce.specs.Folded.{folded, folded_onto, element_along, AreFolds, fold_at}
 use Rattle.apl_reduce.specs.Items.{item_in}
-use Rattle.apl_reduce.proofs.Folds.{one_more}
+use Rattle.apl_reduce.specs.RowFolds.{AreFoldedOnto}
+use Rattle.apl_reduce.proofs.Folds.{folded_by_runs, same_items}
 use Rattle.apl_reduce.proofs.OuterRows.{same_row}
 
 module _ {T : Type 0} (of : T → Elem) (f : ScalarFunction) (xs : List T) (first stride : ℕ) where
@@ -31,14 +32,20 @@ module _ {T : Type 0} (of : T → Elem) (f : ScalarFunction) (xs : List T) (firs
       ∙ ap (λ k. dyadic_of f (item_in (map of left) k) (item_in (map of right) k)) (sym (zero-add j))
       ∙ written.each j d (omega (arith, inside))
 
-  pub more_folds : (row : List T) (r next more done start : ℕ) (old new : List ℤ) → row ≡ drop start xs → next ≡ suc r → done ≡ suc more → start ≡ first + r * stride → length new ≡ length old
+  pub more_folds : (r next n more done start : ℕ) (old new : List ℤ) → next ≡ r + n → done ≡ n + more → start ≡ first + r * stride → length new ≡ length old
       → AreFolds f (map of xs) first stride next more old
-      → AreWritten (λ j. number_step f (item_in (map of row) j) (Ok (slice_index_or old j (pos 0)))) 0 (length old) new
+      → AreFoldedOnto f (map of xs) start stride n old new
       → AreFolds f (map of xs) first stride r done new
-  more_folds row r next more done start old new this after count is len before written j d inside =
+  more_folds r next n more done start old new after count is len before written j d inside =
       let there : j < length old = omega (arith, len, inside) in
-      sym (one_more f (element_along (map of xs) (first + j) stride) r next more done _ _ after count (item_of_row row r j start this is) (sym (before j (pos 0) there)))
-      ∙ ap (λ k. number_step f (item_in (map of row) k) (Ok (slice_index_or old k (pos 0)))) (sym (zero-add j))
+      let item = element_along (map of xs) (first + j) stride in
+      let total = slice_index_or old j (pos 0) in
+      let place : (i : ℕ) → first + j + (r + i) * stride ≡ start + j + (0 + i) * stride = λ i. omega (arith, is) in
+      ap (folded f item r) count ∙ folded_by_runs f item r n more
+      ∙ ap (λ k. folded_onto f item r n (folded f item k more)) (sym after)
+      ∙ ap (folded_onto f item r n) (before j (pos 0) there)
+      ∙ same_items f item (element_along (map of xs) (start + j) stride) r 0 n (Ok total) (λ i. ap (item_in (map of xs)) (place i))
+      ∙ ap (λ k. folded_onto f (element_along (map of xs) (start + k) stride) 0 n (Ok (slice_index_or old k (pos 0)))) (sym (zero-add j))
       ∙ written.each j d (omega (arith, there))
 
   -- all folded, these are the folds at the places of a row

@@ -18,14 +18,6 @@ one_step_less first n k stride place is from =
     let far : place ≡ first + (k + 1) * stride = from ∙ ap (λ m. first + m * stride) is in
     omega (arith, far)
 
--- one item more on the left of those behind k
-pub one_more : (f : ScalarFunction) (item : ℕ → Elem) (k next more done : ℕ) (x : Elem) (total : Result ℤ Fault) → next ≡ suc k → done ≡ suc more
-    → x ≡ item k → total ≡ folded f item next more → number_step f x total ≡ folded f item k done
-one_more f item k next more done x total after count is all =
-    ap (λ y. number_step f y total) is
-    ∙ ap (number_step f (item k)) (all ∙ ap (λ n. folded f item n more) after)
-    ∙ ap (folded f item k) (sym count)
-
 -- ---- folds onto what comes in
 
 module _ (f : ScalarFunction) where
@@ -88,6 +80,15 @@ module _ (f : ScalarFunction) where
   last_two_first item k (suc more) =
       let next : suc k + more ≡ k + suc more = omega arith in
       ap (number_step f (item k)) (last_two_first item (suc k) more ∙ ap (λ i. folded_onto f item (suc k) more (dyadic_of f (item i) (item (suc i)))) next)
+
+  -- a run of items, after the items on its right
+  pub folded_by_runs : (item : ℕ → Elem) (k n more : ℕ) → folded f item k (n + more) ≡ folded_onto f item k n (folded f item (k + n) more)
+  folded_by_runs item k n more =
+      let last : k + (n + more) ≡ k + n + more = omega arith in
+      let start = dyadic_of f (item (k + (n + more))) (item (suc (k + (n + more)))) in
+      last_two_first item k (n + more)
+      ∙ two_runs item k n more start
+      ∙ ap (folded_onto f item k n) (ap (λ i. folded_onto f item (k + n) more (dyadic_of f (item i) (item (suc i)))) last ∙ sym (last_two_first item (k + n) more))
 
   -- neighbours by their places
   pub by_places : (elements : List Elem) (first n : ℕ) (start : Result ℤ Fault) → folded_onto f (element_along elements first 1) 0 n start ≡ folded_onto f (item_in elements) first n start

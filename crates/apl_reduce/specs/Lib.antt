@@ -10,6 +10,7 @@ pub mod Digits
 pub mod Filled
 pub mod Folded
 pub mod BitFolds
+pub mod RowFolds
 pub mod Fronts
 pub mod Carrying
 pub mod Items

@@ -4,10 +4,11 @@ ghost use Rattle.apl_array.specs.declared.array.Elem.TheVariants.{Int};
 ghost use Rattle.apl_pool.specs.Runs.{AreWritten};
 ghost use Rattle.apl_pool.specs.declared.kernel.TheConstants.{MOST_PLACES};
 ghost use Rattle.apl_scalar.specs.Scalar.{dyadic_of};
-ghost use Rattle.apl_reduce.specs.Folded.{number_step, AreFolds};
+ghost use Rattle.apl_reduce.specs.Folded.{folded_onto, element_along, AreFolds};
 ghost use Rattle.apl_reduce.specs.Items.{item_in};
+ghost use Rattle.apl_reduce.specs.RowFolds.{AreFoldedOnto};
 
-use crate::folding::{element_at, fold_step};
+use crate::folding::{element_at, fold_items};
 use crate::line_folds::Foldable;
 use apl_answer::ElementType;
 use apl_array::ScalarFunction;
@@ -41,20 +42,6 @@ fn last_total<F: Function, T: ElementType>(left: &[T], right: &[T], j: usize) ->
     ensures { result ≡ dyadic_of F.FUNCTION (item_in (map T.elem_of left.now) j) (item_in (map T.elem_of right.now) j) }
 {
     dyadic_elements::<F>(element_at(left, j), element_at(right, j))
-}
-
-/// A total with one more item on the left.
-#[inline(always)]
-fn next_total<F: Function, T: ElementType>(
-    row: &[T],
-    totals: &[i64],
-    j: usize,
-) -> Result<i64, Fault>
-    requires row { j < length row.now }
-    requires totals { j < length totals.now }
-    ensures { result ≡ number_step F.FUNCTION (item_in (map T.elem_of row.now) j) (Ok (slice_index_or totals.now j (pos 0))) }
-{
-    fold_step::<F>(element_at(row, j), Ok(totals[j]))
 }
 
 /// Puts what the function gives of each item of the last two rows in place of the totals. It says
@@ -93,32 +80,72 @@ fn has_likely_rows<F: Function>() -> bool {
     )
 }
 
-/// Folds the numbers of one more row on the left into the totals. It says whether all results are sure. If likely results have no
-/// branches, the loop has none, and a processor does several places at once.
+/// A likely fold of `count` numbers that are `stride` apart from place `first` on, onto what those after them gave, and the doubts whether it
+/// is that. It has no branches if likely results have none.
 #[inline(always)]
-fn fold_likely<F: Function>(row: &[i64], totals: &mut [i64]) -> bool
-    requires { length totals.old ≤ length row.now }
-    ensures values { result ≡ true → AreWritten (λ j. number_step F.FUNCTION (item_in (map Int row.now) j) (Ok (slice_index_or totals.old j (pos 0)))) 0 (length totals.old) totals.new }
+fn likely_onto<F: Function>(
+    numbers: &[i64],
+    first: usize,
+    stride: usize,
+    count: usize,
+    total: i64,
+) -> (i64, u64)
+    requires within { first + count * stride < length numbers.now }
+    requires most { length numbers.now ≤ MOST_PLACES }
+    ensures { result.1 ≡ 0 → folded_onto F.FUNCTION (element_along (map Int numbers.now) first stride) 0 count (Ok total) ≡ Ok result.0 }
+{
+    let mut total = total;
+    let mut all_doubts = 0;
+    let mut place = first + count * stride;
+    for _done in 0..count {
+        place -= stride;
+        let (next, doubts) = F::likely(numbers[place], total);
+        total = next;
+        all_doubts |= doubts;
+    }
+    (total, all_doubts)
+}
+
+/// Folds the numbers of `count` more rows on the left into the totals, place by place. It says whether all results are sure. If likely
+/// results have no branches, and `count` is constant, a processor does several places at once.
+#[inline(always)]
+fn fold_likely<F: Function>(
+    numbers: &[i64],
+    first: usize,
+    stride: usize,
+    count: usize,
+    totals: &mut [i64],
+) -> bool
+    requires within { first + count * stride + length totals.old ≤ length numbers.now }
+    requires most { length numbers.now ≤ MOST_PLACES }
+    ensures values { result ≡ true → AreFoldedOnto F.FUNCTION (map Int numbers.now) first stride count totals.old totals.new }
     ensures len { length totals.new ≡ length totals.old }
 {
     let mut all_doubts = 0;
     for j in 0..totals.len() {
-        let (total, doubts) = F::likely(row[j], totals[j]);
+        let (total, doubts) = likely_onto::<F>(numbers, first + j, stride, count, totals[j]);
         put(totals, j, total);
         all_doubts |= doubts;
     }
     all_doubts == 0
 }
 
-/// Folds the items of one more row on the left into the totals, one by one. It says whether no place has a fault.
+/// Folds the items of `count` more rows on the left into the totals, place by place. It says whether no place has a fault.
 #[inline(always)]
-fn fold_each<F: Function, T: ElementType>(row: &[T], totals: &mut [i64]) -> bool
-    requires { length totals.old ≤ length row.now }
-    ensures values { result ≡ true → AreWritten (λ j. number_step F.FUNCTION (item_in (map T.elem_of row.now) j) (Ok (slice_index_or totals.old j (pos 0)))) 0 (length totals.old) totals.new }
+fn fold_each<F: Function, T: ElementType>(
+    elements: &[T],
+    first: usize,
+    stride: usize,
+    count: usize,
+    totals: &mut [i64],
+) -> bool
+    requires within { first + count * stride + length totals.old ≤ length elements.now }
+    requires most { length elements.now ≤ MOST_PLACES }
+    ensures values { result ≡ true → AreFoldedOnto F.FUNCTION (map T.elem_of elements.now) first stride count totals.old totals.new }
     ensures len { length totals.new ≡ length totals.old }
 {
     for j in 0..totals.len() {
-        match next_total::<F, T>(row, totals, j) {
+        match fold_items::<F, T>(elements, first + j, stride, count, totals[j]) {
             Ok(total) => put(totals, j, total),
             Err(_) => return false,
         }
@@ -126,18 +153,30 @@ fn fold_each<F: Function, T: ElementType>(row: &[T], totals: &mut [i64]) -> bool
     true
 }
 
-/// Folds the items of one more row on the left into the totals. It says whether no place has a fault.
+/// Folds the items of `count` more rows on the left into the totals, in one pass over the totals. It says whether no place has a fault.
 #[inline(always)]
-fn fold_row<F: Function, T: Foldable>(row: &[T], totals: &mut [i64]) -> bool
-    requires { length totals.old ≤ length row.now }
-    ensures values { result ≡ true → AreWritten (λ j. number_step F.FUNCTION (item_in (map T.elem_of row.now) j) (Ok (slice_index_or totals.old j (pos 0)))) 0 (length totals.old) totals.new }
+fn fold_pass<F: Function, T: Foldable>(
+    elements: &[T],
+    first: usize,
+    stride: usize,
+    count: usize,
+    totals: &mut [i64],
+) -> bool
+    requires within { first + count * stride + length totals.old ≤ length elements.now }
+    requires most { length elements.now ≤ MOST_PLACES }
+    ensures values { result ≡ true → AreFoldedOnto F.FUNCTION (map T.elem_of elements.now) first stride count totals.old totals.new }
     ensures len { length totals.new ≡ length totals.old }
 {
-    match T::numbers(row) {
-        Some(numbers) if has_likely_rows::<F>() => fold_likely::<F>(numbers, totals),
-        _ => fold_each::<F, T>(row, totals),
+    match T::numbers(elements) {
+        Some(numbers) if has_likely_rows::<F>() => {
+            fold_likely::<F>(numbers, first, stride, count, totals)
+        }
+        _ => fold_each::<F, T>(elements, first, stride, count, totals),
     }
 }
+
+/// How many rows are folded in one pass over the totals, each of which is read and written once for all of them.
+const TURN: usize = 4;
 
 /// Folds the items of the first `more` rows into the totals of those after them. It says whether no place has a fault.
 #[inline(always)]
@@ -156,8 +195,14 @@ pub(crate) fn fold_rows<F: Function, T: Foldable>(
 {
     let mut row = more;
     while row > 0 {
-        row -= 1;
-        if !fold_row::<F, T>(from_place(elements, first + row * stride), totals) {
+        let folded = if row < TURN {
+            row -= 1;
+            fold_pass::<F, T>(elements, first + row * stride, stride, 1, totals)
+        } else {
+            row -= TURN;
+            fold_pass::<F, T>(elements, first + row * stride, stride, TURN, totals)
+        };
+        if !folded {
             return false;
         }
     }

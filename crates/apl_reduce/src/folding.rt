@@ -2,7 +2,7 @@
 ghost use Rattle.std.specs.Prelude.{◌≡◌, ◌+◌, ◌*◌, ◌<◌, ◌≤◌, pos, Ok, length, map, slice_index_or};
 ghost use Rattle.apl_array.specs.declared.array.Elem.TheVariants.{Int};
 ghost use Rattle.apl_pool.specs.declared.kernel.TheConstants.{MOST_PLACES};
-ghost use Rattle.apl_reduce.specs.Folded.{number_step, folded_onto, element_along};
+ghost use Rattle.apl_reduce.specs.Folded.{folded_onto, element_along};
 
 use apl_answer::ElementType;
 use apl_array::Elem;
@@ -17,17 +17,6 @@ pub(crate) fn element_at<T: ElementType>(elements: &[T], place: usize) -> Elem
     ensures { result ≡ slice_index_or (map T.elem_of elements.now) place (Int (pos 0)) }
 {
     elements[place].elem()
-}
-
-/// One more item on the left of what is folded already.
-#[inline(always)]
-pub(crate) fn fold_step<F: Function>(item: Elem, total: Result<i64, Fault>) -> Result<i64, Fault>
-    ensures { result ≡ number_step F.FUNCTION item total }
-{
-    match total {
-        Ok(number) => dyadic_elements::<F>(item, Elem::Int(number)),
-        Err(fault) => Err(fault),
-    }
 }
 
 /// The right fold of `count` elements that are `stride` apart from place `first` on, onto what those after them gave.

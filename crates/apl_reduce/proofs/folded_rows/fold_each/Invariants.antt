@@ -1,11 +1,10 @@
-use Rattle.std.proofs.Common.{◌≡◌, ℕ, pos, ◌≤◌, length, map, Ok, slice_index_or}
+use Rattle.std.proofs.Common.{◌≡◌, ℕ, pos, ◌+◌, ◌≤◌, length, map, Ok, slice_index_or}
 use Rattle.apl_pool.specs.Runs.{AreWritten}
-use Rattle.apl_reduce.specs.Folded.{number_step}
-use Rattle.apl_reduce.specs.Items.{item_in}
+use Rattle.apl_reduce.specs.Folded.{folded_onto, element_along}
 use Rattle.apl_reduce.proofs.folded_rows.fold_each.Given as goal
 
 abbrev pub invariant-loop-j : goal.invariant-loop-j
 invariant-loop-j g l =
-    AreWritten (λ j. number_step g.F.Function.FUNCTION (item_in (map g.T.ElementType.elem_of l.row) j) (Ok (slice_index_or l.initial.totals j (pos 0)))) 0 l.j l.totals
+    AreWritten (λ j. folded_onto g.F.Function.FUNCTION (element_along (map g.T.ElementType.elem_of l.elements) (l.first + j) l.stride) 0 l.count (Ok (slice_index_or l.initial.totals j (pos 0)))) 0 l.j l.totals
     × (length l.totals ≡ length l.initial.totals)
     × ((j : ℕ) → l.j ≤ j → slice_index_or l.totals j (pos 0) ≡ slice_index_or l.initial.totals j (pos 0))

@@ -1,0 +1,37 @@
+use Rattle.std.proofs.Common.{◌≡◌, suc, ◌+◌, ◌-◌, map, ℤ, pos, Ok, slice_index_or, FitsSigned, to_z, of_z, w64, sym, ap, ◌∙◌, rules, arith}
+use Rattle.std.proofs.Math.ListN.{get_or-map}
+use Rattle.std.proofs.lemmas.Int.{to_z-of_z}
+use Rattle.std.proofs.lemmas.Nat.{le_or_l, le_or_r}
+use Rattle.apl_array.specs.declared.array.Elem.TheVariants.{Int}
+use Rattle.apl_scalar.specs.Scalar.{dyadic_numbers}
+use Rattle.apl_reduce.specs.Folded.{element_along}
+use Rattle.apl_reduce.proofs.Folds.{reached, one_onto, one_step_less}
+use Rattle.apl_reduce.proofs.folded_rows.likely_onto.Goals as goal
+
+pub loop-done-preserved : goal.loop-done-preserved
+loop-done-preserved g c =
+    let f = g.F.Function.FUNCTION in
+    let numbers = c.args.numbers.now in
+    let first = c.args.first in
+    let stride = c.args.stride in
+    let m = c.loop-done._done in
+    let kept = c.loop-done.invariant in
+    let done : m + 1 ≡ suc m = omega arith in
+    let k = c.args.count - (m + 1) in
+    let left : c.args.count - m ≡ k + 1 = omega (arith, c.loop-done-test.true) in
+    let place = one_step_less first (c.args.count - m) k stride c.loop-done.place left kept.place in
+    let x = slice_index_or numbers (c.loop-done.place - stride) (pos 0) in
+    let fits : FitsSigned w64 x = search rules in
+    let next = c.likely-next.result in
+    let stored : to_z w64 (of_z w64 next.0) ≡ next.0 = search rules in
+    record {
+      place = place;
+      total = λ none.
+          let before_none : c.loop-done.all_doubts ≡ 0 = omega (arith, none, le_or_l c.loop-done.all_doubts next.1) in
+          let own_none : next.1 ≡ 0 = omega (arith, none, le_or_r c.loop-done.all_doubts next.1) in
+          ap (λ (z : ℤ). Ok z) stored
+          ∙ sym (c.likely-next.ensures own_none)
+          ∙ ap (λ z. dyadic_numbers f z (to_z w64 c.loop-done.total-bits)) (to_z-of_z w64 x fits)
+          ∙ one_onto f (element_along (map Int numbers) first stride) k (c.args.count - m) m (m + 1) (Int x) (Ok (to_z w64 c.loop-done.total-bits)) (Ok (to_z w64 (of_z w64 c.args.total))) (omega (arith, left)) done
+          (sym (get_or-map Int numbers (c.loop-done.place - stride) (pos 0)) ∙ reached (map Int numbers) first stride k (c.loop-done.place - stride) place) (kept.total before_none);
+    }
