@@ -2,7 +2,7 @@ pub mod Examples
 pub mod ChunkRows
 pub mod Folds
 pub mod Joins
-pub mod LinedPlaces
+pub mod ColumnPlaces
 pub mod ScannedLines
 pub mod ScannedPlaces
 pub mod ScannedRows

@@ -9,8 +9,8 @@
 
 mod bounded_summary;
 mod chunks;
+mod columns;
 mod laws;
-mod lined;
 mod lines;
 mod running;
 mod running_sums;

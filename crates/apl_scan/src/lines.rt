@@ -1,11 +1,12 @@
-//! The numbers along an axis, folded up to each place one by one.
-ghost use Rattle.std.specs.Prelude.{◌≡◌, ◌+◌, ◌-◌, ◌*◌, ◌/◌, ◌%◌, ◌<◌, ◌≤◌, IfOk, IfErr, length};
+//! The numbers along an axis, folded up to each place.
+ghost use Rattle.std.specs.Prelude.{◌≡◌, true, ◌+◌, ◌-◌, ◌*◌, ◌/◌, ◌%◌, ◌<◌, ◌≤◌, IfOk, IfErr, length};
 ghost use Rattle.apl_pool.specs.declared.kernel.TheConstants.{MOST_PLACES};
 ghost use Rattle.apl_pool.specs.Pool.{AreValues, IsStopOf};
 ghost use Rattle.apl_scalar.specs.Scalar.{dyadic_numbers};
+ghost use Rattle.apl_summary.specs.Functions.{has_summary};
 ghost use Rattle.apl_scan.specs.Lines.{folded, number_along, numbers_before, scan_at};
 
-use crate::lined::fill_by_lines;
+use crate::columns::fold_columns;
 use crate::summarized::fill_by_summary;
 use apl_array::ScalarFunction;
 use apl_divisor::Divisor;
@@ -14,9 +15,6 @@ use apl_scalar::function_types::Function;
 use apl_scalar::with_type;
 use apl_summary::has_summary;
 use std::marker::PhantomData;
-
-/// The least count of numbers in a line for which it pays to bring lines in order.
-const LONG_LINE: usize = 32;
 
 /// The numbers of an array, in lines along an axis.
 #[derive(Drop)]
@@ -81,6 +79,15 @@ fn fold_up_to<F: Function>(
     Ok(total)
 }
 
+/// The fold up to a place.
+fn fold_at<F: Function>(lines: &AxisLines, place: usize) -> Result<i64, Fault>
+    requires { place < length lines.now.numbers.now }
+    ensures { result ≡ scan_at (dyadic_numbers F.FUNCTION) lines.now.numbers.now lines.now.items lines.now.inner place }
+{
+    let before = lines.before(place);
+    fold_up_to::<F>(lines.numbers, place, lines.inner.number(), before)
+}
+
 /// The folds up to each place.
 #[derive(Drop)]
 struct PrefixFolds<'a, F> {
@@ -104,9 +111,7 @@ impl<F: Function> Kernel for PrefixFolds<'_, F> {
     }
 
     fn at(&self, place: usize) -> Result<i64, Fault> {
-        let lines = self.lines;
-        let before = lines.before(place);
-        fold_up_to::<F>(lines.numbers, place, lines.inner.number(), before)
+        fold_at::<F>(self.lines, place)
     }
 }
 
@@ -121,6 +126,57 @@ fn fill_folds<F: Function + Sync, W: Crew>(workers: &W, lines: &AxisLines) -> Re
     fill(workers, &kernel)
 }
 
+/// The fold up to a place by a scalar function.
+fn fold_by(f: ScalarFunction, lines: &AxisLines, place: usize) -> Result<i64, Fault>
+    requires { place < length lines.now.numbers.now }
+    ensures { result ≡ scan_at (dyadic_numbers f) lines.now.numbers.now lines.now.items lines.now.inner place }
+{
+    with_type!(f, fold_at::<F>(lines, place))
+}
+
+/// The folds of numbers along their lines up to each place, each from the place on.
+fn fill_by_places<W: Crew>(
+    workers: &W,
+    f: ScalarFunction,
+    lines: &AxisLines,
+) -> Result<Vec<i64>, Stop>
+    ensures values { IfOk result (λ v. AreValues (scan_at (dyadic_numbers f) lines.now.numbers.now lines.now.items lines.now.inner) (length lines.now.numbers.now) v.items) }
+    ensures stop { IfErr result (IsStopOf (scan_at (dyadic_numbers f) lines.now.numbers.now lines.now.items lines.now.inner) (length lines.now.numbers.now)) }
+{
+    with_type!(f, fill_folds::<F, W>(workers, lines))
+}
+
+/// The folds of numbers along their lines up to each place, by a function whose folds have summaries.
+fn fill_by_columns<W: Crew>(
+    workers: &W,
+    f: ScalarFunction,
+    lines: &AxisLines,
+) -> Result<Vec<i64>, Stop>
+    requires summary { has_summary f ≡ true }
+    ensures values { IfOk result (λ v. AreValues (scan_at (dyadic_numbers f) lines.now.numbers.now lines.now.items lines.now.inner) (length lines.now.numbers.now) v.items) }
+    ensures stop { IfErr result (IsStopOf (scan_at (dyadic_numbers f) lines.now.numbers.now lines.now.items lines.now.inner) (length lines.now.numbers.now)) }
+{
+    let numbers = lines.numbers;
+    let values = fold_columns(
+        workers,
+        f,
+        numbers,
+        lines.items.number(),
+        lines.inner.number(),
+    )?;
+    let place = values.len();
+    if place == numbers.len() {
+        return Ok(values);
+    }
+    match fold_by(f, lines, place) {
+        Err(fault) => {
+            let place = place as u32;
+            Err(Stop::Fault { place, fault })
+        }
+        Ok(_) => fill_by_places(workers, f, lines),
+    }
+}
+
 /// The folds of numbers along their lines up to each place.
 pub(crate) fn fill_scans<W: Crew>(
     workers: &W,
@@ -130,18 +186,11 @@ pub(crate) fn fill_scans<W: Crew>(
     ensures values { IfOk result (λ v. AreValues (scan_at (dyadic_numbers f) lines.now.numbers.now lines.now.items lines.now.inner) (length lines.now.numbers.now) v.items) }
     ensures stop { IfErr result (IsStopOf (scan_at (dyadic_numbers f) lines.now.numbers.now lines.now.items lines.now.inner) (length lines.now.numbers.now)) }
 {
-    let items = lines.items.number();
-    let inner = lines.inner.number();
-    if inner == 1 && has_summary(f) {
-        return fill_by_summary(workers, f, lines.numbers, items);
+    if !has_summary(f) {
+        return fill_by_places(workers, f, lines);
     }
-    if items >= LONG_LINE && has_summary(f) {
-        match fill_by_lines(workers, f, lines.numbers, items, inner) {
-            Ok(values) => return Ok(values),
-            Err(Stop::Memory) => return Err(Stop::Memory),
-            // Which of the faults is at the least place is found below.
-            Err(Stop::Fault { .. }) => {}
-        }
+    if lines.inner.number() == 1 {
+        return fill_by_summary(workers, f, lines.numbers, lines.items.number());
     }
-    with_type!(f, fill_folds::<F, W>(workers, lines))
+    fill_by_columns(workers, f, lines)
 }

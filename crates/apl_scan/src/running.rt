@@ -5,32 +5,28 @@ ghost use Rattle.apl_pool.specs.Summaries.{fold_onto};
 ghost use Rattle.apl_summary.specs.Running.{IsSummaryOrNone};
 ghost use Rattle.apl_scan.specs.Running.{IsWithNext};
 
-use crate::bounded_summary::BoundedSummary;
 use apl_pool::{Fault, Summary};
 
 /// The summary of numbers, of which there may be none, and one more after them.
 #[inline(always)]
-pub(crate) fn with_next<S: Summary<Item = i64> + Drop>(
-    before: &Option<BoundedSummary<S>>,
-    number: i64,
-) -> BoundedSummary<S>
-    requires { IfSome before.now (λ s. S.item_count s.summary + 1 ≤ MOST_PLACES) }
-    ensures { IsWithNext S.step (λ k. S.item_count k.summary) (λ k. S.outcome k.summary) before.now number result }
+pub(crate) fn with_next<S: Summary<Item = i64> + Drop>(before: &Option<S>, number: i64) -> S
+    requires { IfSome before.now (λ s. S.item_count s + 1 ≤ MOST_PLACES) }
+    ensures { IsWithNext S.step S.item_count S.outcome before.now number result }
 {
-    let next = BoundedSummary::<S>::one(number);
+    let next = S::one(number);
     match before {
         None => next,
-        Some(before) => BoundedSummary::join(before, &next),
+        Some(before) => S::join(before, &next),
     }
 }
 
 /// The fold of numbers, of which there may be none, and one more after them.
 #[inline(always)]
 pub(crate) fn fold_behind<S: Summary<Item = i64> + Drop>(
-    before: &Option<BoundedSummary<S>>,
+    before: &Option<S>,
     number: i64,
 ) -> Result<i64, Fault>
-    ensures { (numbers : List ℤ) → IsSummaryOrNone S.step (λ k. S.item_count k.summary) (λ k. S.outcome k.summary) numbers before.now
+    ensures { (numbers : List ℤ) → IsSummaryOrNone S.step S.item_count S.outcome numbers before.now
         → result ≡ fold_onto S.step numbers number }
 {
     match before {

@@ -189,7 +189,7 @@ fn summarize_lines<S: Summary<Item = i64> + Copy + Drop + Send, W: Crew>(
 }
 
 /// An empty list with room for `count` numbers: the one that the pool keeps, or a new one.
-fn room_for<W: Crew>(workers: &W, count: usize) -> Result<Vec<i64>, AllocError>
+pub(crate) fn room_for<W: Crew>(workers: &W, count: usize) -> Result<Vec<i64>, AllocError>
     ensures empty { IfOk result (λ room. vec_len room ≡ 0) }
     ensures room { IfOk result (λ room. count ≤ vec_capacity room) }
 {
