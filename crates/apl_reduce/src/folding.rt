@@ -43,3 +43,30 @@ pub(crate) fn fold_items<F: Function, T: ElementType>(
     }
     Ok(total)
 }
+
+/// How many items are folded in one turn of a loop.
+const TURN: usize = 4;
+
+/// The same of many elements, several in a turn.
+pub(crate) fn fold_many<F: Function, T: ElementType>(
+    elements: &[T],
+    first: usize,
+    stride: usize,
+    count: usize,
+    total: i64,
+) -> Result<i64, Fault>
+    requires within { first + count * stride < length elements.now }
+    requires most { length elements.now ≤ MOST_PLACES }
+    ensures { result ≡ folded_onto F.FUNCTION (element_along (map T.elem_of elements.now) first stride) 0 count (Ok total) }
+{
+    let mut total = total;
+    let mut rest = count;
+    while rest >= TURN {
+        rest -= TURN;
+        match fold_items::<F, T>(elements, first + rest * stride, stride, TURN, total) {
+            Ok(number) => total = number,
+            Err(refused) => return Err(refused),
+        }
+    }
+    fold_items::<F, T>(elements, first, stride, rest, total)
+}

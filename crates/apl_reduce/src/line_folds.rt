@@ -3,7 +3,7 @@ ghost use Rattle.std.specs.Prelude.{◌≡◌, ◌+◌, ◌-◌, ◌*◌, ◌<�
 ghost use Rattle.apl_pool.specs.declared.kernel.TheConstants.{MOST_PLACES};
 ghost use Rattle.apl_reduce.specs.Folded.{folded, element_along};
 
-use crate::folding::{element_at, fold_items};
+use crate::folding::{element_at, fold_many};
 use crate::run_folds::{fold_neighbours, has_quick_runs};
 use apl_answer::ElementType;
 use apl_pool::Fault;
@@ -58,6 +58,6 @@ pub(crate) fn fold_along<F: Function, T: Foldable>(
         Some(numbers) if stride == 1 && has_quick_runs::<F>() => {
             fold_neighbours::<F>(numbers, first, more, total)
         }
-        _ => fold_items::<F, T>(elements, first, stride, more, total),
+        _ => fold_many::<F, T>(elements, first, stride, more, total),
     }
 }

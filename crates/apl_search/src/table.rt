@@ -1,7 +1,7 @@
 //! The first places of a list's numbers in a table, where the numbers span little.
 ghost use Rattle.std.specs.Prelude.{◌≡◌, ℕ, ℤ, pos, ◌+◌, ◌<◌, ◌≤◌, ◌^◌, ◌+ℤ◌, ◌-ℤ◌, ◌≤ℤ◌, ◌<ℤ◌, List, All, length, map, IfOk, IfSome, slice_index_or};
 ghost use Rattle.apl_pool.specs.declared.kernel.TheConstants.{MOST_PLACES};
-ghost use Rattle.apl_search.specs.Tables.{place_of, IsNumberWithin, ArePlacesFrom, IsTable};
+ghost use Rattle.apl_search.specs.Tables.{place_of, IsNumberWithin, IsTable};
 
 use crate::sorting::{Keyed, Upwards, ends};
 use apl_pool::MOST_PLACES;
@@ -24,32 +24,6 @@ fn distance(least: i64, number: i64) -> u64
     number.cast_unsigned().wrapping_sub(least.cast_unsigned())
 }
 
-/// How many places are written in one turn of a loop.
-const TURN: usize = 4;
-
-/// Writes the places before `to` from the last one to `from`, each at the entry of its number. Those from `to` on are written.
-#[inline(always)]
-fn write_places_between<T: Keyed>(
-    least: i64,
-    values: &[T],
-    from: usize,
-    to: usize,
-    places: &mut [u32],
-)
-    requires count { length values.now ≤ MOST_PLACES }
-    requires within { All (IsNumberWithin least (length places.old)) (map T.key values.now) }
-    requires order { from ≤ to }
-    requires inside { to ≤ length values.now }
-    requires after { ArePlacesFrom (map T.key values.now) least to places.old }
-    ensures each { ArePlacesFrom (map T.key values.now) least from places.new }
-    ensures len { length places.new ≡ length places.old }
-{
-    for place in (from..to).rev() {
-        let entry = distance(least, values[place].key()) as usize;
-        places[entry] = place as u32;
-    }
-}
-
 /// Writes the place of each number at its entry, from the last place to the first. So the first place of equal ones remains.
 fn write_places<T: Keyed>(least: i64, values: &[T], places: &mut [u32])
     requires count { length values.now ≤ MOST_PLACES }
@@ -58,10 +32,9 @@ fn write_places<T: Keyed>(least: i64, values: &[T], places: &mut [u32])
     ensures each { (k d : ℕ) → k < length places.new → slice_index_or places.new k d ≡ place_of (map T.key values.now) (least +ℤ pos k) }
     ensures len { length places.new ≡ length places.old }
 {
-    let turns = values.len() / TURN;
-    write_places_between(least, values, turns * TURN, values.len(), places);
-    for turn in (0..turns).rev() {
-        write_places_between(least, values, turn * TURN, turn * TURN + TURN, places);
+    for place in (0..values.len()).rev() {
+        let entry = distance(least, values[place].key()) as usize;
+        places[entry] = place as u32;
     }
 }
 

@@ -57,4 +57,4 @@ returns-in_default g c =
     ∙ ap (λ x. dyadic_of f x c.element_at-last.result) (c.element_at.ensures ∙ reached elements first stride (0 + k) (first + k * stride) (omega arith))
     ∙ ap (dyadic_of f (item (0 + k))) (c.element_at-last.ensures ∙ reached elements first stride (suc (0 + k)) (first + k * stride + stride) (omega arith)) in
     let stored : to_z w64 (of_z w64 c.in-Ok.number) ≡ c.in-Ok.number = search rules in
-    c.fold_items.ensures ∙ ap (λ z. folded_onto f item 0 k (Ok z)) stored ∙ ap (folded_onto f item 0 k) last_two ∙ sym (last_two_first f item 0 k)
+    c.fold_many.ensures ∙ ap (λ z. folded_onto f item 0 k (Ok z)) stored ∙ ap (folded_onto f item 0 k) last_two ∙ sym (last_two_first f item 0 k)

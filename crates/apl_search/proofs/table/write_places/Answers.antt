@@ -3,7 +3,7 @@ use Rattle.std.proofs.lemmas.Int.{ints}
 use Rattle.std.proofs.lemmas.List.{length-map, length-set, get_or-map}
 use Rattle.apl_search.specs.Tables.{IsNumberWithin, ArePlacesFrom}
 use Rattle.apl_search.proofs.Tables.{one_more}
-use Rattle.apl_search.proofs.table.write_places_between.Goals as goal
+use Rattle.apl_search.proofs.table.write_places.Goals as goal
 
 least_read : (g : _) (c : goal.After-distance-entry g) → to_z w64 (of_z w64 c.args.least) ≡ c.args.least
 least_read g c = search rules
@@ -16,7 +16,7 @@ at_place g c =
     let key = g.T.Keyed.key in
     let values = c.args.values.now in
     let place = c.loop-place.place - 1 in
-    let inside : place < length values = omega (arith, c.loop-place-test.true, c.loop-place.auto.place, c.requires.inside) in
+    let inside : place < length values = omega (arith, c.loop-place-test.true, c.loop-place.auto.place) in
     let at = c.requires.within place c.key.result (omega (arith, inside, length-map values key)) in
     let number : get_or (map key values) place c.key.result ≡ c.key.result = get_or-map key values place c.index-values-place.result c.key.result inside ∙ ap key (sym c.index-values-place.is) ∙ sym c.key.ensures in
     let near : IsNumberWithin c.args.least (length c.args.places.now) c.key.result = subst (IsNumberWithin c.args.least (length c.args.places.now)) number at in
@@ -41,15 +41,8 @@ loop-place-preserved g c =
     let before = c.loop-place.invariant in
     let at = at_place g c in
     record {
-      order = omega (arith, c.loop-place-test.true);
       len = length-set c.loop-place.places c.distance-entry.result place ∙ before.len;
       from = rw (least_read g c) (
           one_more (map key values) c.args.least c.loop-place.places place c.distance-entry.result c.key.result (omega (arith, at.0, length-map values key)) at.1 at.2 at.3
           (subst (λ n. ArePlacesFrom (map key values) c.args.least n c.loop-place.places) (sym next) (rw (least_read g c) at before.from)));
     }
-
-pub returns-clause-each : goal.returns-clause-each
-returns-clause-each g c =
-    let least : to_z w64 (of_z w64 c.args.least) ≡ c.args.least = search rules in
-    let all : c.loop-place.place ≡ c.args.from = omega (arith, c.loop-place-test.false, c.loop-place.invariant.order) in
-    subst (λ n. ArePlacesFrom (map g.T.Keyed.key c.args.values.now) c.args.least n c.loop-place.places) all (rw least at c.loop-place.invariant.from)
