@@ -1,3 +1,4 @@
+pub mod Truths
 pub mod Gathering
 pub mod Places
 pub mod Answers

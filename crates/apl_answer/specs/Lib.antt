@@ -3,3 +3,4 @@ pub mod Pointwise
 pub mod Elements
 pub mod Arguments
 pub mod Rows
+pub mod Numbers

@@ -1,8 +1,8 @@
-//! Numbers and characters.
+//! Numbers, truth values and characters.
 use apl_array::{Array, Elem, Shape};
 use apl_pool::Reused;
 
-/// An element of an array of one kind: a number or a character.
+/// An element of an array as it is held: a number, a truth value, which is the number 0 or 1, or a character.
 pub trait ElementType: Reused {
     ghost use Rattle.std.specs.Prelude.{◌≡◌, vec_len};
     ghost use Rattle.apl_array.specs.declared.array.Elem.{Elem};
@@ -56,6 +56,33 @@ impl ElementType for i64 {
         ensures { result ≡ number_array shape values.items }
     {
         Array::ints(shape, values)
+    }
+}
+
+impl ElementType for bool {
+    ghost use Rattle.std.specs.Prelude.{◌≡◌, vec_len};
+    ghost use Rattle.apl_array.specs.Shape.{count_of};
+    ghost use Rattle.apl_array.specs.Array.{truth_array, truth_element};
+    ghost use Rattle.apl_array.specs.declared.array.Kind.TheVariants.{Number};
+
+    ghost elem_of = { truth_element };
+
+    ghost kind = { Number };
+
+    #[inline(always)]
+    fn elem(self) -> Elem {
+        Elem::Int(if self { 1 } else { 0 })
+    }
+
+    fn fill() -> bool {
+        false
+    }
+
+    fn array(shape: Shape, values: Vec<bool>) -> Array
+        requires { vec_len values ≡ count_of shape }
+        ensures { result ≡ truth_array shape values.items }
+    {
+        Array::truths(shape, values)
     }
 }
 

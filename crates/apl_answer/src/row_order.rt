@@ -9,7 +9,7 @@ ghost use Rattle.apl_answer.specs.Pointwise.{IsAnswerAt};
 use crate::element::ElementType;
 use crate::fault::OpFault;
 use crate::fill::fill_array;
-use apl_array::{Array, Shape};
+use apl_array::{Array, Elements, Shape};
 use apl_pool::{Crew, Fault, Kernel};
 
 /// Each element at its own place, and the fill past the last.
@@ -65,13 +65,9 @@ pub fn array_of_elements<W: Crew>(workers: &W, shape: Shape, b: &Array) -> Resul
     requires { count_of shape ≤ count_of b.now.shape }
     ensures { IsAnswerAt shape b.now.kind (λ place. Ok (element_in b.now place)) result }
 {
-    match b.numbers() {
-        Some(numbers) => in_row_order(workers, shape, numbers),
-        None => {
-            let Some(characters) = b.characters() else {
-                unreachable!()
-            };
-            in_row_order(workers, shape, characters)
-        }
+    match b.elements() {
+        Elements::Numbers(numbers) => in_row_order(workers, shape, numbers),
+        Elements::Truths(truths) => in_row_order(workers, shape, truths),
+        Elements::Characters(characters) => in_row_order(workers, shape, characters),
     }
 }

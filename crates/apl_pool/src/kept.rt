@@ -87,6 +87,8 @@ pub trait Reused: Copy {
 
 impl Reused for char {}
 
+impl Reused for bool {}
+
 impl Reused for i64 {
     fn reused(kept: &KeptList, count: usize) -> Option<Vec<i64>> {
         kept.take(count)
