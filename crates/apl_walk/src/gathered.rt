@@ -16,7 +16,7 @@ use crate::map::AxisMap;
 use crate::maps::{MOST_MAPS, Map, start_at, with_kind};
 use crate::walk::Walk;
 use apl_answer::{ElementType, OpFault, fill_array};
-use apl_array::{Array, Shape};
+use apl_array::{Array, Elements, Shape};
 use apl_pool::Crew;
 
 /// A walk over an argument, of whose last axis the map is known by its type.
@@ -150,9 +150,9 @@ pub fn gather<W: Crew>(workers: &W, shape: Shape, b: &Array, walk: Walk) -> Resu
     let [last, outer @ ..] = maps.as_slice() else {
         unreachable!()
     };
-    match (b.numbers(), b.characters()) {
-        (Some(numbers), _) => gather_maps(workers, shape, b, numbers, outer, last),
-        (_, Some(characters)) => gather_maps(workers, shape, b, characters, outer, last),
-        _ => unreachable!(),
+    match b.elements() {
+        Elements::Numbers(numbers) => gather_maps(workers, shape, b, numbers, outer, last),
+        Elements::Truths(truths) => gather_maps(workers, shape, b, truths, outer, last),
+        Elements::Characters(characters) => gather_maps(workers, shape, b, characters, outer, last),
     }
 }
