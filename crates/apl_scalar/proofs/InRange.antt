@@ -12,7 +12,7 @@ use Rattle.apl_array.specs.declared.array.Elem.TheVariants.{Int, Chr}
 use Rattle.apl_array.specs.declared.array.Kind.{Kind}
 use Rattle.apl_array.specs.declared.array.Kind.TheVariants.{Number}
 use Rattle.apl_array.specs.Shape.{IsIndexOf, place_of}
-use Rattle.apl_array.specs.Array.{ArrayValue, element_at}
+use Rattle.apl_array.specs.Array.{ArrayValue, bit, element_at}
 use Rattle.apl_array.specs.Range.{IsInRange, in_range, IsElementInRange, HasNumbersInRange}
 use Rattle.apl_pool.specs.declared.kernel.Fault.{Fault}
 use Rattle.apl_pool.specs.declared.kernel.Fault.TheVariants.{Limit}
@@ -21,7 +21,7 @@ use Rattle.apl_array.specs.declared.function.ScalarFunction.TheVariants.{Plus, M
 use Rattle.apl_answer.specs.declared.fault.OpFault.{OpFault}
 use Rattle.apl_scalar.specs.Arithmetic.{factorial, binomial, residue}
 use Rattle.apl_answer.specs.Arguments.{is_bit}
-use Rattle.apl_scalar.specs.Scalar.{exact, bit, is_one, logical, quotient, power, monadic_number, dyadic_numbers, monadic_of, compare_elements, dyadic_of, as_element}
+use Rattle.apl_scalar.specs.Scalar.{exact, is_one, logical, quotient, power, monadic_number, dyadic_numbers, monadic_of, compare_elements, dyadic_of, as_element}
 use Rattle.apl_answer.specs.Pointwise.{answer_of}
 use Rattle.apl_scalar.specs.Extension.{extended_shape, source_index}
 use Rattle.apl_scalar.specs.Monadic.{monadic_element, monadic_answer}

@@ -6,7 +6,7 @@ pub mod Powers
 pub mod PowerBits
 pub mod Residues
 pub mod Sources
-pub mod Places
 pub mod InRange
 pub mod WithinLimits
+pub mod Truths
 mod Examples

@@ -1,5 +1,5 @@
 -- The elements of arguments that serve at a place of the extended shape.
-use Rattle.std.proofs.Common.{◌≡◌, ℕ, ◌<◌, ◌==◌, ◌&&◌, Bool, true, false, List, [], ◌∷◌, length, map, replicate, Result, Ok, Err, refl, sym, ap, ◌∙◌, ⊎_elim, arith, if◌then◌else◌, ℤ, pos, get_or}
+use Rattle.std.proofs.Common.{◌≡◌, ℕ, ◌<◌, ◌==◌, ◌&&◌, Bool, true, false, List, [], ◌∷◌, length, map, replicate, Result, Ok, Err, refl, sym, ap, ◌∙◌, ⊎_elim, arith, if◌then◌else◌, pos}
 use Rattle.std.proofs.lemmas.List.{get_or-map, length-map}
 use Rattle.std.proofs.lemmas.Slice.Eq.{bytes_eq-Decides}
 use Rattle.std.proofs.lemmas.Bool.{cases_Bool, true≢false}
@@ -17,8 +17,7 @@ use Rattle.apl_array.specs.declared.function.ScalarFunction.TheVariants.{Equal, 
 use Rattle.apl_answer.specs.Arguments.{is_same_shape, has_one_element}
 use Rattle.apl_scalar.specs.Extension.{extended_shape, source_index}
 use Rattle.apl_scalar.specs.Operands.{operand_at, pair_at}
-use Rattle.apl_scalar.specs.Scalar.{monadic_number, monadic_of, dyadic_of, compare_elements}
-use Rattle.apl_scalar.specs.Monadic.{monadic_element}
+use Rattle.apl_scalar.specs.Scalar.{dyadic_of, compare_elements}
 use Rattle.apl_scalar.specs.Dyadic.{dyadic_number}
 
 pub same_from_test : (a b : List ℕ) → is_same_shape a b ≡ true → a ≡ b
@@ -106,9 +105,6 @@ module _ (same_place : (shape : List ℕ) (place : ℕ) → place < count_of sha
   operand_from_source a elements shape whole is same place inside =
       ap (λ es. operand_at es whole place) (sym is) ∙ element_from_source a shape place whole inside same
 
-  element_at_place : (b : ArrayValue) (place : ℕ) → place < count_of b.shape → element_at b (index_at b.shape place) ≡ element_in b place
-  element_at_place b place below = ap (element_in b) (same_place b.shape place below)
-
   -- it is of the argument's kind
   pub kind_of_source : (a : ArrayValue) (shape : List ℕ) → IsArray a → (is_same_shape a.shape shape ≡ false → count_of a.shape ≡ 1)
       → (place : ℕ) → place < count_of shape → kind_of (element_at a (source_index a.shape shape (index_at shape place))) ≡ a.kind
@@ -119,15 +115,6 @@ module _ (same_place : (shape : List ℕ) (place : ℕ) → place < count_of sha
       ap kind_of (sym (element_from_source a shape place true inside whole)) ∙ lawful.kinds place (Int (pos 0)) (omega (arith, lawful.len, counts)))
       (λ other. ap kind_of (sym (element_from_source a shape place false inside other)) ∙ lawful.kinds 0 (Int (pos 0)) (omega (arith, lawful.len, one other)))
       (cases_Bool (is_same_shape a.shape shape))
-
-  -- a monadic function at a place, by the numbers alone
-  pub monadic_place : (f : ScalarFunction) (b : ArrayValue) (numbers : List ℤ) → b.ravel ≡ map Int numbers → IsArray b
-      → (place : ℕ) → place < length numbers → monadic_number f (get_or numbers place (pos 0)) ≡ monadic_element f b (index_at b.shape place)
-  monadic_place f b numbers is lawful place inside =
-      let below : place < count_of b.shape = omega (arith, count_of_items b Int numbers is lawful) in
-      let here : element_in b place ≡ Int (get_or numbers place (pos 0)) =
-      ap (λ es. get_or es place (Int (pos 0))) is ∙ get_or-map Int numbers place (pos 0) (Int (pos 0)) inside in
-      ap (monadic_of f) (sym here ∙ sym (element_at_place b place below))
 
   -- a dyadic function of a number and a character
   pub dyadic_mixed : (f : ScalarFunction) (a b : ArrayValue) (shape : List ℕ) → extended_shape a.shape b.shape ≡ Ok shape → IsArray a → IsArray b → (a.kind ≡ b.kind → ⊥)

@@ -1,9 +1,10 @@
 -- The scalar functions, over exact whole numbers and characters, one line a function.
-use Rattle.std.specs.Prelude.{ℤ, pos, negsuc, neg_ℤ, ◌+ℤ◌, ◌-ℤ◌, ◌*ℤ◌, ◌%◌, Bool, false, not, ◌&&◌, ◌||◌, ◌==◌, int_lt, int_le, int_div, int_rem, unsigned_abs, Result, Ok, Err, Option, Some, None, if◌then◌else◌}
+use Rattle.std.specs.Prelude.{ℤ, pos, negsuc, neg_ℤ, ◌+ℤ◌, ◌-ℤ◌, ◌*ℤ◌, ◌%◌, Bool, true, false, not, ◌&&◌, ◌||◌, ◌==◌, int_lt, int_le, int_div, int_rem, unsigned_abs, Result, Ok, Err, Option, Some, None, if◌then◌else◌}
 use Rattle.std.specs.Int.{int_min, int_max, int_signum, int_pow, is_negative}
 use Rattle.std.specs.Ordering.{int_eq}
 use Rattle.apl_array.specs.declared.array.Elem.{Elem}
 use Rattle.apl_array.specs.declared.array.Elem.TheVariants.{Int, Chr}
+pub use Rattle.apl_array.specs.Array.{bit}
 use Rattle.apl_array.specs.Range.{in_range, least_number, greatest_number}
 use Rattle.apl_pool.specs.declared.kernel.Fault.{Fault}
 use Rattle.apl_pool.specs.declared.kernel.Fault.TheVariants.{Domain, Limit}
@@ -17,10 +18,6 @@ abbrev pub exact : ℤ → Result ℤ Fault
 exact z = if in_range z then Ok z else Err Limit
 
 -- ---- 0 and 1
-
--- 1 for true, 0 for false
-abbrev pub bit : Bool → ℤ
-bit b = if b then pos 1 else pos 0
 
 -- the number is 1
 abbrev pub is_one : ℤ → Bool
@@ -101,6 +98,21 @@ dyadic_numbers Greater x y = Ok (bit (int_lt y x))
 dyadic_numbers NotEqual x y = Ok (bit (not (int_eq x y)))
 dyadic_numbers Tilde x y = Err Domain
 
+-- whether all results are 0 or 1, or faults
+abbrev pub is_truth_valued : ScalarFunction → Bool
+is_truth_valued And = true
+is_truth_valued Or = true
+is_truth_valued Nand = true
+is_truth_valued Nor = true
+is_truth_valued Less = true
+is_truth_valued LessOrEqual = true
+is_truth_valued Equal = true
+is_truth_valued GreaterOrEqual = true
+is_truth_valued Greater = true
+is_truth_valued NotEqual = true
+is_truth_valued Tilde = true
+is_truth_valued _ = false
+
 -- what the right fold of no element gives
 abbrev pub identity_of : ScalarFunction → Option ℤ
 identity_of Plus = Some (pos 0)
@@ -148,3 +160,8 @@ dyadic_of f (Chr c) (Int y) = compare_elements f false
 abbrev pub as_element : Result ℤ Fault → Result Elem Fault
 as_element (Ok z) = Ok (Int z)
 as_element (Err fault) = Err fault
+
+-- the number as a truth value, or the fault
+abbrev pub truth_outcome : Result ℤ Fault → Result Bool Fault
+truth_outcome (Ok z) = Ok (is_one z)
+truth_outcome (Err fault) = Err fault

@@ -1,20 +1,18 @@
 //! The scalar functions of arrays.
-ghost use Rattle.std.specs.Prelude.{◌≡◌, ℕ, IfOk, IfErr, Ok, IsTrue};
-ghost use Rattle.apl_array.specs.Shape.{count_of, index_at};
+ghost use Rattle.std.specs.Prelude.{◌≡◌, Ok, IsTrue};
 ghost use Rattle.apl_array.specs.Valences.{has_monadic, has_dyadic};
-ghost use Rattle.apl_pool.specs.Pool.{AreValues, IsStopOf};
 ghost use Rattle.apl_scalar.specs.Extension.{extended_shape};
 ghost use Rattle.apl_answer.specs.Pointwise.{IsAnswerOf};
-ghost use Rattle.apl_scalar.specs.Monadic.{monadic_answer, monadic_element};
-ghost use Rattle.apl_scalar.specs.Dyadic.{dyadic_answer, dyadic_number};
+ghost use Rattle.apl_scalar.specs.Monadic.{monadic_answer};
+ghost use Rattle.apl_scalar.specs.Dyadic.{answer_over, dyadic_answer};
 
 use crate::elements::compare;
 use crate::extend::extended;
 use crate::operands::Pairs;
-use crate::passes::{fill_character_pairs, fill_number_pairs, fill_numbers};
-use apl_answer::{OpFault, array_from_fill, fill_uniform};
-use apl_array::{Array, ScalarFunction, Shape, places_match_index_lists};
-use apl_pool::{Crew, Cut, Fault, Gate, Pool, Stop, Workers};
+use crate::passes::{fill_elements, fill_pairs};
+use apl_answer::{OpFault, constant_array, numbers_of};
+use apl_array::{Array, Elements, ScalarFunction, Shape, places_match_index_lists};
+use apl_pool::{Crew, Cut, Fault, Gate, Pool, Workers};
 use std::alloc::Global;
 use std::thread::Threads;
 
@@ -34,18 +32,23 @@ pub fn monadic<R: Threads + Sync, C: Cut + Sync, G: Gate + Sync>(
 {
     let workers = Workers { rt, alloc, pool };
     let shape = right.shape().copy(alloc)?;
-    array_from_fill(shape, fill_monadic(&workers, f, right))
+    fill_monadic(&workers, f, shape, right)
 }
 
-fn fill_monadic<W: Crew>(workers: &W, f: ScalarFunction, right: &Array) -> Result<Vec<i64>, Stop>
-    requires { IsTrue (has_monadic f) }
-    ensures values { IfOk result (λ v. AreValues (λ place. monadic_element f right.now (index_at right.now.shape place)) (count_of right.now.shape) v.items) }
-    ensures stop { IfErr result (IsStopOf (λ place. monadic_element f right.now (index_at right.now.shape place)) (count_of right.now.shape)) }
+fn fill_monadic<W: Crew>(
+    workers: &W,
+    f: ScalarFunction,
+    shape: Shape,
+    right: &Array,
+) -> Result<Array, OpFault>
+    requires { shape ≡ right.now.shape }
+    ensures { IsAnswerOf (monadic_answer f right.now) result }
 {
     places_match_index_lists();
-    match right.numbers() {
-        Some(numbers) => fill_numbers(workers, f, numbers),
-        None => fill_uniform(workers, right.shape().count(), Err(Fault::Domain)),
+    match right.elements() {
+        Elements::Numbers(numbers) => fill_elements(workers, f, shape, numbers),
+        Elements::Truths(truths) => fill_elements(workers, f, shape, truths),
+        Elements::Characters(_) => constant_array(workers, shape, Err(Fault::Domain)),
     }
 }
 
@@ -68,35 +71,39 @@ pub fn dyadic<R: Threads + Sync, C: Cut + Sync, G: Gate + Sync>(
 {
     let workers = Workers { rt, alloc, pool };
     let shape = extended(left.shape(), right.shape())?.copy(alloc)?;
-    let filled = fill_dyadic(&workers, f, left, right, &shape);
-    array_from_fill(shape, filled)
+    fill_dyadic(&workers, f, shape, left, right)
 }
 
 fn fill_dyadic<W: Crew>(
     workers: &W,
     f: ScalarFunction,
+    shape: Shape,
     left: &Array,
     right: &Array,
-    shape: &Shape,
-) -> Result<Vec<i64>, Stop>
-    requires valence { IsTrue (has_dyadic f) }
-    requires shape { extended_shape left.now.shape right.now.shape ≡ Ok shape.now }
-    ensures values { IfOk result (λ v. AreValues (λ place. dyadic_number f left.now right.now shape.now (index_at shape.now place)) (count_of shape.now) v.items) }
-    ensures stop { IfErr result (IsStopOf (λ place. dyadic_number f left.now right.now shape.now (index_at shape.now place)) (count_of shape.now)) }
+) -> Result<Array, OpFault>
+    requires { extended_shape left.now.shape right.now.shape ≡ Ok shape }
+    ensures { IsAnswerOf (answer_over f left.now right.now (Ok shape)) result }
 {
-    places_match_index_lists();
-    match (left.numbers(), right.numbers()) {
-        (Some(xs), Some(ys)) => {
-            let pairs = Pairs::new(left, xs, right, ys, shape);
-            fill_number_pairs(workers, f, &pairs)
+    if left.kind() != right.kind() {
+        places_match_index_lists();
+        return constant_array(workers, shape, compare(f, false));
+    }
+    match (left.elements(), right.elements()) {
+        (Elements::Truths(xs), Elements::Truths(ys)) => {
+            let pairs = Pairs::new(left, xs, right, ys, &shape);
+            fill_pairs(workers, f, shape, &pairs)
         }
-        (None, None) => {
-            let (Some(xs), Some(ys)) = (left.characters(), right.characters()) else {
+        (Elements::Characters(xs), Elements::Characters(ys)) => {
+            let pairs = Pairs::new(left, xs, right, ys, &shape);
+            fill_pairs(workers, f, shape, &pairs)
+        }
+        _ => {
+            let (Some(xs), Some(ys)) = (numbers_of(workers, left)?, numbers_of(workers, right)?)
+            else {
                 unreachable!()
             };
-            let pairs = Pairs::new(left, xs, right, ys, shape);
-            fill_character_pairs(workers, f, &pairs)
+            let pairs = Pairs::new(left, xs.as_slice(), right, ys.as_slice(), &shape);
+            fill_pairs(workers, f, shape, &pairs)
         }
-        _ => fill_uniform(workers, shape.count(), compare(f, false)),
     }
 }

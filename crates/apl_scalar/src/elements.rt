@@ -1,7 +1,8 @@
 //! The scalar functions of elements.
 ghost use Rattle.std.specs.Prelude.{◌≡◌, Bool, not, Ok, IsTrue};
+ghost use Rattle.apl_array.specs.Array.{bit};
 ghost use Rattle.apl_array.specs.Valences.{has_monadic, has_dyadic};
-ghost use Rattle.apl_scalar.specs.Scalar.{monadic_of, dyadic_of, compare_elements, identity_of, as_element, bit};
+ghost use Rattle.apl_scalar.specs.Scalar.{monadic_of, dyadic_of, compare_elements, identity_of, as_element};
 
 use crate::arithmetic::likely_value;
 use crate::function_types::Function;
@@ -12,12 +13,23 @@ use apl_pool::Fault;
 
 /// A monadic function of an element.
 #[inline(always)]
-fn monadic_element<F: Function>(x: Elem) -> Result<i64, Fault>
+pub(crate) fn monadic_element<F: Function>(x: Elem) -> Result<i64, Fault>
     ensures { result ≡ monadic_of F.FUNCTION x }
 {
     match x {
         Elem::Int(x) => F::apply_monadic(x),
         Elem::Chr(_) => Err(Fault::Domain),
+    }
+}
+
+/// A number, and the doubts whether it is the result of the monadic function of an element. It is if there are none.
+#[inline(always)]
+pub(crate) fn likely_element<F: Function>(x: Elem) -> (i64, u64)
+    ensures { result.1 ≡ 0 → monadic_of F.FUNCTION x ≡ Ok result.0 }
+{
+    match x {
+        Elem::Int(x) => F::likely_monadic(x),
+        Elem::Chr(_) => likely_value(Err(Fault::Domain)),
     }
 }
 

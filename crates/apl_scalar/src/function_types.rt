@@ -1,6 +1,8 @@
 //! The scalar functions, each a type of its own with its bodies. So a pass over an array is compiled for each
 //! function, and does not choose between functions at each element.
-ghost use Rattle.apl_scalar.specs.Scalar.{bit};
+ghost use Rattle.std.specs.Prelude.{◌≡◌};
+ghost use Rattle.apl_array.specs.Array.{bit};
+ghost use Rattle.apl_scalar.specs.Scalar.{is_truth_valued};
 
 use crate::arithmetic::{
     combinations, factorial, likely_difference, likely_magnitude, likely_power, likely_product,
@@ -77,6 +79,27 @@ pub(crate) fn has_dyadic_runs(f: ScalarFunction) -> bool {
         ScalarFunction::Divide
             | ScalarFunction::Stile
             | ScalarFunction::Bang
+            | ScalarFunction::Tilde
+    )
+}
+
+/// Whether all results of the function are 0 or 1, or faults.
+#[inline(always)]
+pub fn is_truth_valued(f: ScalarFunction) -> bool
+    ensures { result ≡ is_truth_valued f }
+{
+    matches!(
+        f,
+        ScalarFunction::And
+            | ScalarFunction::Or
+            | ScalarFunction::Nand
+            | ScalarFunction::Nor
+            | ScalarFunction::Less
+            | ScalarFunction::LessOrEqual
+            | ScalarFunction::Equal
+            | ScalarFunction::GreaterOrEqual
+            | ScalarFunction::Greater
+            | ScalarFunction::NotEqual
             | ScalarFunction::Tilde
     )
 }

@@ -1,37 +1,57 @@
 //! What a scalar function gives at each place.
-ghost use Rattle.std.specs.Prelude.{ℕ, ◌≤◌};
+ghost use Rattle.std.specs.Prelude.{◌≡◌, ℕ, ◌+◌, ◌<◌, ◌≤◌, length};
 ghost use Rattle.apl_pool.specs.declared.kernel.TheConstants.{MOST_PLACES};
+ghost use Rattle.apl_pool.specs.Runs.{AreWritten};
+ghost use Rattle.apl_scalar.specs.Scalar.{dyadic_of, monadic_of, truth_outcome};
 
-use crate::elements::{dyadic_elements, likely_elements};
+use crate::elements::{dyadic_elements, likely_element, likely_elements, monadic_element};
 use crate::function_types::{Function, has_dyadic_runs, has_monadic_runs};
 use crate::operands::Operand;
 use crate::runs::{Results, write_results};
+use crate::truth::is_one;
+use crate::with_type;
+use apl_array::ScalarFunction;
 use apl_pool::{Fault, Kernel};
 use std::marker::PhantomData;
 
-/// The results of a monadic function of numbers.
+/// The results of a monadic function of an argument.
 #[derive(Clone, Copy)]
-pub(crate) struct NumberResults<'a, F> {
-    pub numbers: &'a [i64],
-    pub function: PhantomData<F>,
+pub(crate) struct ElementResults<A, F> {
+    argument: A,
+    function: PhantomData<F>,
 }
 
-impl<F: Function + Copy> Results for NumberResults<'_, F> {
-    ghost use Rattle.std.specs.Prelude.{length, pos, slice_index_or};
-    ghost use Rattle.apl_scalar.specs.Scalar.{monadic_number};
+impl<A: Operand, F: Function + Copy> ElementResults<A, F> {
+    ghost use Rattle.std.specs.Prelude.{◌≡◌};
 
-    ghost served = { λ r. length r.numbers.now };
+    #[inline(always)]
+    pub(crate) fn new(argument: A) -> ElementResults<A, F>
+        ensures { result.argument ≡ argument }
+    {
+        ElementResults {
+            argument,
+            function: PhantomData,
+        }
+    }
+}
 
-    ghost outcome = { λ r place. monadic_number F.FUNCTION (slice_index_or r.numbers.now place (pos 0)) };
+impl<A: Operand, F: Function + Copy> Results for ElementResults<A, F> {
+    ghost use Rattle.apl_scalar.specs.Scalar.{monadic_of};
+
+    type Out = i64;
+
+    ghost served = { λ r. A.served r.argument };
+
+    ghost outcome = { λ r place. monadic_of F.FUNCTION (A.element r.argument place) };
 
     #[inline(always)]
     fn result_at(&self, place: usize) -> Result<i64, Fault> {
-        F::apply_monadic(self.numbers[place])
+        monadic_element::<F>(self.argument.at(place))
     }
 
     #[inline(always)]
     fn likely_at(&self, place: usize) -> (i64, u64) {
-        F::likely_monadic(self.numbers[place])
+        likely_element::<F>(self.argument.at(place))
     }
 
     #[inline(always)]
@@ -43,14 +63,32 @@ impl<F: Function + Copy> Results for NumberResults<'_, F> {
 /// The results of a dyadic function of two arguments.
 #[derive(Clone, Copy)]
 pub(crate) struct PairResults<L, R, F> {
-    pub left: L,
-    pub right: R,
-    pub function: PhantomData<F>,
+    left: L,
+    right: R,
+    function: PhantomData<F>,
+}
+
+impl<L: Operand, R: Operand, F: Function + Copy> PairResults<L, R, F> {
+    ghost use Rattle.std.specs.Prelude.{◌≡◌};
+
+    #[inline(always)]
+    pub(crate) fn new(left: L, right: R) -> PairResults<L, R, F>
+        ensures left { result.left ≡ left }
+        ensures right { result.right ≡ right }
+    {
+        PairResults {
+            left,
+            right,
+            function: PhantomData,
+        }
+    }
 }
 
 impl<L: Operand, R: Operand, F: Function + Copy> Results for PairResults<L, R, F> {
     ghost use Rattle.std.specs.Prelude.{min};
     ghost use Rattle.apl_scalar.specs.Scalar.{dyadic_of};
+
+    type Out = i64;
 
     ghost served = { λ r. min (L.served r.left) (R.served r.right) };
 
@@ -72,33 +110,300 @@ impl<L: Operand, R: Operand, F: Function + Copy> Results for PairResults<L, R, F
     }
 }
 
-/// The results at the first `count` places.
-#[derive(Drop)]
-pub(crate) struct ResultsKernel<P: Results> {
-    pub results: P,
-    pub count: usize,
-    ghost most: { count ≤ MOST_PLACES },
-    ghost served: { count ≤ P.served results },
+/// Results read as truth values, of which 1 is true.
+#[derive(Clone, Copy)]
+pub(crate) struct TruthResults<P>(pub P);
+
+impl<P: Results<Out = i64>> Results for TruthResults<P> {
+    ghost use Rattle.apl_scalar.specs.Scalar.{truth_outcome};
+
+    type Out = bool;
+
+    ghost served = { λ r. P.served r.0 };
+
+    ghost outcome = { λ r place. truth_outcome (P.outcome r.0 place) };
+
+    #[inline(always)]
+    fn result_at(&self, place: usize) -> Result<bool, Fault> {
+        Ok(is_one(self.0.result_at(place)?))
+    }
+
+    #[inline(always)]
+    fn likely_at(&self, place: usize) -> (bool, u64) {
+        let (value, doubts) = self.0.likely_at(place);
+        (is_one(value), doubts)
+    }
+
+    #[inline(always)]
+    fn have_runs() -> bool {
+        P::have_runs()
+    }
 }
 
-impl<P: Results> Kernel for ResultsKernel<P> {
+/// The results of a scalar function that is chosen anew for each run of places. So a pass of the pool is compiled once for all functions, and
+/// the loop over a run for each of them.
+pub(crate) trait Chosen: Copy {
+    ghost use Rattle.std.specs.Prelude.{◌≡◌, ◌+◌, ◌<◌, ◌≤◌, ℕ, ℤ, Result, length};
+    ghost use Rattle.apl_pool.specs.declared.kernel.Fault.{Fault};
+    ghost use Rattle.apl_pool.specs.declared.kernel.TheConstants.{MOST_PLACES};
+    ghost use Rattle.apl_pool.specs.Runs.{AreWritten};
+    ghost use Rattle.apl_scalar.specs.Scalar.{truth_outcome};
+
+    // How many places there are.
+    ghost served: { Self → ℕ };
+
+    // The result at a place.
+    ghost outcome: { Self → ℕ → Result ℤ Fault };
+
+    /// The result at a place.
+    fn result_at(&self, place: usize) -> Result<i64, Fault>
+        requires { place < served self.now }
+        ensures { result ≡ outcome self.now place };
+
+    /// Writes a run of results, as `write_results`.
+    fn write_numbers(&self, from: usize, to: usize, room: &mut [i64]) -> usize
+        requires order { from ≤ to }
+        requires places { to ≤ served self.now }
+        requires most { to ≤ MOST_PLACES }
+        requires room { to ≤ from + length room.old }
+        ensures order { from ≤ result }
+        ensures within { result ≤ to }
+        ensures values { AreWritten (outcome self.now) from result room.new }
+        ensures len { length room.new ≡ length room.old };
+
+    /// The same, of results that are read as truth values.
+    fn write_truths(&self, from: usize, to: usize, room: &mut [bool]) -> usize
+        requires order { from ≤ to }
+        requires places { to ≤ served self.now }
+        requires most { to ≤ MOST_PLACES }
+        requires room { to ≤ from + length room.old }
+        ensures order { from ≤ result }
+        ensures within { result ≤ to }
+        ensures values { AreWritten (λ place. truth_outcome (outcome self.now place)) from result room.new }
+        ensures len { length room.new ≡ length room.old };
+}
+
+/// The results of a monadic function of an argument.
+#[derive(Clone, Copy)]
+pub(crate) struct OfElements<A> {
+    pub f: ScalarFunction,
+    pub argument: A,
+}
+
+fn element_at<F: Function, A: Operand>(argument: A, place: usize) -> Result<i64, Fault>
+    requires { place < A.served argument }
+    ensures { result ≡ monadic_of F.FUNCTION (A.element argument place) }
+{
+    monadic_element::<F>(argument.at(place))
+}
+
+fn write_elements<F: Function + Copy, A: Operand>(
+    argument: A,
+    from: usize,
+    to: usize,
+    room: &mut [i64],
+) -> usize
+    requires order { from ≤ to }
+    requires places { to ≤ A.served argument }
+    requires most { to ≤ MOST_PLACES }
+    requires room { to ≤ from + length room.old }
+    ensures order { from ≤ result }
+    ensures within { result ≤ to }
+    ensures values { AreWritten (λ place. monadic_of F.FUNCTION (A.element argument place)) from result room.new }
+    ensures len { length room.new ≡ length room.old }
+{
+    write_results(ElementResults::<A, F>::new(argument), from, to, room)
+}
+
+fn write_truth_elements<F: Function + Copy, A: Operand>(
+    argument: A,
+    from: usize,
+    to: usize,
+    room: &mut [bool],
+) -> usize
+    requires order { from ≤ to }
+    requires places { to ≤ A.served argument }
+    requires most { to ≤ MOST_PLACES }
+    requires room { to ≤ from + length room.old }
+    ensures order { from ≤ result }
+    ensures within { result ≤ to }
+    ensures values { AreWritten (λ place. truth_outcome (monadic_of F.FUNCTION (A.element argument place))) from result room.new }
+    ensures len { length room.new ≡ length room.old }
+{
+    let results = ElementResults::<A, F>::new(argument);
+    write_results(TruthResults(results), from, to, room)
+}
+
+impl<A: Operand> Chosen for OfElements<A> {
+    ghost use Rattle.apl_scalar.specs.Scalar.{monadic_of};
+
+    ghost served = { λ r. A.served r.argument };
+
+    ghost outcome = { λ r place. monadic_of r.f (A.element r.argument place) };
+
+    fn result_at(&self, place: usize) -> Result<i64, Fault> {
+        with_type!(self.f, element_at::<F, A>(self.argument, place))
+    }
+
+    fn write_numbers(&self, from: usize, to: usize, room: &mut [i64]) -> usize {
+        with_type!(
+            self.f,
+            write_elements::<F, A>(self.argument, from, to, room)
+        )
+    }
+
+    fn write_truths(&self, from: usize, to: usize, room: &mut [bool]) -> usize {
+        with_type!(
+            self.f,
+            write_truth_elements::<F, A>(self.argument, from, to, room)
+        )
+    }
+}
+
+/// The results of a dyadic function of two arguments.
+#[derive(Clone, Copy)]
+pub(crate) struct OfPairs<L, R> {
+    pub f: ScalarFunction,
+    pub left: L,
+    pub right: R,
+}
+
+fn pair_at<F: Function, L: Operand, R: Operand>(
+    left: L,
+    right: R,
+    place: usize,
+) -> Result<i64, Fault>
+    requires left { place < L.served left }
+    requires right { place < R.served right }
+    ensures { result ≡ dyadic_of F.FUNCTION (L.element left place) (R.element right place) }
+{
+    dyadic_elements::<F>(left.at(place), right.at(place))
+}
+
+fn write_pairs<F: Function + Copy, L: Operand, R: Operand>(
+    left: L,
+    right: R,
+    from: usize,
+    to: usize,
+    room: &mut [i64],
+) -> usize
+    requires order { from ≤ to }
+    requires left { to ≤ L.served left }
+    requires right { to ≤ R.served right }
+    requires most { to ≤ MOST_PLACES }
+    requires room { to ≤ from + length room.old }
+    ensures order { from ≤ result }
+    ensures within { result ≤ to }
+    ensures values { AreWritten (λ place. dyadic_of F.FUNCTION (L.element left place) (R.element right place)) from result room.new }
+    ensures len { length room.new ≡ length room.old }
+{
+    write_results(PairResults::<L, R, F>::new(left, right), from, to, room)
+}
+
+fn write_truth_pairs<F: Function + Copy, L: Operand, R: Operand>(
+    left: L,
+    right: R,
+    from: usize,
+    to: usize,
+    room: &mut [bool],
+) -> usize
+    requires order { from ≤ to }
+    requires left { to ≤ L.served left }
+    requires right { to ≤ R.served right }
+    requires most { to ≤ MOST_PLACES }
+    requires room { to ≤ from + length room.old }
+    ensures order { from ≤ result }
+    ensures within { result ≤ to }
+    ensures values { AreWritten (λ place. truth_outcome (dyadic_of F.FUNCTION (L.element left place) (R.element right place))) from result room.new }
+    ensures len { length room.new ≡ length room.old }
+{
+    let results = PairResults::<L, R, F>::new(left, right);
+    write_results(TruthResults(results), from, to, room)
+}
+
+impl<L: Operand, R: Operand> Chosen for OfPairs<L, R> {
+    ghost use Rattle.std.specs.Prelude.{min};
+    ghost use Rattle.apl_scalar.specs.Scalar.{dyadic_of};
+
+    ghost served = { λ r. min (L.served r.left) (R.served r.right) };
+
+    ghost outcome = { λ r place. dyadic_of r.f (L.element r.left place) (R.element r.right place) };
+
+    fn result_at(&self, place: usize) -> Result<i64, Fault> {
+        with_type!(self.f, pair_at::<F, L, R>(self.left, self.right, place))
+    }
+
+    fn write_numbers(&self, from: usize, to: usize, room: &mut [i64]) -> usize {
+        with_type!(
+            self.f,
+            write_pairs::<F, L, R>(self.left, self.right, from, to, room)
+        )
+    }
+
+    fn write_truths(&self, from: usize, to: usize, room: &mut [bool]) -> usize {
+        with_type!(
+            self.f,
+            write_truth_pairs::<F, L, R>(self.left, self.right, from, to, room)
+        )
+    }
+}
+
+/// The results at the first `count` places, as numbers.
+#[derive(Drop)]
+pub(crate) struct NumberKernel<C: Chosen> {
+    pub results: C,
+    pub count: usize,
+    ghost most: { count ≤ MOST_PLACES },
+    ghost served: { count ≤ C.served results },
+}
+
+impl<C: Chosen> Kernel for NumberKernel<C> {
     type Out = i64;
 
     ghost place_count = { λ k. k.count };
 
-    ghost outcome = { λ k place. P.outcome k.results place };
+    ghost outcome = { λ k place. C.outcome k.results place };
 
     fn count(&self) -> usize {
         self.count
     }
 
-    #[inline(always)]
     fn at(&self, place: usize) -> Result<i64, Fault> {
         self.results.result_at(place)
     }
 
-    #[inline(always)]
     fn write_run(&self, from: usize, to: usize, room: &mut [i64]) -> usize {
-        write_results(self.results, from, to, room)
+        self.results.write_numbers(from, to, room)
+    }
+}
+
+/// The results at the first `count` places, as truth values, of which 1 is true.
+#[derive(Drop)]
+pub(crate) struct TruthKernel<C: Chosen> {
+    pub results: C,
+    pub count: usize,
+    ghost most: { count ≤ MOST_PLACES },
+    ghost served: { count ≤ C.served results },
+}
+
+impl<C: Chosen> Kernel for TruthKernel<C> {
+    ghost use Rattle.apl_scalar.specs.Scalar.{truth_outcome};
+
+    type Out = bool;
+
+    ghost place_count = { λ k. k.count };
+
+    ghost outcome = { λ k place. truth_outcome (C.outcome k.results place) };
+
+    fn count(&self) -> usize {
+        self.count
+    }
+
+    fn at(&self, place: usize) -> Result<bool, Fault> {
+        Ok(is_one(self.results.result_at(place)?))
+    }
+
+    fn write_run(&self, from: usize, to: usize, room: &mut [bool]) -> usize {
+        self.results.write_truths(from, to, room)
     }
 }

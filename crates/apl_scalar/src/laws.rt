@@ -1,10 +1,11 @@
 //! What is true of all answers, each law the contract of a function that does nothing.
-ghost use Rattle.std.specs.Prelude.{◌≡◌, Ok, IfOk};
+ghost use Rattle.std.specs.Prelude.{◌≡◌, Ok, IfOk, IsTrue};
 ghost use Rattle.apl_array.specs.declared.array.Elem.{Elem};
-ghost use Rattle.apl_array.specs.Array.{ArrayValue};
+ghost use Rattle.apl_array.specs.Array.{ArrayValue, truth_element};
 ghost use Rattle.apl_array.specs.Range.{IsInRange, IsElementInRange, HasNumbersInRange};
 ghost use Rattle.apl_array.specs.Limits.{IsWithinLimits};
-ghost use Rattle.apl_scalar.specs.Scalar.{monadic_of, dyadic_of};
+ghost use Rattle.apl_answer.specs.Elements.{element_outcome};
+ghost use Rattle.apl_scalar.specs.Scalar.{monadic_of, dyadic_of, as_element, is_truth_valued, truth_outcome};
 ghost use Rattle.apl_scalar.specs.Monadic.{monadic_answer};
 ghost use Rattle.apl_scalar.specs.Dyadic.{dyadic_answer};
 ghost use Rattle.apl_array.specs.declared.function.ScalarFunction.{ScalarFunction};
@@ -35,3 +36,11 @@ pub fn answers_are_within_limits()
     range_is_decided();
     answer_is_within_limits();
 }
+
+/// The results of a truth-valued function are the same elements if they are read as truth values.
+pub fn truth_values_are_results()
+    ensures monadic { (f : ScalarFunction) (x : Elem) → IsTrue (is_truth_valued f)
+        → element_outcome truth_element (truth_outcome (monadic_of f x)) ≡ as_element (monadic_of f x) }
+    ensures dyadic { (f : ScalarFunction) (x y : Elem) → IsTrue (is_truth_valued f)
+        → element_outcome truth_element (truth_outcome (dyadic_of f x y)) ≡ as_element (dyadic_of f x y) }
+{}

@@ -24,5 +24,6 @@ pub use apl_answer::{OpFault, answer_is_each_outcome};
 pub use apl_array::ScalarFunction as Prim;
 pub use arrays::{dyadic, monadic};
 pub use elements::{apply1, apply2, dyadic_elements, identity};
-pub use laws::{answers_are_in_range, answers_are_within_limits};
-pub use rows::write_pairs;
+pub use function_types::is_truth_valued;
+pub use laws::{answers_are_in_range, answers_are_within_limits, truth_values_are_results};
+pub use rows::{write_pairs, write_truth_pairs};

@@ -1,117 +1,88 @@
-//! The passes over numbers and over characters, one compiled for each function.
-ghost use Rattle.std.specs.Prelude.{◌≡◌, ℕ, pos, ◌≤◌, length, IfOk, IfErr, slice_index_or};
-ghost use Rattle.apl_pool.specs.declared.kernel.TheConstants.{MOST_PLACES};
-ghost use Rattle.apl_array.specs.declared.array.Elem.TheVariants.{Int, Chr};
-ghost use Rattle.apl_pool.specs.Pool.{AreValues, IsStopOf};
-ghost use Rattle.apl_scalar.specs.Scalar.{monadic_number, dyadic_of};
+//! The passes over arguments, one compiled for each type of their elements and each way to extend them.
+ghost use Rattle.std.specs.Prelude.{◌≡◌, ℕ, pos, ◌≤◌, ◌<◌, length, map, slice_index_or, IsTrue};
+ghost use Rattle.apl_array.specs.declared.array.Elem.TheVariants.{Int};
+ghost use Rattle.apl_array.specs.declared.array.Kind.TheVariants.{Number};
+ghost use Rattle.apl_array.specs.Array.{truth_element};
+ghost use Rattle.apl_array.specs.Shape.{count_of};
+ghost use Rattle.apl_answer.specs.Elements.{element_outcome};
+ghost use Rattle.apl_answer.specs.Pointwise.{IsAnswerAt};
+ghost use Rattle.apl_scalar.specs.Scalar.{as_element, dyadic_of, is_truth_valued, monadic_of, truth_outcome};
 ghost use Rattle.apl_scalar.specs.Pairs.{pair_in};
 
-use crate::function_types::{Equal, Function, NotEqual};
-use crate::kernels::{NumberResults, PairResults, ResultsKernel};
+use crate::function_types::is_truth_valued;
+use crate::kernels::{Chosen, NumberKernel, OfElements, OfPairs, TruthKernel};
+use crate::laws::truth_values_are_results;
 use crate::operands::{Operand, Pairs, Value, Whole};
-use crate::with_type;
-use apl_answer::{ElementType, fill_uniform};
-use apl_array::ScalarFunction;
-use apl_pool::{Crew, Fault, Stop, fill};
-use std::marker::PhantomData;
+use apl_answer::{ElementType, OpFault, fill_array};
+use apl_array::{Array, ScalarFunction, Shape};
+use apl_pool::Crew;
 
-fn fill_each<F: Function + Copy + Sync, W: Crew>(
+/// The array of results at all places of a shape. Those of a truth-valued function are held as truth values.
+fn fill_results<C: Chosen + Sync, W: Crew>(
     workers: &W,
-    numbers: &[i64],
-) -> Result<Vec<i64>, Stop>
-    requires { length numbers.now ≤ MOST_PLACES }
-    ensures values { IfOk result (λ v. AreValues (λ place. monadic_number F.FUNCTION (slice_index_or numbers.now place (pos 0))) (length numbers.now) v.items) }
-    ensures stop { IfErr result (IsStopOf (λ place. monadic_number F.FUNCTION (slice_index_or numbers.now place (pos 0))) (length numbers.now)) }
+    f: ScalarFunction,
+    shape: Shape,
+    results: C,
+) -> Result<Array, OpFault>
+    requires places { count_of shape ≤ C.served results }
+    requires truths { IsTrue (is_truth_valued f) → (place : ℕ) → place < count_of shape
+        → element_outcome truth_element (truth_outcome (C.outcome results place)) ≡ as_element (C.outcome results place) }
+    ensures { IsAnswerAt shape Number (λ place. as_element (C.outcome results place)) result }
 {
-    let results = NumberResults::<F> {
-        numbers,
-        function: PhantomData,
-    };
-    let kernel = ResultsKernel {
-        results,
-        count: numbers.len(),
-    };
-    fill(workers, &kernel)
-}
-
-fn fill_operands<F: Function + Copy + Sync, A: Operand + Sync, B: Operand + Sync, W: Crew>(
-    workers: &W,
-    left: A,
-    right: B,
-    count: usize,
-) -> Result<Vec<i64>, Stop>
-    requires most { count ≤ MOST_PLACES }
-    requires left { count ≤ A.served left }
-    requires right { count ≤ B.served right }
-    ensures values { IfOk result (λ v. AreValues (λ place. dyadic_of F.FUNCTION (A.element left place) (B.element right place)) count v.items) }
-    ensures stop { IfErr result (IsStopOf (λ place. dyadic_of F.FUNCTION (A.element left place) (B.element right place)) count) }
-{
-    let results = PairResults::<A, B, F> {
-        left,
-        right,
-        function: PhantomData,
-    };
-    let kernel = ResultsKernel { results, count };
-    fill(workers, &kernel)
-}
-
-/// A pass is compiled for each way in which the arguments may be extended.
-fn fill_pairs<F: Function + Copy + Sync, T: ElementType + Sync, W: Crew>(
-    workers: &W,
-    pairs: &Pairs<T>,
-) -> Result<Vec<i64>, Stop>
-    ensures values { IfOk result (λ v. AreValues (pair_in F.FUNCTION T.elem_of pairs.now) pairs.now.count v.items) }
-    ensures stop { IfErr result (IsStopOf (pair_in F.FUNCTION T.elem_of pairs.now) pairs.now.count) }
-{
-    let (left, right) = (Whole(pairs.left), Whole(pairs.right));
-    if pairs.left_is_whole && pairs.right_is_whole {
-        fill_operands::<F, Whole<T>, Whole<T>, W>(workers, left, right, pairs.count)
-    } else if pairs.left_is_whole {
-        let right = Value(pairs.right[0]);
-        fill_operands::<F, Whole<T>, Value<T>, W>(workers, left, right, pairs.count)
+    let count = shape.count();
+    if is_truth_valued(f) {
+        fill_array(workers, shape, &TruthKernel { results, count })
     } else {
-        let left = Value(pairs.left[0]);
-        fill_operands::<F, Value<T>, Whole<T>, W>(workers, left, right, pairs.count)
+        fill_array(workers, shape, &NumberKernel { results, count })
     }
 }
 
-/// A monadic function of each number.
-pub(crate) fn fill_numbers<W: Crew>(
+/// A monadic function of each element, which is a number or a truth value.
+pub(crate) fn fill_elements<T: ElementType + Sync, W: Crew>(
     workers: &W,
     f: ScalarFunction,
-    numbers: &[i64],
-) -> Result<Vec<i64>, Stop>
-    requires { length numbers.now ≤ MOST_PLACES }
-    ensures values { IfOk result (λ v. AreValues (λ place. monadic_number f (slice_index_or numbers.now place (pos 0))) (length numbers.now) v.items) }
-    ensures stop { IfErr result (IsStopOf (λ place. monadic_number f (slice_index_or numbers.now place (pos 0))) (length numbers.now)) }
+    shape: Shape,
+    elements: &[T],
+) -> Result<Array, OpFault>
+    requires { length elements.now ≡ count_of shape }
+    ensures { IsAnswerAt shape Number (λ place. as_element (monadic_of f (slice_index_or (map T.elem_of elements.now) place (Int (pos 0))))) result }
 {
-    with_type!(f, fill_each::<F, W>(workers, numbers))
+    truth_values_are_results();
+    let argument = Whole(elements);
+    fill_results(workers, f, shape, OfElements { f, argument })
 }
 
-/// A dyadic function of each pair of numbers.
-pub(crate) fn fill_number_pairs<W: Crew>(
+fn fill_operands<A: Operand + Sync, B: Operand + Sync, W: Crew>(
     workers: &W,
     f: ScalarFunction,
-    pairs: &Pairs<i64>,
-) -> Result<Vec<i64>, Stop>
-    ensures values { IfOk result (λ v. AreValues (pair_in f Int pairs.now) pairs.now.count v.items) }
-    ensures stop { IfErr result (IsStopOf (pair_in f Int pairs.now) pairs.now.count) }
+    shape: Shape,
+    left: A,
+    right: B,
+) -> Result<Array, OpFault>
+    requires left { count_of shape ≤ A.served left }
+    requires right { count_of shape ≤ B.served right }
+    ensures { IsAnswerAt shape Number (λ place. as_element (dyadic_of f (A.element left place) (B.element right place))) result }
 {
-    with_type!(f, fill_pairs::<F, i64, W>(workers, pairs))
+    truth_values_are_results();
+    fill_results(workers, f, shape, OfPairs { f, left, right })
 }
 
-/// A dyadic function of each pair of characters.
-pub(crate) fn fill_character_pairs<W: Crew>(
+/// A dyadic function of each pair of elements of one type. A pass is compiled for each way in which the arguments may be extended.
+pub(crate) fn fill_pairs<T: ElementType + Sync, W: Crew>(
     workers: &W,
     f: ScalarFunction,
-    pairs: &Pairs<char>,
-) -> Result<Vec<i64>, Stop>
-    ensures values { IfOk result (λ v. AreValues (pair_in f Chr pairs.now) pairs.now.count v.items) }
-    ensures stop { IfErr result (IsStopOf (pair_in f Chr pairs.now) pairs.now.count) }
+    shape: Shape,
+    pairs: &Pairs<T>,
+) -> Result<Array, OpFault>
+    requires { pairs.now.count ≡ count_of shape }
+    ensures { IsAnswerAt shape Number (λ place. as_element (pair_in f T.elem_of pairs.now place)) result }
 {
-    match f {
-        ScalarFunction::Equal => fill_pairs::<Equal, char, W>(workers, pairs),
-        ScalarFunction::NotEqual => fill_pairs::<NotEqual, char, W>(workers, pairs),
-        _ => fill_uniform(workers, pairs.count, Err(Fault::Domain)),
+    let (left, right) = (Whole(pairs.left), Whole(pairs.right));
+    if pairs.left_is_whole && pairs.right_is_whole {
+        fill_operands(workers, f, shape, left, right)
+    } else if pairs.left_is_whole {
+        fill_operands(workers, f, shape, left, Value(pairs.right[0]))
+    } else {
+        fill_operands(workers, f, shape, Value(pairs.left[0]), right)
     }
 }

@@ -10,22 +10,25 @@ const LONGEST_RUN: usize = 1024;
 
 /// The results of a scalar function at places. They are passed by value, so that a loop that writes reads no pointer anew.
 pub(crate) trait Results: Copy {
-    ghost use Rattle.std.specs.Prelude.{◌≡◌, ◌<◌, ℕ, ℤ, Result, Ok};
+    ghost use Rattle.std.specs.Prelude.{◌≡◌, ◌<◌, ℕ, Result, Ok};
     ghost use Rattle.apl_pool.specs.declared.kernel.Fault.{Fault};
+
+    /// The type of the results.
+    type Out: Copy;
 
     // How many places there are.
     ghost served: { Self → ℕ };
 
     // The result at a place.
-    ghost outcome: { Self → ℕ → Result ℤ Fault };
+    ghost outcome: { Self → ℕ → Result Self.Out Fault };
 
     /// The result at a place.
-    fn result_at(&self, place: usize) -> Result<i64, Fault>
+    fn result_at(&self, place: usize) -> Result<Self::Out, Fault>
         requires { place < served self.now }
         ensures { result ≡ outcome self.now place };
 
-    /// A number, and the doubts whether it is the result at a place. It is if there are none.
-    fn likely_at(&self, place: usize) -> (i64, u64)
+    /// A value, and the doubts whether it is the result at a place. It is if there are none.
+    fn likely_at(&self, place: usize) -> (Self::Out, u64)
         requires { place < served self.now }
         ensures { result.1 ≡ 0 → outcome self.now place ≡ Ok result.0 };
 
@@ -35,7 +38,7 @@ pub(crate) trait Results: Copy {
 
 /// Writes the likely results into the room for the places from `from` on. It answers whether all are sure.
 #[inline(always)]
-fn write_likely<P: Results>(results: P, from: usize, count: usize, room: &mut [i64]) -> bool
+fn write_likely<P: Results>(results: P, from: usize, count: usize, room: &mut [P::Out]) -> bool
     requires places { from + count ≤ P.served results }
     requires most { from + count ≤ MOST_PLACES }
     requires room { count ≤ length room.old }
@@ -62,7 +65,7 @@ fn write_some<P: Results>(
     from: usize,
     done: usize,
     count: usize,
-    room: &mut [i64],
+    room: &mut [P::Out],
 ) -> usize
     requires places { from + done + count ≤ P.served results }
     requires most { from + done + count ≤ MOST_PLACES }
@@ -85,7 +88,12 @@ fn write_some<P: Results>(
 
 /// Writes results into the room for the places from `from` on, one by one. It answers the place of the first fault,
 /// or where the places end.
-fn write_before_fault<P: Results>(results: P, from: usize, count: usize, room: &mut [i64]) -> usize
+fn write_before_fault<P: Results>(
+    results: P,
+    from: usize,
+    count: usize,
+    room: &mut [P::Out],
+) -> usize
     requires places { from + count ≤ P.served results }
     requires most { from + count ≤ MOST_PLACES }
     requires room { count ≤ length room.old }
@@ -112,7 +120,7 @@ pub(crate) fn write_results<P: Results>(
     results: P,
     from: usize,
     to: usize,
-    room: &mut [i64],
+    room: &mut [P::Out],
 ) -> usize
     requires order { from ≤ to }
     requires places { to ≤ P.served results }

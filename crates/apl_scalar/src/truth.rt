@@ -1,8 +1,9 @@
 //! The functions of truth values, of which 1 is true and 0 is false. Tests are joined by `&` and `|`, without branches.
 ghost use Rattle.std.specs.Prelude.{◌≡◌, true, Ok, Err, ◌&&◌, ◌||◌, not, if◌then◌else◌};
 ghost use Rattle.apl_pool.specs.declared.kernel.Fault.TheVariants.{Domain};
+ghost use Rattle.apl_array.specs.Array.{bit};
 ghost use Rattle.apl_answer.specs.Arguments.{is_bit};
-ghost use Rattle.apl_scalar.specs.Scalar.{bit, is_one, logical, negation};
+ghost use Rattle.apl_scalar.specs.Scalar.{is_one, logical, negation};
 
 use apl_pool::Fault;
 
@@ -21,7 +22,7 @@ fn is_bit(x: i64) -> bool
 }
 
 #[inline(always)]
-fn is_one(x: i64) -> bool
+pub(crate) fn is_one(x: i64) -> bool
     ensures { result ≡ is_one x }
 {
     x == 1

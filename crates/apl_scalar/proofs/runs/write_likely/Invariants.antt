@@ -1,8 +1,8 @@
-use Rattle.std.proofs.Common.{◌≡◌, ℕ, ℤ, ◌+◌, ◌<◌, Ok, length, slice_index_or}
+use Rattle.std.proofs.Common.{◌≡◌, ℕ, ◌+◌, ◌<◌, Ok, length, slice_index_or}
 use Rattle.apl_scalar.proofs.runs.write_likely.Given as goal
 
 abbrev pub invariant-loop-k : goal.invariant-loop-k
 invariant-loop-k g l = record {
-  sure : l.all_doubts ≡ 0 → (k : ℕ) (d : ℤ) → k < l.k → g.P.Results.outcome l.results (l.from + k) ≡ Ok (slice_index_or l.room k d);
+  sure : l.all_doubts ≡ 0 → (k : ℕ) (d : _) → k < l.k → g.P.Results.outcome l.results (l.from + k) ≡ Ok (slice_index_or l.room k d);
   len : length l.room ≡ length l.initial.room;
 }
