@@ -22,6 +22,6 @@ abbrev pub ArePlacesFrom : List ℤ → ℤ → ℕ → List ℕ → Type 0
 ArePlacesFrom numbers least from places = (k d : ℕ) → k < length places → slice_index_or places k d ≡ from + place_of (drop from numbers) (least +ℤ pos k)
 
 -- replies to the first numbers of a list, each by its place in a table
-abbrev pub AreReplies : (ℕ → ℕ) → ℤ → List ℕ → List ℤ → ℕ → List ℤ → Type 0
-AreReplies number least places keys count replies =
-    (numbers : List ℤ) → IsTable numbers least places → (k : ℕ) (d : ℤ) → k < count → slice_index_or replies k d ≡ pos (number (place_of numbers (slice_index_or keys k (pos 0))))
+abbrev pub AreReplies : {V : Type 0} → (ℕ → V) → ℤ → List ℕ → List ℤ → ℕ → List V → Type 0
+AreReplies {V = V} value least places keys count replies =
+    (numbers : List ℤ) → IsTable numbers least places → (k : ℕ) (d : V) → k < count → slice_index_or replies k d ≡ value (place_of numbers (slice_index_or keys k (pos 0)))

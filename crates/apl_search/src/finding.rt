@@ -127,12 +127,12 @@ impl<'a, T: Searchable> Finder<'a, T> {
         &self,
         elements: &[T],
         reply: R,
-        room: &mut [i64],
+        room: &mut [R::Value],
     ) -> usize
         requires room { length elements.now ≤ length room.old }
         ensures within { result ≤ length elements.now }
         ensures values { let list = map T.elem_of self.now.elements.now in
-            AreWritten (λ k. Ok (pos (R.number reply (length list) (first_place list (element_of (map T.elem_of elements.now) k))))) 0 result room.new }
+            AreWritten (λ k. Ok (R.value reply (length list) (first_place list (element_of (map T.elem_of elements.now) k)))) 0 result room.new }
         ensures len { length room.new ≡ length room.old }
     {
         T::key_decides();

@@ -8,15 +8,18 @@ use crate::table::Entries;
 
 /// What is answered of an element by its first place in a list.
 pub(crate) trait Reply: Copy {
-    ghost use Rattle.std.specs.Prelude.{◌≡◌, ℕ, ◌<◌, ◌^◌, pos};
+    ghost use Rattle.std.specs.Prelude.{◌≡◌, ℕ, ◌<◌, ◌^◌};
 
-    // The number for a count of elements and a place.
-    ghost number: { Self → ℕ → ℕ → ℕ };
+    /// The type of what is answered.
+    type Value: Copy;
 
-    /// The number for a list of so many elements, and a place or their count.
-    fn number(self, count: usize, place: usize) -> i64
+    // The value for a count of elements and a place.
+    ghost value: { Self → ℕ → ℕ → Self.Value };
+
+    /// The value for a list of so many elements, and a place or their count.
+    fn value(self, count: usize, place: usize) -> Self::Value
         requires { place < 2 ^ 32 }
-        ensures { result ≡ pos (number self count place) };
+        ensures { result ≡ value self count place };
 }
 
 /// Writes what is answered of each element into the room for it. The entries are those of a list of `count` elements.
@@ -26,16 +29,16 @@ pub(crate) fn write_replies<T: Keyed, R: Reply>(
     count: usize,
     elements: &[T],
     reply: R,
-    room: &mut [i64],
+    room: &mut [R::Value],
 )
     requires room { length elements.now ≤ length room.old }
-    ensures values { AreReplies (R.number reply count) entries.entry.least entries.entry.places.now (map T.key elements.now) (length elements.now) room.new }
+    ensures values { AreReplies (R.value reply count) entries.entry.least entries.entry.places.now (map T.key elements.now) (length elements.now) room.new }
     ensures len { length room.new ≡ length room.old }
 {
-    let number = |k: usize| -> i64
+    let value = |k: usize| -> R::Value
         requires { k < length elements.now }
         ensures { (numbers : List ℤ) → IsTable numbers entries.entry.least entries.entry.places.now
-            → result ≡ pos (R.number reply count (place_of numbers (slice_index_or (map T.key elements.entry.now) k (pos 0)))) }
-    { reply.number(count, entries.place(elements[k].key())) };
-    write_each(elements.len(), number, room);
+            → result ≡ R.value reply count (place_of numbers (slice_index_or (map T.key elements.entry.now) k (pos 0))) }
+    { reply.value(count, entries.place(elements[k].key())) };
+    write_each(elements.len(), value, room);
 }

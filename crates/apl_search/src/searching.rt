@@ -11,8 +11,8 @@ ghost use Rattle.apl_search.specs.Searching.{index_of_row, member_row};
 
 use crate::finding::{Finder, Searchable};
 use crate::replies::Reply;
-use apl_answer::{OpFault, constant_array, fill_array};
-use apl_array::{Array, Origin, places_match_index_lists};
+use apl_answer::{OpFault, constant_array, fill_array, numbers_of};
+use apl_array::{Array, Elements, Origin, places_match_index_lists};
 use apl_pool::{Crew, Cut, Fault, Gate, Kernel, Pool, Workers};
 use std::alloc::Global;
 use std::thread::Threads;
@@ -25,28 +25,32 @@ struct PlaceFrom {
 }
 
 impl Reply for PlaceFrom {
-    ghost use Rattle.std.specs.Prelude.{◌+◌};
+    ghost use Rattle.std.specs.Prelude.{◌+◌, pos};
 
-    ghost number = { λ r count place. r.first + place };
+    type Value = i64;
+
+    ghost value = { λ r count place. pos (r.first + place) };
 
     #[inline(always)]
-    fn number(self, _count: usize, place: usize) -> i64 {
+    fn value(self, _count: usize, place: usize) -> i64 {
         (self.first + place) as i64
     }
 }
 
-/// 1 for an element that has a place, else 0.
+/// Whether an element has a place.
 #[derive(Clone, Copy, Drop)]
-struct OneIfFound;
+struct IsFound;
 
-impl Reply for OneIfFound {
-    ghost use Rattle.std.specs.Prelude.{nat_lt, if◌then◌else◌};
+impl Reply for IsFound {
+    ghost use Rattle.std.specs.Prelude.{nat_lt};
 
-    ghost number = { λ r count place. if nat_lt place count then 1 else 0 };
+    type Value = bool;
+
+    ghost value = { λ r count place. nat_lt place count };
 
     #[inline(always)]
-    fn number(self, count: usize, place: usize) -> i64 {
-        i64::from(place < count)
+    fn value(self, count: usize, place: usize) -> bool {
+        place < count
     }
 }
 
@@ -60,27 +64,27 @@ struct Searched<'a, T: Searchable, R: Reply> {
 }
 
 impl<T: Searchable, R: Reply> Kernel for Searched<'_, T, R> {
-    ghost use Rattle.std.specs.Prelude.{Ok, pos, length};
+    ghost use Rattle.std.specs.Prelude.{Ok, length};
     ghost use Rattle.apl_search.specs.Finding.{first_place, element_of};
 
-    type Out = i64;
+    type Out = R::Value;
 
     ghost place_count = { λ k. length k.elements.now };
 
-    ghost outcome = { λ k place. Ok (pos (R.number k.reply (length (map T.elem_of k.list.elements.now)) (first_place (map T.elem_of k.list.elements.now) (element_of (map T.elem_of k.elements.now) place)))) };
+    ghost outcome = { λ k place. Ok (R.value k.reply (length (map T.elem_of k.list.elements.now)) (first_place (map T.elem_of k.list.elements.now) (element_of (map T.elem_of k.elements.now) place))) };
 
     fn count(&self) -> usize {
         self.elements.len()
     }
 
     #[inline(always)]
-    fn at(&self, place: usize) -> Result<i64, Fault> {
+    fn at(&self, place: usize) -> Result<R::Value, Fault> {
         let found = self.list.place(self.elements[place]);
-        Ok(self.reply.number(self.list.count(), found))
+        Ok(self.reply.value(self.list.count(), found))
     }
 
     #[inline(always)]
-    fn write_run(&self, from: usize, to: usize, room: &mut [i64]) -> usize {
+    fn write_run(&self, from: usize, to: usize, room: &mut [R::Value]) -> usize {
         from + self
             .list
             .write_replies(&self.elements[from..to], self.reply, room)
@@ -128,7 +132,7 @@ fn membership<T: Searchable + Sync, W: Crew>(
     let kernel = Searched {
         elements,
         list,
-        reply: OneIfFound,
+        reply: IsFound,
     };
     fill_array(workers, shape, &kernel)
 }
@@ -161,16 +165,16 @@ pub fn index_of<R: Threads + Sync, C: Cut + Sync, G: Gate + Sync>(
     }
     places_match_index_lists();
     let past = origin.number() as usize + a.shape().count();
-    if let Some(list) = a.numbers() {
-        let Some(elements) = b.numbers() else {
+    if let Some(list) = numbers_of(&workers, a)? {
+        let Some(elements) = numbers_of(&workers, b)? else {
             return same_everywhere(&workers, b, past);
         };
-        return first_places(&workers, list, b, elements, origin);
+        return first_places(&workers, list.as_slice(), b, elements.as_slice(), origin);
     }
-    let Some(list) = a.characters() else {
+    let Elements::Characters(list) = a.elements() else {
         unreachable!()
     };
-    let Some(elements) = b.characters() else {
+    let Elements::Characters(elements) = b.elements() else {
         return same_everywhere(&workers, b, past);
     };
     first_places(&workers, list, b, elements, origin)
@@ -190,16 +194,16 @@ pub fn member<R: Threads + Sync, C: Cut + Sync, G: Gate + Sync>(
 {
     let workers = Workers { rt, alloc, pool };
     places_match_index_lists();
-    if let Some(list) = b.numbers() {
-        let Some(elements) = a.numbers() else {
+    if let Some(list) = numbers_of(&workers, b)? {
+        let Some(elements) = numbers_of(&workers, a)? else {
             return same_everywhere(&workers, a, 0);
         };
-        return membership(&workers, a, elements, list);
+        return membership(&workers, a, elements.as_slice(), list.as_slice());
     }
-    let Some(list) = b.characters() else {
+    let Elements::Characters(list) = b.elements() else {
         unreachable!()
     };
-    let Some(elements) = a.characters() else {
+    let Elements::Characters(elements) = a.elements() else {
         return same_everywhere(&workers, a, 0);
     };
     membership(&workers, a, elements, list)
