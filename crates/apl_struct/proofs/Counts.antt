@@ -15,7 +15,7 @@ use Rattle.std.proofs.lemmas.List.Folds.{sum_by-replicate, list_all_at}
 use Rattle.apl_array.specs.Axes.{place_number}
 use Rattle.apl_answer.specs.Arguments.{is_bit, is_natural}
 use Rattle.apl_struct.specs.Expanding.{expanded_entry}
-use Rattle.apl_struct.specs.declared.compressing.TheConstants.{ABSENT}
+use Rattle.apl_struct.specs.declared.bits.TheConstants.{ABSENT}
 use Rattle.apl_struct.specs.Along.{entry_index}
 use Rattle.apl_struct.proofs.Taken.{pos_right}
 use Rattle.apl_struct.proofs.Takings.{entry_there}

@@ -9,4 +9,5 @@ pub mod Replacement
 pub mod Taken
 pub mod Permuted
 pub mod Limits
+pub mod Kept
 pub mod Counts

@@ -1,24 +1,29 @@
 //! What the checks ask of an argument.
-ghost use Rattle.std.specs.Prelude.{◌≡◌, ◌+◌, ◌<◌, true, false, MatchResult, length, remove};
+ghost use Rattle.std.specs.Prelude.{◌≡◌, ◌+◌, ◌<◌, ◌⊎◌, true, false, IfErr, IfOk, length, map, remove};
 ghost use Rattle.apl_array.specs.Array.{IsArray};
-ghost use Rattle.apl_answer.specs.declared.fault.OpFault.TheVariants.{Domain};
+ghost use Rattle.apl_array.specs.declared.array.Elem.TheVariants.{Int};
+ghost use Rattle.apl_answer.specs.declared.fault.OpFault.TheVariants.{Domain, Memory};
 ghost use Rattle.apl_answer.specs.Arguments.{is_numbers, numbers_of, is_same_shape};
+ghost use Rattle.apl_answer.specs.Numbers.{number_list};
 ghost use Rattle.apl_struct.specs.Axes.{axis_number_of};
 
-use apl_answer::OpFault;
-use apl_array::Array;
+use apl_answer::{Numbers, OpFault, numbers_of};
+use apl_array::{Array, Elem};
+use apl_pool::Crew;
 
 /// How many numbers are taken in one turn of a loop.
 pub(crate) const TURN: usize = 4;
 
 /// The numbers of an array in row order. It is of numbers or without elements (`Domain`).
-pub(crate) fn numbers_among(a: &Array) -> Result<&[i64], OpFault>
-    ensures numbers { MatchResult result (λ ns. (is_numbers a.now ≡ true) × (numbers_of a.now ≡ ns.now)) (λ fault. (fault ≡ Domain) × (is_numbers a.now ≡ false)) }
+pub(crate) fn numbers_among<'a, W: Crew>(workers: &W, a: &'a Array) -> Result<Numbers<'a>, OpFault>
+    ensures numbers { IfOk result (λ ns. (is_numbers a.now ≡ true) × (numbers_of a.now ≡ number_list ns)) }
+    ensures ravel { IfOk result (λ ns. a.now.ravel ≡ map Int (number_list ns)) }
+    ensures refused { IfErr result (λ fault. ((fault ≡ Domain) × (is_numbers a.now ≡ false)) ⊎ (fault ≡ Memory)) }
     ensures lawful { IsArray a.now }
 {
-    match a.numbers() {
+    match numbers_of(workers, a)? {
         Some(numbers) => Ok(numbers),
-        None if a.shape().count() == 0 => Ok(&[]),
+        None if a.shape().count() == 0 => Ok(Numbers::Held(&[])),
         None => Err(OpFault::Domain),
     }
 }
@@ -50,8 +55,8 @@ pub fn axis_number(axis: &Array) -> Result<i64, OpFault>
     if axis.shape().count() != 1 {
         return Err(OpFault::Length);
     }
-    match axis.numbers() {
-        Some(numbers) => Ok(numbers[0]),
-        None => Err(OpFault::Domain),
+    match axis.get(0) {
+        Elem::Int(number) => Ok(number),
+        Elem::Chr(_) => Err(OpFault::Domain),
     }
 }

@@ -15,7 +15,9 @@ ghost use Rattle.apl_array.specs.Array.{element_at};
 
 use crate::arguments::numbers_among;
 use apl_answer::{ElementType, OpFault, array_of_elements, fill_array};
-use apl_array::{Array, MOST_AXES, MOST_ELEMENTS, Origin, Shape, places_match_index_lists};
+use apl_array::{
+    Array, Elements, MOST_AXES, MOST_ELEMENTS, Origin, Shape, places_match_index_lists,
+};
 use apl_pool::{Crew, Cut, Fault, Gate, Kernel, Pool, Workers};
 use apl_walk::{ByLines, Cyclic};
 use smallvec::SmallVec;
@@ -112,10 +114,10 @@ fn repeat_elements<T: ElementType + Send + Sync, W: Crew>(
 pub(crate) fn repeat<W: Crew>(workers: &W, shape: Shape, b: &Array) -> Result<Array, OpFault>
     ensures { IsArrayAt shape b.now.kind (λ place. filled_at b.now (Some (reshape_source (size_of b.now) place))) result }
 {
-    match (b.numbers(), b.characters()) {
-        (Some(numbers), _) => repeat_elements(workers, shape, b, numbers),
-        (_, Some(characters)) => repeat_elements(workers, shape, b, characters),
-        _ => unreachable!(),
+    match b.elements() {
+        Elements::Numbers(numbers) => repeat_elements(workers, shape, b, numbers),
+        Elements::Truths(truths) => repeat_elements(workers, shape, b, truths),
+        Elements::Characters(characters) => repeat_elements(workers, shape, b, characters),
     }
 }
 
@@ -157,7 +159,8 @@ pub fn reshape<R: Threads + Sync, C: Cut + Sync, G: Gate + Sync>(
     if a.shape().rank() > 1 {
         return Err(OpFault::Rank);
     }
-    let numbers = numbers_among(a)?;
+    let numbers = numbers_among(&workers, a)?;
+    let numbers = numbers.as_slice();
     if !are_natural(numbers) {
         return Err(OpFault::Domain);
     }
@@ -216,7 +219,8 @@ pub fn iota<R: Threads + Sync, C: Cut + Sync, G: Gate + Sync>(
     if n.shape().count() != 1 {
         return Err(OpFault::Length);
     }
-    let numbers = numbers_among(n)?;
+    let numbers = numbers_among(&workers, n)?;
+    let numbers = numbers.as_slice();
     if !are_natural(numbers) {
         return Err(OpFault::Domain);
     }

@@ -2,6 +2,7 @@
 ghost use Rattle.std.specs.Prelude.{◌≡◌, ◌≤◌, ◌++◌, true, length, map, option_copied, take, IfOk};
 ghost use Rattle.std.specs.List.{list_all};
 ghost use Rattle.apl_array.specs.Axes.{from_origin, is_below};
+ghost use Rattle.apl_answer.specs.Pointwise.{IsShapeOf};
 ghost use Rattle.apl_answer.specs.Rows.{Answers};
 ghost use Rattle.apl_struct.specs.Indexing.{are_slots_within, selected_shape, selection_checks, select_row};
 ghost use Rattle.apl_struct.specs.Selecting.{IsCheckedResult, IsSelection};
@@ -11,7 +12,7 @@ use crate::building::empty;
 use crate::selecting::{NumberArray, push_slots, selected_walk};
 use apl_answer::OpFault;
 use apl_array::{Array, Origin, Shape, places_match_index_lists};
-use apl_pool::{Cut, Gate, Pool, Workers};
+use apl_pool::{Crew, Cut, Gate, Pool, Workers};
 use apl_walk::gather;
 use std::alloc::{AllocError, Global};
 use std::thread::Threads;
@@ -76,7 +77,7 @@ fn are_within(lengths: &[usize], slots: &[Option<NumberArray>], origin: Origin) 
         return true;
     };
     match slot {
-        Some(chosen) if !are_indexes(chosen.numbers, origin, *axis_length) => false,
+        Some(chosen) if !are_indexes(chosen.numbers.as_slice(), origin, *axis_length) => false,
         _ => are_within(lengths, slots, origin),
     }
 }
@@ -102,10 +103,23 @@ fn push_selected(
     push_selected(lengths, slots, selected)
 }
 
+/// The shape that the slots choose. It is refused where it passes a limit (`Limit`).
+fn selected_shape(
+    alloc: Global,
+    lengths: &[usize],
+    slots: &[Option<NumberArray>],
+) -> Result<Shape, OpFault>
+    ensures { IsShapeOf (selected_shape lengths.now slots.now) result }
+{
+    let mut selected = Vec::new(alloc);
+    push_selected(lengths, slots, &mut selected)?;
+    Ok(Shape::new(alloc, selected.as_slice())?)
+}
+
 /// The slots, and the shape that they choose. The slots number the rank (`Rank`) and are of numbers (`Domain`).
 /// Each number is an index of its axis (`Index`), and what they choose is within the limits (`Limit`).
-pub(crate) fn selection<'a>(
-    alloc: Global,
+pub(crate) fn selection<'a, W: Crew>(
+    workers: &W,
     a: &Array,
     slots: &[Option<&'a Array>],
     origin: Origin,
@@ -117,14 +131,13 @@ pub(crate) fn selection<'a>(
     if slots.len() != lengths.len() {
         return Err(OpFault::Rank);
     }
+    let alloc = workers.alloc();
     let mut judged = Vec::with_capacity(alloc, slots.len())?;
-    push_slots(slots, &mut judged)?;
+    push_slots(workers, slots, &mut judged)?;
     if !are_within(lengths, judged.as_slice(), origin) {
         return Err(OpFault::Index);
     }
-    let mut selected = Vec::new(alloc);
-    push_selected(lengths, judged.as_slice(), &mut selected)?;
-    let shape = Shape::new(alloc, selected.as_slice())?;
+    let shape = selected_shape(alloc, lengths, judged.as_slice())?;
     Ok((judged, shape))
 }
 
@@ -143,7 +156,7 @@ pub fn select<R: Threads + Sync, C: Cut + Sync, G: Gate + Sync>(
     ensures { Answers (select_row a.now (map option_copied slots.now) origin) result }
 {
     let workers = Workers { rt, alloc, pool };
-    let (slots, shape) = selection(alloc, a, slots, origin)?;
+    let (slots, shape) = selection(&workers, a, slots, origin)?;
     if shape.count() == 0 {
         return empty(&workers, shape, a);
     }

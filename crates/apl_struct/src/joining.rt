@@ -4,17 +4,19 @@ ghost use Rattle.apl_array.specs.Shape.{count_of};
 ghost use Rattle.apl_array.specs.declared.shape.TheConstants.{MOST_ELEMENTS};
 ghost use Rattle.smallvec.specs.SmallVec.{small_vec_len};
 ghost use Rattle.apl_pool.specs.declared.kernel.TheConstants.{MOST_PLACES};
-ghost use Rattle.apl_answer.specs.Arguments.{has_elements, is_same_kind, is_same_shape};
+ghost use Rattle.apl_array.specs.declared.array.Elem.TheVariants.{Chr};
+ghost use Rattle.apl_array.specs.declared.array.Kind.TheVariants.{Number};
+ghost use Rattle.apl_answer.specs.Arguments.{has_elements, is_number_kind, is_numbers, is_same_kind, is_same_shape};
 ghost use Rattle.apl_answer.specs.Pointwise.{answer_of, IsAnswerOf, IsArrayAt};
 ghost use Rattle.apl_answer.specs.Rows.{Answers};
 ghost use Rattle.apl_struct.specs.Joined.{joined_at, IsJoint};
 ghost use Rattle.apl_struct.specs.Joining.{joined_rank, can_join, slices_shape, joined_kind, catenated_element, catenate_row};
 
-use crate::arguments::is_without_axis;
+use crate::arguments::{is_without_axis, numbers_among};
 use apl_answer::{ElementType, OpFault, fill_array};
 use apl_array::{
-    Array, Axis, Kind, MOST_AXES, Shape, changed_axis_has_place, places_match_index_lists,
-    replaced_index_has_place,
+    Array, Axis, Elements, Kind, MOST_AXES, Shape, changed_axis_has_place,
+    places_match_index_lists, replaced_index_has_place,
 };
 use apl_pool::{Crew, Cut, Gate, Pool, Workers};
 use apl_walk::{ByLines, Joined, Part};
@@ -141,22 +143,66 @@ fn join_elements<T: ElementType + Send + Sync, W: Crew>(
     shape: Shape,
     a: &Array,
     b: &Array,
-    left: Option<&[T]>,
-    right: Option<&[T]>,
+    left: &[T],
+    right: &[T],
     seam: Seam,
 ) -> Result<Array, OpFault>
     requires kind { joined_kind a.now b.now ≡ T.kind }
-    requires left { MatchOption left (a.now.ravel ≡ []) (λ elements. a.now.ravel ≡ map T.elem_of elements.now) }
-    requires right { MatchOption right (b.now.ravel ≡ []) (λ elements. b.now.ravel ≡ map T.elem_of elements.now) }
+    requires left { a.now.ravel ≡ map T.elem_of left.now }
+    requires right { b.now.ravel ≡ map T.elem_of right.now }
     ensures { IsArrayAt shape (joined_kind a.now b.now) (joined_at a.now b.now seam.left seam.right) result }
 {
     let fill = T::fill();
     let kernel = ByLines::new(Joined {
-        left: Part::new(left.unwrap_or(&[]), fill, seam.left),
-        right: Part::new(right.unwrap_or(&[]), fill, seam.right),
+        left: Part::new(left, fill, seam.left),
+        right: Part::new(right, fill, seam.right),
         count: shape.count(),
     });
     fill_array(workers, shape, &kernel)
+}
+
+/// The same of numbers. Those of both arguments that are held as truth values stay so.
+fn join_numbers<W: Crew>(
+    workers: &W,
+    shape: Shape,
+    a: &Array,
+    b: &Array,
+    seam: Seam,
+) -> Result<Array, OpFault>
+    requires kind { joined_kind a.now b.now ≡ Number }
+    requires left { is_numbers a.now ≡ true }
+    requires right { is_numbers b.now ≡ true }
+    ensures { IsArrayAt shape (joined_kind a.now b.now) (joined_at a.now b.now seam.left seam.right) result }
+{
+    match (a.elements(), b.elements()) {
+        (Elements::Truths(left), Elements::Truths(right)) => {
+            join_elements(workers, shape, a, b, left, right, seam)
+        }
+        _ => {
+            let left = numbers_among(workers, a)?;
+            let right = numbers_among(workers, b)?;
+            join_elements(
+                workers,
+                shape,
+                a,
+                b,
+                left.as_slice(),
+                right.as_slice(),
+                seam,
+            )
+        }
+    }
+}
+
+/// The characters of an array in row order. It has no other elements.
+fn characters_among(a: &Array) -> &[char]
+    requires { (not (has_elements a.now) || not (is_number_kind a.now.kind)) ≡ true }
+    ensures { a.now.ravel ≡ map Chr result.now }
+{
+    match a.elements() {
+        Elements::Characters(characters) => characters,
+        _ => &[],
+    }
 }
 
 /// The two arguments joined along axis `k`, of whose indexes the first `left` are the left argument's.
@@ -183,9 +229,9 @@ fn join_along<W: Crew>(
     let _kinds = (a.kind(), b.kind());
     let seam = seam_along(&shape, k, left);
     match joined_kind(a, b) {
-        Kind::Number => join_elements(workers, shape, a, b, a.numbers(), b.numbers(), seam),
+        Kind::Number => join_numbers(workers, shape, a, b, seam),
         Kind::Character => {
-            let (left, right) = (a.characters(), b.characters());
+            let (left, right) = (characters_among(a), characters_among(b));
             join_elements(workers, shape, a, b, left, right, seam)
         }
     }

@@ -9,6 +9,7 @@
 
 mod along;
 mod arguments;
+mod bits;
 mod building;
 mod compressing;
 mod indexing;

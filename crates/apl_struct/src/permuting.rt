@@ -179,16 +179,16 @@ pub fn transpose_by<R: Threads + Sync, C: Cut + Sync, G: Gate + Sync>(
     if a.shape().count() != b.shape().rank() {
         return Err(OpFault::Length);
     }
-    let numbers = numbers_among(a)?;
-    if !are_from_origin(numbers, origin) {
+    let workers = Workers { rt, alloc, pool };
+    let numbers = numbers_among(&workers, a)?;
+    if !are_from_origin(numbers.as_slice(), origin) {
         return Err(OpFault::Domain);
     }
-    let axes = axes_named(alloc, numbers, origin)?;
+    let axes = axes_named(alloc, numbers.as_slice(), origin)?;
     if !are_all_named(axes.as_slice()) {
         return Err(OpFault::Domain);
     }
     let shape = transposed_shape(alloc, axes.as_slice(), b.shape())?;
-    let workers = Workers { rt, alloc, pool };
     transposed(&workers, shape, b, axes.as_slice())
 }
 

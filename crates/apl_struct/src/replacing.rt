@@ -14,12 +14,12 @@ ghost use Rattle.apl_walk.specs.Steps.{and_step};
 ghost use Rattle.apl_struct.specs.Selecting.{IsCheckedResult, IsSelection};
 ghost use Rattle.apl_struct.specs.Numbering.{place_or_zero, chosen_at, number_at, AreWithin, HaveValues, AreWrittenOver, AreWrittenUpTo, IsReached, value_numbered, element_numbered, replacement_checks, value_step, IsReplacement};
 
-use crate::arguments::TURN;
+use crate::arguments::{TURN, numbers_among};
 use crate::building::unchanged;
 use crate::indexing::selection;
 use crate::selecting::{NumberArray, selected_walk};
 use apl_answer::{ElementType, OpFault, array_from_fill};
-use apl_array::{Array, Origin, Shape, places_match_index_lists};
+use apl_array::{Array, Elements, Origin, Shape, places_match_index_lists};
 use apl_pool::{Crew, Cut, Gate, Pool, Stop, Workers, fill};
 use apl_walk::{AxisMap, ByLines, Cyclic, Map, element_or, start_at};
 use std::alloc::Global;
@@ -196,14 +196,19 @@ fn replace_chosen<W: Crew>(
 {
     // An array that was asked something is known to be lawful.
     let _kind = a.kind();
-    match (a.numbers(), b.numbers(), a.characters(), b.characters()) {
-        (Some(elements), Some(values), ..) => replace_elements(
+    match (a.elements(), b.elements()) {
+        (Elements::Characters(elements), Elements::Characters(values)) => replace_elements(
             workers, shape, elements, values, choices,
         ),
-        (.., Some(elements), Some(values)) => replace_elements(
+        (Elements::Truths(elements), Elements::Truths(values)) => replace_elements(
             workers, shape, elements, values, choices,
         ),
-        _ => unreachable!(),
+        _ => {
+            let elements = numbers_among(workers, a)?;
+            let values = numbers_among(workers, b)?;
+            let (elements, values) = (elements.as_slice(), values.as_slice());
+            replace_elements(workers, shape, elements, values, choices)
+        }
     }
 }
 
@@ -288,7 +293,7 @@ pub fn replace<R: Threads + Sync, C: Cut + Sync, G: Gate + Sync>(
     ensures { Answers (replace_row a.now (map option_copied slots.now) b.now origin) result }
 {
     let workers = Workers { rt, alloc, pool };
-    let (slots, selected) = selection(alloc, a, slots, origin)?;
+    let (slots, selected) = selection(&workers, a, slots, origin)?;
     judge_values(a, b, &selected)?;
     replace_selected(&workers, a, slots.as_slice(), b, origin, selected)
 }

@@ -15,7 +15,7 @@ use crate::arguments::{is_without_axis, numbers_among};
 use crate::building::{empty, unchanged};
 use apl_answer::{ElementType, OpFault, fill_array};
 use apl_array::{
-    Array, Axis, Shape, inserted_index_has_place, places_match_index_lists,
+    Array, Axis, Elements, Shape, inserted_index_has_place, places_match_index_lists,
     replaced_index_has_place, shape_is_decided, split_index_has_place,
 };
 use apl_divisor::Divisor;
@@ -121,10 +121,10 @@ fn rotate_lines<W: Crew>(
     requires most { inner ≤ MOST_PLACES }
     ensures { IsArrayAt shape b.now.kind (λ place. filled_at b.now (Some (turned_place rotations.entry.length inner rotations.entry.by.now place))) result }
 {
-    match (b.numbers(), b.characters()) {
-        (Some(numbers), _) => rotate_elements(workers, shape, b, numbers, rotations, inner),
-        (_, Some(characters)) => rotate_elements(workers, shape, b, characters, rotations, inner),
-        _ => unreachable!(),
+    match b.elements() {
+        Elements::Numbers(all) => rotate_elements(workers, shape, b, all, rotations, inner),
+        Elements::Truths(all) => rotate_elements(workers, shape, b, all, rotations, inner),
+        Elements::Characters(all) => rotate_elements(workers, shape, b, all, rotations, inner),
     }
 }
 
@@ -181,12 +181,13 @@ pub fn rotate<R: Threads + Sync, C: Cut + Sync, G: Gate + Sync>(
     if !serves_all && !is_without_axis(a.shape().lengths(), b.shape().lengths(), k) {
         return Err(OpFault::Length);
     }
-    let rotations = numbers_among(a)?;
+    let rotations = numbers_among(&workers, a)?;
+    let rotations = rotations.as_slice();
     if b.shape().rank() == 0 {
-        unchanged(&workers, b)
-    } else if serves_all {
-        rotate_all(&workers, b, k, rotations[0])
-    } else {
-        rotate_each(&workers, b, k, rotations)
+        return unchanged(&workers, b);
     }
+    if serves_all {
+        return rotate_all(&workers, b, k, rotations[0]);
+    }
+    rotate_each(&workers, b, k, rotations)
 }

@@ -1,5 +1,5 @@
 //! The slots of an index, each of them empty or of numbers, and the walk over an array of which they choose.
-ghost use Rattle.std.specs.Prelude.{◌≡◌, ℕ, ◌+◌, ◌*◌, ◌<◌, ◌≤◌, true, Some, IfOk, length, vec_len, ◌++◌, ◌∷◌, [], map, Ok, Err, option_copied, if◌then◌else◌, vec_capacity};
+ghost use Rattle.std.specs.Prelude.{◌≡◌, ℕ, ◌+◌, ◌*◌, ◌<◌, ◌≤◌, ◌⊎◌, true, Some, IfOk, length, vec_len, ◌++◌, ◌∷◌, [], map, Ok, Err, option_copied, if◌then◌else◌, vec_capacity};
 ghost use Rattle.apl_array.specs.declared.shape.TheConstants.{MOST_AXES};
 ghost use Rattle.apl_array.specs.Shape.{IsIndexOf, count_of};
 ghost use Rattle.apl_pool.specs.declared.kernel.TheConstants.{MOST_PLACES};
@@ -12,11 +12,13 @@ ghost use Rattle.apl_struct.specs.Selecting.{reached_from, reached_with, slot_co
 ghost use Rattle.std.specs.List.{list_all};
 ghost use Rattle.apl_array.specs.Array.{ArrayValue, IsArray};
 ghost use Rattle.apl_answer.specs.Arguments.{numbers_of};
-ghost use Rattle.apl_answer.specs.declared.fault.OpFault.TheVariants.{Domain};
+ghost use Rattle.apl_answer.specs.Numbers.{number_list};
+ghost use Rattle.apl_answer.specs.declared.fault.OpFault.TheVariants.{Domain, Memory};
 
 use crate::arguments::numbers_among;
-use apl_answer::OpFault;
+use apl_answer::{Numbers, OpFault};
 use apl_array::{Array, Origin, Shape, places_match_index_lists};
+use apl_pool::Crew;
 use apl_walk::{AxisMap, Listed, Map, Walk, Window};
 use std::alloc::{AllocError, Global};
 use std::marker::Model;
@@ -25,7 +27,7 @@ use std::marker::Model;
 #[derive(Drop)]
 pub(crate) struct NumberArray<'a> {
     pub array: &'a Array,
-    pub numbers: &'a [i64],
+    pub numbers: Numbers<'a>,
 }
 
 impl<'a> Model for NumberArray<'a> {
@@ -33,23 +35,27 @@ impl<'a> Model for NumberArray<'a> {
 
     ghost view = { λ n. n.array.now };
 
-    ghost invariant = { λ n. IsArray n.array.now × (numbers_of n.array.now ≡ n.numbers.now) };
+    ghost invariant = { λ n. IsArray n.array.now × (numbers_of n.array.now ≡ number_list n.numbers) };
 }
 
 /// A slot that is empty or of numbers, and no other (`Domain`).
-fn slot_of_numbers<'a>(slot: Option<&'a Array>) -> Result<Option<NumberArray<'a>>, OpFault>
-    ensures slot { result ≡ (if is_slot_of_numbers (option_copied slot.entry) then Ok (option_copied slot.entry) else Err Domain) }
+fn slot_of_numbers<'a, W: Crew>(
+    workers: &W,
+    slot: Option<&'a Array>,
+) -> Result<Option<NumberArray<'a>>, OpFault>
+    ensures slot { (result ≡ (if is_slot_of_numbers (option_copied slot.entry) then Ok (option_copied slot.entry) else Err Domain)) ⊎ (result ≡ Err Memory) }
     ensures lawful { AreArrays (option_copied slot.entry ∷ []) }
 {
     let Some(array) = slot else {
         return Ok(None);
     };
-    let numbers = numbers_among(array)?;
+    let numbers = numbers_among(workers, array)?;
     Ok(Some(NumberArray { array, numbers }))
 }
 
 /// Adds the slots, each of which is empty or of numbers (`Domain`).
-pub(crate) fn push_slots<'a>(
+pub(crate) fn push_slots<'a, W: Crew>(
+    workers: &W,
     slots: &[Option<&'a Array>],
     judged: &mut Vec<Option<NumberArray<'a>>>,
 ) -> Result<(), OpFault>
@@ -60,13 +66,13 @@ pub(crate) fn push_slots<'a>(
     let [slot, slots @ ..] = slots else {
         return Ok(());
     };
-    judged.push_reserved(slot_of_numbers(*slot)?);
-    push_slots(slots, judged)
+    judged.push_reserved(slot_of_numbers(workers, *slot)?);
+    push_slots(workers, slots, judged)
 }
 
 /// The indexes that a slot chooses of an axis whose neighbours are `stride` apart.
 fn slot_map<'a>(
-    slot: &Option<NumberArray<'a>>,
+    slot: &'a Option<NumberArray<'_>>,
     origin: Origin,
     axis_length: usize,
     stride: usize,
@@ -80,7 +86,7 @@ fn slot_map<'a>(
 {
     match slot {
         Some(chosen) => Map::Listed(Listed {
-            numbers: chosen.numbers,
+            numbers: chosen.numbers.as_slice(),
             first: origin.number(),
             axis_length,
             stride,
@@ -151,7 +157,7 @@ impl<'a> Selected<'a> {
 fn selected_axes<'a>(
     alloc: Global,
     lengths: &[usize],
-    slots: &[Option<NumberArray<'a>>],
+    slots: &'a [Option<NumberArray<'_>>],
     origin: Origin,
 ) -> Result<Selected<'a>, AllocError>
     requires { AreSelectable origin lengths.now slots.now }
@@ -180,7 +186,7 @@ fn selected_axes<'a>(
 pub(crate) fn selected_walk<'a>(
     alloc: Global,
     a: &Array,
-    slots: &[Option<NumberArray<'a>>],
+    slots: &'a [Option<NumberArray<'_>>],
     origin: Origin,
     selected: &Shape,
 ) -> Result<Walk<'a>, AllocError>

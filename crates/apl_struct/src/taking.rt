@@ -1,9 +1,11 @@
 //! Elements taken from the ends of the axes, or left away there.
-ghost use Rattle.std.specs.Prelude.{◌≡◌, ℕ, ◌*◌, ◌++◌, ◌<◌, ◌≤◌, length, map, nat_abs, List, All, Ok, Err, Result, IfOk, IfErr, option_map};
+ghost use Rattle.std.specs.Prelude.{◌≡◌, ℕ, ◌*◌, ◌++◌, ◌<◌, ◌≤◌, ◌⊎◌, length, map, nat_abs, List, All, Ok, Err, Result, IfOk, IfErr, option_map};
 ghost use Rattle.apl_array.specs.Array.{ArrayValue};
 ghost use Rattle.apl_array.specs.Shape.{IsShape, count_of, place_of, index_at};
 ghost use Rattle.apl_pool.specs.declared.kernel.TheConstants.{MOST_PLACES};
 ghost use Rattle.apl_answer.specs.Arguments.{rank_of, size_of, numbers_of};
+ghost use Rattle.apl_answer.specs.Numbers.{number_list};
+ghost use Rattle.apl_answer.specs.declared.fault.OpFault.TheVariants.{Memory};
 ghost use Rattle.apl_answer.specs.Rows.{Answers, first_failure_or};
 ghost use Rattle.apl_struct.specs.Gathering.{element_or_fill};
 ghost use Rattle.apl_struct.specs.Taking.{with_axes, taking_checks, taken_index, take_source, take_row, drop_row};
@@ -13,7 +15,7 @@ ghost use Rattle.apl_struct.specs.Shaped.{with_shape, left_number, left_numbers,
 
 use crate::arguments::numbers_among;
 use crate::building::{lawful_shape, repeat};
-use apl_answer::OpFault;
+use apl_answer::{Numbers, OpFault};
 use apl_array::{Array, MOST_AXES, Shape, places_match_index_lists};
 use apl_pool::{Crew, Cut, Gate, Pool, Workers};
 use apl_walk::{Map, Walk, Window, gather};
@@ -92,14 +94,14 @@ fn push_left(numbers: &[i64], lengths: &[usize], left: &mut Vec<i64>) -> Result<
 
 /// The numbers by which an array is taken or dropped: `Rank`, `Length`, `Limit` or `Domain` where the
 /// checks before that of the result's shape fail.
-fn taking_numbers<'a>(a: &'a Array, b: &Array) -> Result<&'a [i64], OpFault>
-    ensures refused { IfErr result (λ fault. (shape : List ℕ) (answer : Result ArrayValue OpFault)
-        → first_failure_or (taking_checks a.now (with_axes (size_of a.now) b.now) shape) answer ≡ Err fault) }
+fn taking_numbers<'a, W: Crew>(workers: &W, a: &'a Array, b: &Array) -> Result<Numbers<'a>, OpFault>
+    ensures refused { IfErr result (λ fault. ((shape : List ℕ) (answer : Result ArrayValue OpFault)
+        → first_failure_or (taking_checks a.now (with_axes (size_of a.now) b.now) shape) answer ≡ Err fault) ⊎ (fault ≡ Memory)) }
     ensures judged { IfOk result (λ numbers. HavePassedButLimit (taking_checks a.now (with_axes (size_of a.now) b.now))) }
-    ensures numbers { IfOk result (λ numbers. numbers_of a.now ≡ numbers.now) }
-    ensures len { IfOk result (λ numbers. length numbers.now ≡ size_of a.now) }
-    ensures axes { IfOk result (λ numbers. length numbers.now ≡ rank_of (with_axes (size_of a.now) b.now)) }
-    ensures few { IfOk result (λ numbers. length numbers.now ≤ MOST_AXES) }
+    ensures numbers { IfOk result (λ numbers. numbers_of a.now ≡ number_list numbers) }
+    ensures len { IfOk result (λ numbers. length (number_list numbers) ≡ size_of a.now) }
+    ensures axes { IfOk result (λ numbers. length (number_list numbers) ≡ rank_of (with_axes (size_of a.now) b.now)) }
+    ensures few { IfOk result (λ numbers. length (number_list numbers) ≤ MOST_AXES) }
 {
     if a.shape().rank() > 1 {
         return Err(OpFault::Rank);
@@ -112,7 +114,7 @@ fn taking_numbers<'a>(a: &'a Array, b: &Array) -> Result<&'a [i64], OpFault>
     if count > MOST_AXES {
         return Err(OpFault::Limit);
     }
-    numbers_among(a)
+    numbers_among(workers, a)
 }
 
 /// The shape of an array, where a scalar serves as an array of one element with `rank` axes.
@@ -167,9 +169,10 @@ pub fn take<R: Threads + Sync, C: Cut + Sync, G: Gate + Sync>(
 ) -> Result<Array, OpFault>
     ensures { Answers (take_row a.now b.now) result }
 {
-    let numbers = taking_numbers(a, b)?;
-    let argument = shape_with_axes(alloc, b, numbers.len())?;
     let workers = Workers { rt, alloc, pool };
+    let numbers = taking_numbers(&workers, a, b)?;
+    let numbers = numbers.as_slice();
+    let argument = shape_with_axes(alloc, b, numbers.len())?;
     taken(&workers, numbers, b, &argument)
 }
 
@@ -186,10 +189,11 @@ pub fn drop<R: Threads + Sync, C: Cut + Sync, G: Gate + Sync>(
 ) -> Result<Array, OpFault>
     ensures { Answers (drop_row a.now b.now) result }
 {
-    let numbers = taking_numbers(a, b)?;
+    let workers = Workers { rt, alloc, pool };
+    let numbers = taking_numbers(&workers, a, b)?;
+    let numbers = numbers.as_slice();
     let argument = shape_with_axes(alloc, b, numbers.len())?;
     let mut left = Vec::with_capacity(alloc, numbers.len())?;
     push_left(numbers, argument.lengths(), &mut left)?;
-    let workers = Workers { rt, alloc, pool };
     taken(&workers, left.as_slice(), b, &argument)
 }

@@ -1,49 +1,32 @@
-use Rattle.std.proofs.Common.{◌≡◌, length, map, Err, inl, inr, ap, ◌∙◌, sym, rules}
+use Rattle.std.proofs.Common.{◌≡◌, length, map, ap, ◌∙◌, sym, rules}
+use Rattle.std.specs.List.{list_all}
 use Rattle.std.proofs.lemmas.List.{length-map}
 use Rattle.apl_array.specs.Axes.{place_number}
+use Rattle.apl_array.specs.Shape.{count_of}
+use Rattle.apl_answer.specs.Arguments.{is_bit, is_numbers, number_of, numbers_of, size_of}
 use Rattle.apl_struct.specs.Compressing.{as_vector}
 use Rattle.apl_struct.proofs.Takings.{axis_of_vector}
-use Rattle.apl_struct.proofs.Counts.{repeated_answer, shape_refused, sum_refused, bits_natural}
+use Rattle.apl_struct.proofs.Counts.{repeated_answer, bits_natural}
+use Rattle.apl_struct.proofs.Kept.{both}
 use Rattle.apl_struct.proofs.compressing.replicate_each.Goals as goal
 
 pub returns-in-Some : goal.returns-in-Some
 returns-in-Some g c =
-    let counts = c.args.counts.now in
-    let n = length counts in
-    let kept = rw c.in-Some.is at c.in_ok-indexes.ensures in
-    rw (bits_natural counts kept.0)
-    (repeated_answer (as_vector n c.args.b.now) c.args.k n c.len.result (map place_number counts) c.as_slice.result.now c.gather_along.result (axis_of_vector n c.args.k c.args.b.now c.requires.axis)
-    (length-map counts place_number) (search rules) (c.as_slice.ensures.value ∙ kept.1) c.gather_along.ensures)
-
-pub returns-in_err-extent : goal.returns-in_err-extent
-returns-in_err-extent g c =
-    let n = length c.args.counts.now in
-    let result = c.from_residual-in_err-extent.result in
-    let axis = axis_of_vector n c.args.k c.args.b.now c.requires.axis in
-    let is : result ≡ Err c.in_err-extent.field-0.0 = search rules in
-    elim c.in_err-extent.ensures [
-      | inl below ↦ rw below.1 (inl (is ∙ ap Err below.0))
-      | inr past ↦ rw past.1 (sum_refused (as_vector n c.args.b.now) c.args.k (map place_number c.args.counts.now) result axis past.2 (is ∙ ap Err past.0))
-    ]
-
-pub returns-in_err-shape : goal.returns-in_err-shape
-returns-in_err-shape g c =
-    let n = length c.args.counts.now in
-    let summed = c.in_ok-extent.ensures in
-    rw summed.0
-    (shape_refused (as_vector n c.args.b.now) c.args.k c.in_ok-extent.extent (map place_number c.args.counts.now) c.in_err-shape.field-0.0 c.from_residual-in_err-shape.result
-    summed.1 (search rules) (c.in_err-shape.ensures n))
-
-pub returns-then-count-eq0 : goal.returns-then-count-eq0
-returns-then-count-eq0 g c =
-    let summed = c.in_ok-extent.ensures in
-    let made = rw summed.1 at (c.in_ok-shape.ensures (length c.args.counts.now)) in
-    rw (summed.0, made.0, sym made.1) (c.empty.ensures _)
+    let a = c.args.a.now in
+    let n = size_of a in
+    let numbers = numbers_of a in
+    let kept = rw c.in-Some.is at c.in_ok-indexes.ensures.kept in
+    let judged = both (is_numbers a) (list_all is_bit numbers) kept.0 in
+    let many : length (map place_number numbers) ≡ n = length-map numbers place_number ∙ length-map a.ravel number_of ∙ c.shape.ensures.lawful.len in
+    let count : c.count.result ≡ n = c.count.ensures.count ∙ ap count_of c.shape.ensures.shape in
+    rw (judged.0, bits_natural numbers judged.1)
+    (repeated_answer (as_vector n c.args.b.now) c.args.k n c.len.result (map place_number numbers) c.as_slice.result.now c.gather_along.result (axis_of_vector n c.args.k c.args.b.now c.requires.axis)
+    many (search rules) (c.as_slice.ensures.value ∙ kept.1) (rw count at c.gather_along.ensures))
 
 pub returns : goal.returns
 returns g c =
-    let counts = c.args.counts.now in
-    let n = length counts in
-    rw c.in_ok-extent.ensures.0
-    (repeated_answer (as_vector n c.args.b.now) c.args.k n c.len-2.result (map place_number counts) c.as_slice-2.result.now c.gather_along-2.result (axis_of_vector n c.args.k c.args.b.now c.requires.axis)
-    (length-map counts place_number) (search rules) (c.as_slice-2.ensures.value ∙ c.in_ok-indexes-2.ensures) c.gather_along-2.ensures)
+    let a = c.args.a.now in
+    let own = c.as_slice-2.result.now in
+    let numbers : numbers_of a ≡ own = c.in_ok-counts.ensures.numbers.1 ∙ sym c.as_slice-2.ensures in
+    let many : length own ≡ size_of a = sym (ap length numbers) ∙ length-map a.ravel number_of ∙ c.in_ok-counts.ensures.lawful.len in
+    rw (c.in_ok-counts.ensures.numbers.0, numbers) (rw many at c.replicate_listed.ensures)

@@ -44,7 +44,7 @@ element g c place inside =
     c.requires.axis c.requires.others (rw shape at inside))
 
 pub returns-in-Number : goal.returns-in-Number
-returns-in-Number g c = c.join_elements.ensures _ (element g (goal.at.returns-in-Number g c).After-seam_along-seam)
+returns-in-Number g c = c.join_numbers.ensures _ (element g (goal.at.returns-in-Number g c).After-seam_along-seam)
 
 pub returns-in-Character : goal.returns-in-Character
-returns-in-Character g c = c.join_elements-in-Character.ensures _ (element g (goal.at.returns-in-Character g c).After-seam_along-seam)
+returns-in-Character g c = c.join_elements.ensures _ (element g (goal.at.returns-in-Character g c).After-seam_along-seam)

@@ -1,4 +1,4 @@
-use Rattle.std.proofs.Common.{◌≡◌, ◌+◌, true, false, length, slice_index, slice_index_or, pos, to_z, of_z, w64, refl, ap, ◌∙◌, arith, rules}
+use Rattle.std.proofs.Common.{◌≡◌, ◌+◌, true, false, length, slice_index, slice_index_or, pos, to_z, of_z, w64, refl, ap, sym, ◌∙◌, arith, rules}
 use Rattle.std.specs.Prelude.{◌||◌, ◌==◌, remove}
 use Rattle.std.proofs.lemmas.Slice.Eq.{bytes_eq-Decides}
 use Rattle.apl_array.specs.Axes.{axis_of}
@@ -45,21 +45,21 @@ returns-then-serves_all g c =
     let known = judged g (goal.at.returns-then-serves_all g c).After-rank-2 in
     let counts : count_of a.shape ≡ 1 = search rules in
     let one : has_one_element a.shape ≡ true = grind (arith, counts) in
-    let zs = c.in_ok-rotations.rotations.now in
+    let zs = c.as_slice-rotations.result.now in
     let z = slice_index_or zs 0 (pos 0) in
     let same : to_z w64 (of_z w64 z) ≡ z = search rules in
     answered (rotate_row a b c.args.axis) c.rotate_all.result known.1
-    (c.rotate_all.ensures _ (λ index lawful. rw (known.0, same, rotation_of_all a zs k index c.in_ok-rotations.ensures.numbers.1 one) refl))
+    (c.rotate_all.ensures _ (λ index lawful. rw (known.0, same, rotation_of_all a zs k index (c.in_ok-rotations.ensures.numbers.1 ∙ sym c.as_slice-rotations.ensures) one) refl))
 
-pub returns-else-serves_all : goal.returns-else-serves_all
-returns-else-serves_all g c =
+pub returns : goal.returns
+returns g c =
     let a = c.args.a.now in
     let b = c.args.b.now in
     let k = axis_of c.args.axis (rank_of b) in
-    let known = judged g (goal.at.returns-else-serves_all g c).After-rank-2 in
+    let known = judged g (goal.at.returns g c).After-rank-2 in
     let many : count_of a.shape ≡ 1 → ⊥ = search rules in
     let more : has_one_element a.shape ≡ false = grind (arith, many) in
-    let zs = c.in_ok-rotations.rotations.now in
+    let zs = c.as_slice-rotations.result.now in
     let others : a.shape ≡ remove b.shape k = (bytes_eq-Decides a.shape (remove b.shape k)).0 (rw more at known.1.1.1.0) in
     answered (rotate_row a b c.args.axis) c.rotate_each.result known.1
-    (c.rotate_each.ensures _ (λ index lawful. rw (known.0, rotation_of_line a zs (remove b.shape k) k index c.in_ok-rotations.ensures.numbers.1 more others) refl))
+    (c.rotate_each.ensures _ (λ index lawful. rw (known.0, rotation_of_line a zs (remove b.shape k) k index (c.in_ok-rotations.ensures.numbers.1 ∙ sym c.as_slice-rotations.ensures) more others) refl))

@@ -1,0 +1,40 @@
+use Rattle.std.proofs.Common.{◌≡◌, length, map, Err, inl, inr, ap, ◌∙◌, sym, rules}
+use Rattle.std.proofs.lemmas.List.{length-map}
+use Rattle.apl_array.specs.Axes.{place_number}
+use Rattle.apl_struct.specs.Compressing.{as_vector}
+use Rattle.apl_struct.proofs.Takings.{axis_of_vector}
+use Rattle.apl_struct.proofs.Counts.{repeated_answer, shape_refused, sum_refused}
+use Rattle.apl_struct.proofs.compressing.replicate_listed.Goals as goal
+
+pub returns-in_err-extent : goal.returns-in_err-extent
+returns-in_err-extent g c =
+    let n = length c.args.counts.now in
+    let result = c.from_residual.result in
+    let axis = axis_of_vector n c.args.k c.args.b.now c.requires.axis in
+    let is : result ≡ Err c.in_err-extent.field-0.0 = search rules in
+    elim c.in_err-extent.ensures [
+      | inl below ↦ rw below.1 (inl (is ∙ ap Err below.0))
+      | inr past ↦ rw past.1 (sum_refused (as_vector n c.args.b.now) c.args.k (map place_number c.args.counts.now) result axis past.2 (is ∙ ap Err past.0))
+    ]
+
+pub returns-in_err-shape : goal.returns-in_err-shape
+returns-in_err-shape g c =
+    let n = length c.args.counts.now in
+    let summed = c.in_ok-extent.ensures in
+    rw summed.0
+    (shape_refused (as_vector n c.args.b.now) c.args.k c.in_ok-extent.extent (map place_number c.args.counts.now) c.in_err-shape.field-0.0 c.from_residual-in_err-shape.result
+    summed.1 (search rules) (c.in_err-shape.ensures n))
+
+pub returns-then-count-eq0 : goal.returns-then-count-eq0
+returns-then-count-eq0 g c =
+    let summed = c.in_ok-extent.ensures in
+    let made = rw summed.1 at (c.in_ok-shape.ensures (length c.args.counts.now)) in
+    rw (summed.0, made.0, sym made.1) (c.empty.ensures _)
+
+pub returns : goal.returns
+returns g c =
+    let counts = c.args.counts.now in
+    let n = length counts in
+    rw c.in_ok-extent.ensures.0
+    (repeated_answer (as_vector n c.args.b.now) c.args.k n c.len.result (map place_number counts) c.as_slice.result.now c.gather_along.result (axis_of_vector n c.args.k c.args.b.now c.requires.axis)
+    (length-map counts place_number) (search rules) (c.as_slice.ensures.value ∙ c.in_ok-indexes.ensures) c.gather_along.ensures)
