@@ -34,6 +34,8 @@ pub mod Distances
 pub mod Adding
 pub mod NearFolds
 pub mod BitFolds
+pub mod TrueCounts
+pub mod TruthFolds
 pub mod ExtremeFolds
 pub mod Reordered
 pub mod Examples

@@ -84,7 +84,7 @@ module _ (numbers : List ℤ) (first k : ℕ) (firsts seconds : ℤ) (sums : Are
 -- ---- folds
 
 module _ (decided : (z : ℤ) → (in_range z ≡ true) ↔ IsInRange z) (bits : (z : ℤ) → IsInRange z ↔ FitsSigned w64 z) where
-  near_exact : (z : ℤ) → unsigned_abs z < 2 ^ 63 → exact z ≡ Ok z
+  pub near_exact : (z : ℤ) → unsigned_abs z < 2 ^ 63 → exact z ≡ Ok z
   near_exact z near = sym (exact_fits z decided bits (fits_signed_from_abs w64 z near))
 
   module _ (numbers : List ℤ) where

@@ -1,5 +1,5 @@
 -- A fold of numbers onto the last one.
-use Rattle.std.proofs.Common.{◌≡◌, ℕ, zero, suc, ◌+◌, ◌-◌, ◌*◌, ◌/◌, ◌%◌, ◌<◌, ◌≤◌, ℤ, pos, List, [], ◌∷◌, length, map, slice_index_or, Result, Ok, Err, refl, sym, ap, ◌∙◌, arith}
+use Rattle.std.proofs.Common.{◌≡◌, ℕ, zero, suc, ◌+◌, ◌-◌, ◌*◌, ◌/◌, ◌%◌, ◌<◌, ◌≤◌, ℤ, pos, List, [], ◌∷◌, length, map, slice_index_or, Result, Ok, Err, refl, sym, ap, subst, ◌∙◌, arith}
 use Rattle.std.proofs.Math.ListN.{get_or-map}
 use Rattle.apl_array.specs.declared.array.Elem.{Elem}
 use Rattle.apl_array.specs.declared.array.Elem.TheVariants.{Int}
@@ -61,11 +61,24 @@ folded_stretch f numbers items first stride n more last some values end =
     (ap (λ m. item (0 + m)) values.len ∙ read n ∙ ap Int (sym end)))
 
 -- the fold of the items along an axis, the last of which comes in to the others
-pub axis_row : (f : ScalarFunction) (numbers : List ℤ) (items block inner place : ℕ) → 2 ≤ items
+number_row : (f : ScalarFunction) (numbers : List ℤ) (items block inner place : ℕ) → 2 ≤ items
     → IsRowFold (dyadic_numbers f) (λ k. Ok (number_of_axis numbers block inner place k)) (items - 1) (Ok (number_of_axis numbers block inner place (items - 1))) (fold_at f (map Int numbers) items block inner place)
-axis_row f numbers items block inner place two =
+number_row f numbers items block inner place two =
     let first = place / inner * block + place % inner in
     record {
       folded = λ others values. sym (folded_stretch f numbers others first inner (items - 1) (items - 2) (number_of_axis numbers block inner place (items - 1)) (omega arith) values refl);
       faulty = λ k fault is. absurd (no_fault (number_at numbers first inner k) fault is.faulty);
     }
+
+-- the same of elements that are numbers
+module _ {T : Type 0} (elem_of : T → Elem) (number_in : T → ℤ) (is : (x : T) → elem_of x ≡ Int (number_in x)) where
+  elements_are : (xs : List T) → map Int (map number_in xs) ≡ map elem_of xs
+  elements_are [] = refl
+  elements_are (x ∷ xs) = ap (λ e. e ∷ map Int (map number_in xs)) (sym (is x)) ∙ ap (λ es. elem_of x ∷ es) (elements_are xs)
+
+  pub axis_row : (f : ScalarFunction) (xs : List T) (items block inner place : ℕ) → 2 ≤ items
+      → IsRowFold (dyadic_numbers f) (λ k. Ok (number_of_axis (map number_in xs) block inner place k)) (items - 1) (Ok (number_of_axis (map number_in xs) block inner place (items - 1))) (fold_at f (map elem_of xs) items block inner place)
+  axis_row f xs items block inner place two =
+      let numbers = map number_in xs in
+      let Is : List Elem → Type 0 = λ es. IsRowFold (dyadic_numbers f) (λ k. Ok (number_of_axis numbers block inner place k)) (items - 1) (Ok (number_of_axis numbers block inner place (items - 1))) (fold_at f es items block inner place) in
+      subst Is (elements_are xs) (number_row f numbers items block inner place two)

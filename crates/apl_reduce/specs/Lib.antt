@@ -10,6 +10,8 @@ pub mod Digits
 pub mod Filled
 pub mod Folded
 pub mod BitFolds
+pub mod Ones
+pub mod TruthFolds
 pub mod RowFolds
 pub mod Fronts
 pub mod Carrying

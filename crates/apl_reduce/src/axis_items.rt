@@ -2,16 +2,19 @@
 ghost use Rattle.std.specs.Prelude.{◌≡◌, ℕ, ◌+◌, ◌-◌, ◌*◌, ◌/◌, ◌%◌, ◌<◌, ◌≤◌, true, length, map, remove, slice_index, slice_index_or, drop};
 ghost use Rattle.apl_pool.specs.Runs.{AreWritten};
 ghost use Rattle.apl_array.specs.declared.array.Elem.TheVariants.{Int, Chr};
+ghost use Rattle.apl_array.specs.Array.{truth_element};
 ghost use Rattle.apl_array.specs.Shape.{count_of};
 ghost use Rattle.apl_pool.specs.declared.kernel.TheConstants.{MOST_PLACES};
 ghost use Rattle.apl_reduce.specs.Filled.{IsFilled};
 ghost use Rattle.apl_reduce.specs.Folded.{fold_at};
 
+use crate::foldable::{Foldable, Numeric};
 use crate::folded_rows::{fold_last_rows, fold_rows, from_place};
 use crate::item_rows::{ItemRows, PlacedItems};
-use crate::line_folds::{Foldable, fold_along};
+use crate::line_folds::fold_along;
 use crate::outer_products::NARROW;
 use crate::sharing::shares_items;
+use crate::truth_folds::has_truth_runs;
 use apl_answer::ElementType;
 use apl_array::{
     Array, ScalarFunction, Shape, inserted_index_has_place, places_match_index_lists,
@@ -164,15 +167,15 @@ impl<T: Foldable, F: Function> AxisFolds<'_, T, F> {
     }
 }
 
-impl PlacedItems for AxisItems<'_, i64> {
-    ghost use Rattle.std.specs.Prelude.{Ok};
+impl<T: Numeric> PlacedItems for AxisItems<'_, T> {
+    ghost use Rattle.std.specs.Prelude.{Ok, map};
     ghost use Rattle.apl_reduce.specs.Folded.{number_of_axis};
 
     ghost place_count = { λ x. x.count };
 
     ghost item_count = { λ x. x.items };
 
-    ghost outcome = { λ x place k. Ok (number_of_axis x.elements.now x.block x.inner place k) };
+    ghost outcome = { λ x place k. Ok (number_of_axis (map T.number_in x.elements.now) x.block x.inner place k) };
 
     fn places(&self) -> usize {
         self.count
@@ -184,7 +187,8 @@ impl PlacedItems for AxisItems<'_, i64> {
 
     #[inline(always)]
     fn item(&self, place: usize, k: usize) -> Result<i64, Fault> {
-        Ok(self.elements[self.first_item(place) + k * self.inner.number()])
+        let place = self.first_item(place) + k * self.inner.number();
+        Ok(self.elements[place].number())
     }
 }
 
@@ -213,6 +217,21 @@ pub(crate) fn fill_number_folds<W: Crew>(
         return apl_summary::fold_rows(workers, f, &ItemRows { items: axis });
     }
     with_type!(f, fill_folds::<F, i64, W>(workers, axis))
+}
+
+/// The folds of truth values at each place. If how many are true gives the fold of neighbours, one worker finds it sooner than several.
+pub(crate) fn fill_truth_folds<W: Crew>(
+    workers: &W,
+    f: ScalarFunction,
+    axis: &AxisItems<bool>,
+) -> Result<Vec<i64>, Stop>
+    ensures { IsFilled (fold_at f (map truth_element axis.now.elements.now) axis.now.items axis.now.block axis.now.inner) axis.now.count result }
+{
+    let is_quick = axis.inner.number() == 1 && has_truth_runs(f);
+    if !is_quick && shares_items(workers, f, axis.count, axis.items) {
+        return apl_summary::fold_rows(workers, f, &ItemRows { items: axis });
+    }
+    with_type!(f, fill_folds::<F, bool, W>(workers, axis))
 }
 
 /// The folds of characters at each place.

@@ -1,7 +1,9 @@
 //! The number that digits make in a list of radices.
-ghost use Rattle.std.specs.Prelude.{◌≡◌, ℕ, pos, ◌+ℤ◌, ◌*ℤ◌, ◌<◌, ◌==◌, ◌||◌, true, false, [], length, MatchOption, slice_index_or};
+ghost use Rattle.std.specs.Prelude.{◌≡◌, ℕ, pos, ◌+ℤ◌, ◌*ℤ◌, ◌<◌, ◌==◌, ◌||◌, ◌↔◌, true, false, [], length, IfSome, IsSome, MatchOption, slice_index_or};
 ghost use Rattle.apl_array.specs.declared.array.Kind.TheVariants.{Number};
+ghost use Rattle.apl_array.specs.Array.{number_array};
 ghost use Rattle.apl_answer.specs.Arguments.{has_one_element, is_number_kind, numbers_of};
+ghost use Rattle.apl_answer.specs.Numbers.{number_list};
 ghost use Rattle.apl_answer.specs.Pointwise.{answer_of, IsAnswerOf};
 ghost use Rattle.apl_answer.specs.Rows.{Answers};
 ghost use Rattle.apl_scalar.specs.Scalar.{exact};
@@ -9,7 +11,7 @@ ghost use Rattle.apl_reduce.specs.Decoding.{have_digits_alike, decode_length, de
 ghost use Rattle.apl_reduce.specs.Fronts.{served, served_value};
 
 use crate::range::limited;
-use apl_answer::{OpFault, fill_array};
+use apl_answer::{Numbers, OpFault, fill_array, numbers_of};
 use apl_array::{Array, Shape};
 use apl_pool::{Crew, Cut, Fault, Gate, Kernel, Pool, Workers};
 use std::alloc::Global;
@@ -82,14 +84,16 @@ impl Kernel for Decoding<'_> {
 }
 
 /// The numbers of an argument, of which a single one serves all digits, and none of characters.
-fn served_by(a: &Array) -> Option<Served<'_>>
+fn served_by<'a>(a: &Array, numbers: &'a Option<Numbers>) -> Option<Served<'a>>
+    requires numbers { IfSome numbers.now (λ ns. a.now ≡ number_array a.now.shape (number_list ns)) }
+    requires kind { IsSome numbers.now ↔ (a.now.kind ≡ Number) }
     ensures { MatchOption result
         (is_number_kind a.now.kind ≡ false)
         (λ s. (is_number_kind a.now.kind ≡ true) × (s.numbers.now ≡ numbers_of a.now) × (s.is_single ≡ has_one_element a.now.shape)) }
 {
-    let numbers = a.numbers()?;
+    let numbers = numbers.as_ref()?;
     Some(Served {
-        numbers,
+        numbers: numbers.as_slice(),
         is_single: a.shape().count() == 1,
     })
 }
@@ -156,7 +160,8 @@ pub fn decode<R: Threads + Sync, C: Cut + Sync, G: Gate + Sync>(
             },
         );
     }
-    let (Some(radices), Some(digits)) = (served_by(a), served_by(b)) else {
+    let (left, right) = (numbers_of(&workers, a)?, numbers_of(&workers, b)?);
+    let (Some(radices), Some(digits)) = (served_by(a, &left), served_by(b, &right)) else {
         return Err(OpFault::Domain);
     };
     decoded(

@@ -13,7 +13,7 @@ ghost use Rattle.apl_reduce.specs.Carrying.{digit_in, digit_number, StandsFor};
 use crate::carry_divisor::{CarryDivisor, carry_divisors};
 use crate::carrying::digit_left;
 use crate::shapes::joined_shape;
-use apl_answer::{OpFault, constant_array, fill_array};
+use apl_answer::{OpFault, constant_array, fill_array, numbers_of};
 use apl_array::{Array, Shape, joined_index_has_place, places_match_index_lists};
 use apl_divisor::Divisor;
 use apl_pool::{Crew, Cut, Fault, Gate, Kernel, Pool, Workers};
@@ -118,11 +118,11 @@ pub fn encode<R: Threads + Sync, C: Cut + Sync, G: Gate + Sync>(
     places_match_index_lists();
     joined_index_has_place();
     let shape = joined_shape(alloc, a.shape().lengths(), b.shape().lengths())?;
-    let Some(radices) = a.numbers() else {
+    let Some(radices) = numbers_of(&workers, a)? else {
         return refuse(&workers, shape);
     };
-    let Some(numbers) = b.numbers() else {
+    let Some(numbers) = numbers_of(&workers, b)? else {
         return refuse(&workers, shape);
     };
-    encode_numbers(&workers, shape, radices, numbers)
+    encode_numbers(&workers, shape, radices.as_slice(), numbers.as_slice())
 }

@@ -8,8 +8,8 @@ ghost use Rattle.apl_reduce.specs.Folded.{folded_onto, element_along, AreFolds};
 ghost use Rattle.apl_reduce.specs.Items.{item_in};
 ghost use Rattle.apl_reduce.specs.RowFolds.{AreFoldedOnto};
 
+use crate::foldable::{Foldable, Numeric};
 use crate::folding::{element_at, fold_items};
-use crate::line_folds::Foldable;
 use apl_answer::ElementType;
 use apl_array::ScalarFunction;
 use apl_pool::Fault;
@@ -83,8 +83,8 @@ fn has_likely_rows<F: Function>() -> bool {
 /// A likely fold of `count` numbers that are `stride` apart from place `first` on, onto what those after them gave, and the doubts whether it
 /// is that. It has no branches if likely results have none.
 #[inline(always)]
-fn likely_onto<F: Function>(
-    numbers: &[i64],
+fn likely_onto<F: Function, T: Numeric>(
+    numbers: &[T],
     first: usize,
     stride: usize,
     count: usize,
@@ -92,14 +92,14 @@ fn likely_onto<F: Function>(
 ) -> (i64, u64)
     requires within { first + count * stride < length numbers.now }
     requires most { length numbers.now ≤ MOST_PLACES }
-    ensures { result.1 ≡ 0 → folded_onto F.FUNCTION (element_along (map Int numbers.now) first stride) 0 count (Ok total) ≡ Ok result.0 }
+    ensures { result.1 ≡ 0 → folded_onto F.FUNCTION (element_along (map T.elem_of numbers.now) first stride) 0 count (Ok total) ≡ Ok result.0 }
 {
     let mut total = total;
     let mut all_doubts = 0;
     let mut place = first + count * stride;
     for _done in 0..count {
         place -= stride;
-        let (next, doubts) = F::likely(numbers[place], total);
+        let (next, doubts) = F::likely(numbers[place].number(), total);
         total = next;
         all_doubts |= doubts;
     }
@@ -109,8 +109,8 @@ fn likely_onto<F: Function>(
 /// Folds the numbers of `count` more rows on the left into the totals, place by place. It says whether all results are sure. If likely
 /// results have no branches, and `count` is constant, a processor does several places at once.
 #[inline(always)]
-fn fold_likely<F: Function>(
-    numbers: &[i64],
+fn fold_likely<F: Function, T: Numeric>(
+    numbers: &[T],
     first: usize,
     stride: usize,
     count: usize,
@@ -118,12 +118,12 @@ fn fold_likely<F: Function>(
 ) -> bool
     requires within { first + count * stride + length totals.old ≤ length numbers.now }
     requires most { length numbers.now ≤ MOST_PLACES }
-    ensures values { result ≡ true → AreFoldedOnto F.FUNCTION (map Int numbers.now) first stride count totals.old totals.new }
+    ensures values { result ≡ true → AreFoldedOnto F.FUNCTION (map T.elem_of numbers.now) first stride count totals.old totals.new }
     ensures len { length totals.new ≡ length totals.old }
 {
     let mut all_doubts = 0;
     for j in 0..totals.len() {
-        let (total, doubts) = likely_onto::<F>(numbers, first + j, stride, count, totals[j]);
+        let (total, doubts) = likely_onto::<F, T>(numbers, first + j, stride, count, totals[j]);
         put(totals, j, total);
         all_doubts |= doubts;
     }
@@ -132,7 +132,7 @@ fn fold_likely<F: Function>(
 
 /// Folds the items of `count` more rows on the left into the totals, place by place. It says whether no place has a fault.
 #[inline(always)]
-fn fold_each<F: Function, T: ElementType>(
+pub(crate) fn fold_each<F: Function, T: ElementType>(
     elements: &[T],
     first: usize,
     stride: usize,
@@ -153,25 +153,24 @@ fn fold_each<F: Function, T: ElementType>(
     true
 }
 
-/// Folds the items of `count` more rows on the left into the totals, in one pass over the totals. It says whether no place has a fault.
+/// Folds the numbers of `count` more rows on the left into the totals, by likely results if these are quick. It says whether no place has a fault.
 #[inline(always)]
-fn fold_pass<F: Function, T: Foldable>(
-    elements: &[T],
+pub(crate) fn fold_number_rows<F: Function, T: Numeric>(
+    numbers: &[T],
     first: usize,
     stride: usize,
     count: usize,
     totals: &mut [i64],
 ) -> bool
-    requires within { first + count * stride + length totals.old ≤ length elements.now }
-    requires most { length elements.now ≤ MOST_PLACES }
-    ensures values { result ≡ true → AreFoldedOnto F.FUNCTION (map T.elem_of elements.now) first stride count totals.old totals.new }
+    requires within { first + count * stride + length totals.old ≤ length numbers.now }
+    requires most { length numbers.now ≤ MOST_PLACES }
+    ensures values { result ≡ true → AreFoldedOnto F.FUNCTION (map T.elem_of numbers.now) first stride count totals.old totals.new }
     ensures len { length totals.new ≡ length totals.old }
 {
-    match T::numbers(elements) {
-        Some(numbers) if has_likely_rows::<F>() => {
-            fold_likely::<F>(numbers, first, stride, count, totals)
-        }
-        _ => fold_each::<F, T>(elements, first, stride, count, totals),
+    if has_likely_rows::<F>() {
+        fold_likely::<F, T>(numbers, first, stride, count, totals)
+    } else {
+        fold_each::<F, T>(numbers, first, stride, count, totals)
     }
 }
 
@@ -197,10 +196,10 @@ pub(crate) fn fold_rows<F: Function, T: Foldable>(
     while row > 0 {
         let folded = if row < TURN {
             row -= 1;
-            fold_pass::<F, T>(elements, first + row * stride, stride, 1, totals)
+            T::fold_pass::<F>(elements, first + row * stride, stride, 1, totals)
         } else {
             row -= TURN;
-            fold_pass::<F, T>(elements, first + row * stride, stride, TURN, totals)
+            T::fold_pass::<F>(elements, first + row * stride, stride, TURN, totals)
         };
         if !folded {
             return false;

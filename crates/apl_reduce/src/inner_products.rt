@@ -21,7 +21,7 @@ use crate::product_items::ProductItems;
 use crate::shapes::{characters_of, joined_shape};
 use crate::sharing::shares_items;
 use crate::sums::Sums;
-use apl_answer::{ElementType, OpFault, array_from_fill};
+use apl_answer::{ElementType, OpFault, array_from_fill, numbers_of};
 use apl_array::{Array, ScalarFunction};
 use apl_divisor::Divisor;
 use apl_pool::{Crew, Cut, Fault, Gate, Kernel, Pool, Stop, Workers, fill};
@@ -258,21 +258,44 @@ fn share_inner<W: Crew>(
     ensures values { IfOk result (λ v. AreValues (inner_number layout.now a.now.ravel b.now.ravel f g) layout.now.count v.items) }
     ensures stop { IfErr result (IsStopOf (inner_number layout.now a.now.ravel b.now.ravel f g) layout.now.count) }
 {
-    match (a.numbers(), b.numbers()) {
+    match (numbers_of(workers, a)?, numbers_of(workers, b)?) {
         (Some(left), Some(right)) => match g {
             Prim::Times => share_lines(
                 workers,
                 layout,
-                left,
-                right,
+                left.as_slice(),
+                right.as_slice(),
                 f,
                 Typed::<Times>(PhantomData),
             ),
-            _ => share_lines(workers, layout, left, right, f, Chosen(g)),
+            _ => share_lines(
+                workers,
+                layout,
+                left.as_slice(),
+                right.as_slice(),
+                f,
+                Chosen(g),
+            ),
         },
-        (Some(left), None) => { share_lines(workers, layout, left, characters_of(b), f, Chosen(g)) }
+        (Some(left), None) => {
+            share_lines(
+                workers,
+                layout,
+                left.as_slice(),
+                characters_of(b),
+                f,
+                Chosen(g),
+            )
+        }
         (None, Some(right)) => {
-            share_lines(workers, layout, characters_of(a), right, f, Chosen(g))
+            share_lines(
+                workers,
+                layout,
+                characters_of(a),
+                right.as_slice(),
+                f,
+                Chosen(g),
+            )
         }
         (None, None) => {
             share_lines(
@@ -303,13 +326,20 @@ fn fill_inner_elements<W: Crew>(
     if shares_items(workers, f, layout.count, layout.items) {
         return share_inner(workers, f, g, layout, a, b);
     }
-    match (a.numbers(), b.numbers()) {
-        (Some(left), Some(right)) => fill_inner_ordered(workers, f, g, layout, left, right),
+    match (numbers_of(workers, a)?, numbers_of(workers, b)?) {
+        (Some(left), Some(right)) => fill_inner_ordered(
+            workers,
+            f,
+            g,
+            layout,
+            left.as_slice(),
+            right.as_slice(),
+        ),
         (Some(left), None) => {
             fill_inner(
                 workers,
                 layout,
-                left,
+                left.as_slice(),
                 characters_of(b),
                 Chosen(f),
                 Chosen(g),
@@ -320,7 +350,7 @@ fn fill_inner_elements<W: Crew>(
                 workers,
                 layout,
                 characters_of(a),
-                right,
+                right.as_slice(),
                 Chosen(f),
                 Chosen(g),
             )

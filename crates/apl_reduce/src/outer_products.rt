@@ -2,22 +2,24 @@
 ghost use Rattle.std.specs.Prelude.{◌≡◌, ◌+◌, ◌<◌, ◌≤◌, ◌*◌, IfErr, IfOk, IsTrue, length, map};
 ghost use Rattle.apl_array.specs.declared.function.ScalarFunction.{ScalarFunction};
 ghost use Rattle.apl_array.specs.declared.array.Elem.TheVariants.{Int, Chr};
+ghost use Rattle.apl_array.specs.declared.array.Kind.TheVariants.{Number};
+ghost use Rattle.apl_array.specs.Shape.{count_of};
 ghost use Rattle.apl_array.specs.Valences.{has_dyadic};
 ghost use Rattle.apl_pool.specs.declared.kernel.TheConstants.{MOST_PLACES};
-ghost use Rattle.apl_pool.specs.Pool.{AreValues, IsStopOf};
+ghost use Rattle.apl_answer.specs.Pointwise.{IsAnswerAt};
 ghost use Rattle.apl_answer.specs.Rows.{Answers};
-ghost use Rattle.apl_reduce.specs.Filled.{IsFilled};
+ghost use Rattle.apl_scalar.specs.Scalar.{as_element};
 ghost use Rattle.apl_reduce.specs.Items.{outer_number, IsOuterRun};
 ghost use Rattle.apl_reduce.specs.Products.{outer_row};
 
 use crate::dyadic::{Chosen, Dyadic, Typed};
 use crate::shapes::{characters_of, joined_shape};
-use apl_answer::{ElementType, OpFault, array_from_fill};
-use apl_array::{Array, ScalarFunction, joined_index_has_place, places_match_index_lists};
+use apl_answer::{ElementType, OpFault, constant_array, fill_array, numbers_of};
+use apl_array::{Array, ScalarFunction, Shape, joined_index_has_place, places_match_index_lists};
 use apl_divisor::Divisor;
-use apl_pool::{Crew, Cut, Fault, Gate, Kernel, Pool, Stop, Workers, fill};
+use apl_pool::{Crew, Cut, Fault, Gate, Kernel, Pool, Workers};
 use apl_scalar::function_types::{Equal, Function, NotEqual};
-use apl_scalar::with_type;
+use apl_scalar::{is_truth_valued, truth_values_are_results, with_type};
 use std::alloc::Global;
 use std::marker::PhantomData;
 use std::thread::Threads;
@@ -87,95 +89,159 @@ impl<T: ElementType, U: ElementType, F: Dyadic> Kernel for EachPair<'_, T, U, F>
     }
 }
 
-/// A function of each element of one list and each element of another.
-fn fill_outer<T: ElementType + Sync, U: ElementType + Sync, F: Dyadic + Sync, W: Crew>(
+/// The same, of a function whose results are truth values.
+#[derive(Drop)]
+struct EachTruthPair<'a, T, U, F: Dyadic> {
+    pairs: EachPair<'a, T, U, F>,
+}
+
+impl<T: ElementType, U: ElementType, F: Dyadic> Kernel for EachTruthPair<'_, T, U, F> {
+    ghost use Rattle.std.specs.Prelude.{map};
+    ghost use Rattle.apl_scalar.specs.Scalar.{truth_outcome};
+    ghost use Rattle.apl_reduce.specs.Items.{outer_number};
+
+    type Out = bool;
+
+    ghost place_count = { λ k. k.pairs.count };
+
+    ghost outcome = { λ k place. truth_outcome (outer_number (F.function k.pairs.function) (map T.elem_of k.pairs.left.now) (map U.elem_of k.pairs.right.now) place) };
+
+    fn count(&self) -> usize {
+        self.pairs.count
+    }
+
+    #[inline(always)]
+    fn at(&self, place: usize) -> Result<bool, Fault> {
+        match self.pairs.at(place) {
+            Ok(number) => Ok(number == 1),
+            Err(fault) => Err(fault),
+        }
+    }
+
+    #[inline(always)]
+    fn write_run(&self, from: usize, to: usize, room: &mut [bool]) -> usize {
+        if from == to || self.pairs.right.len() < NARROW {
+            return from;
+        }
+        let (x, others) = self.pairs.row_from(from, to);
+        from + self.pairs.function.write_truth_row(x, others, room)
+    }
+}
+
+/// The array of this shape of a function of each element of one list and each element of another.
+fn outer_array<T: ElementType + Sync, U: ElementType + Sync, F: Dyadic + Sync, W: Crew>(
     workers: &W,
+    shape: Shape,
     left: &[T],
     right: &[U],
     function: F,
-) -> Result<Vec<i64>, Stop>
-    requires { length left.now * length right.now ≤ MOST_PLACES }
-    ensures values { IfOk result (λ v. AreValues (λ place. outer_number (F.function function) (map T.elem_of left.now) (map U.elem_of right.now) place) (length left.now * length right.now) v.items) }
-    ensures stop { IfErr result (IsStopOf (λ place. outer_number (F.function function) (map T.elem_of left.now) (map U.elem_of right.now) place) (length left.now * length right.now)) }
+) -> Result<Array, OpFault>
+    requires { count_of shape ≡ length left.now * length right.now }
+    ensures { IsAnswerAt shape Number (λ place. as_element (outer_number (F.function function) (map T.elem_of left.now) (map U.elem_of right.now) place)) result }
 {
-    let count = left.len() * right.len();
+    let count = shape.count();
     if count == 0 {
-        return Ok(Vec::new(workers.alloc()));
+        return constant_array(workers, shape, Ok(0));
     }
-    let kernel = EachPair {
+    let pairs = EachPair {
         left,
         right,
         columns: Divisor::new(right.len()),
         count,
         function,
     };
-    fill(workers, &kernel)
+    if is_truth_valued(function.named()) {
+        truth_values_are_results();
+        return fill_array(workers, shape, &EachTruthPair { pairs });
+    }
+    fill_array(workers, shape, &pairs)
 }
 
-/// As for numbers, but of characters, of which only `=` and `≠` give something.
-fn fill_outer_characters<W: Crew>(
+/// As of numbers, but of characters, of which only `=` and `≠` give something.
+fn outer_characters<W: Crew>(
     workers: &W,
+    shape: Shape,
     f: ScalarFunction,
     left: &[char],
     right: &[char],
-) -> Result<Vec<i64>, Stop>
-    requires { length left.now * length right.now ≤ MOST_PLACES }
-    ensures values { IfOk result (λ v. AreValues (λ place. outer_number f (map Chr left.now) (map Chr right.now) place) (length left.now * length right.now) v.items) }
-    ensures stop { IfErr result (IsStopOf (λ place. outer_number f (map Chr left.now) (map Chr right.now) place) (length left.now * length right.now)) }
+) -> Result<Array, OpFault>
+    requires { count_of shape ≡ length left.now * length right.now }
+    ensures { IsAnswerAt shape Number (λ place. as_element (outer_number f (map Chr left.now) (map Chr right.now) place)) result }
 {
     match f {
-        ScalarFunction::Equal => fill_outer(workers, left, right, Typed::<Equal>(PhantomData)),
-        ScalarFunction::NotEqual => fill_outer(
+        ScalarFunction::Equal => outer_array(
             workers,
+            shape,
+            left,
+            right,
+            Typed::<Equal>(PhantomData),
+        ),
+        ScalarFunction::NotEqual => outer_array(
+            workers,
+            shape,
             left,
             right,
             Typed::<NotEqual>(PhantomData),
         ),
-        _ => fill_outer(workers, left, right, Chosen(f)),
+        _ => outer_array(workers, shape, left, right, Chosen(f)),
     }
 }
 
 /// A function of each number of one list and each number of another, compiled for that function.
-fn fill_outer_typed<F: Function + Copy + Sync, W: Crew>(
+fn outer_typed<F: Function + Copy + Sync, W: Crew>(
     workers: &W,
+    shape: Shape,
     left: &[i64],
     right: &[i64],
-) -> Result<Vec<i64>, Stop>
-    requires { length left.now * length right.now ≤ MOST_PLACES }
-    ensures { IsFilled (outer_number F.FUNCTION (map Int left.now) (map Int right.now)) (length left.now * length right.now) result }
+) -> Result<Array, OpFault>
+    requires { count_of shape ≡ length left.now * length right.now }
+    ensures { IsAnswerAt shape Number (λ place. as_element (outer_number F.FUNCTION (map Int left.now) (map Int right.now) place)) result }
 {
-    fill_outer(workers, left, right, Typed::<F>(PhantomData))
+    outer_array(workers, shape, left, right, Typed::<F>(PhantomData))
 }
 
 /// A function of each number of one list and each number of another.
-fn fill_outer_numbers<W: Crew>(
+fn outer_numbers<W: Crew>(
     workers: &W,
+    shape: Shape,
     f: ScalarFunction,
     left: &[i64],
     right: &[i64],
-) -> Result<Vec<i64>, Stop>
-    requires { length left.now * length right.now ≤ MOST_PLACES }
-    ensures { IsFilled (outer_number f (map Int left.now) (map Int right.now)) (length left.now * length right.now) result }
+) -> Result<Array, OpFault>
+    requires { count_of shape ≡ length left.now * length right.now }
+    ensures { IsAnswerAt shape Number (λ place. as_element (outer_number f (map Int left.now) (map Int right.now) place)) result }
 {
-    with_type!(f, fill_outer_typed::<F, W>(workers, left, right))
+    with_type!(f, outer_typed::<F, W>(workers, shape, left, right))
 }
 
-/// A function of each element of `a` and each element of `b`.
-fn fill_outer_elements<W: Crew>(
+/// The array of this shape of a function of each element of `a` and each element of `b`.
+fn outer_elements<W: Crew>(
     workers: &W,
+    shape: Shape,
     f: ScalarFunction,
     a: &Array,
     b: &Array,
-) -> Result<Vec<i64>, Stop>
-    requires { length a.now.ravel * length b.now.ravel ≤ MOST_PLACES }
-    ensures values { IfOk result (λ v. AreValues (λ place. outer_number f a.now.ravel b.now.ravel place) (length a.now.ravel * length b.now.ravel) v.items) }
-    ensures stop { IfErr result (IsStopOf (λ place. outer_number f a.now.ravel b.now.ravel place) (length a.now.ravel * length b.now.ravel)) }
+) -> Result<Array, OpFault>
+    requires places { count_of shape ≡ length a.now.ravel * length b.now.ravel }
+    ensures { IsAnswerAt shape Number (λ place. as_element (outer_number f a.now.ravel b.now.ravel place)) result }
 {
-    match (a.numbers(), b.numbers()) {
-        (Some(left), Some(right)) => fill_outer_numbers(workers, f, left, right),
-        (Some(left), None) => fill_outer(workers, left, characters_of(b), Chosen(f)),
-        (None, Some(right)) => fill_outer(workers, characters_of(a), right, Chosen(f)),
-        (None, None) => fill_outer_characters(workers, f, characters_of(a), characters_of(b)),
+    match (numbers_of(workers, a)?, numbers_of(workers, b)?) {
+        (Some(left), Some(right)) => {
+            outer_numbers(workers, shape, f, left.as_slice(), right.as_slice())
+        }
+        (Some(left), None) => {
+            outer_array(workers, shape, left.as_slice(), characters_of(b), Chosen(f))
+        }
+        (None, Some(right)) => {
+            outer_array(
+                workers,
+                shape,
+                characters_of(a),
+                right.as_slice(),
+                Chosen(f),
+            )
+        }
+        (None, None) => outer_characters(workers, shape, f, characters_of(a), characters_of(b)),
     }
 }
 
@@ -198,7 +264,6 @@ pub fn outer<R: Threads + Sync, C: Cut + Sync, G: Gate + Sync>(
     // Arrays and shapes that were asked something are known to be lawful.
     let _kinds = (a.kind(), b.kind());
     let shape = joined_shape(alloc, a.shape().lengths(), b.shape().lengths())?;
-    let _count = shape.count();
     let workers = Workers { rt, alloc, pool };
-    array_from_fill(shape, fill_outer_elements(&workers, f, a, b))
+    outer_elements(&workers, shape, f, a, b)
 }

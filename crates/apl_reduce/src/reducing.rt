@@ -10,11 +10,11 @@ ghost use Rattle.apl_scalar.specs.Scalar.{identity_of};
 ghost use Rattle.apl_reduce.specs.Folding.{identity_or_fault, reduction};
 ghost use Rattle.apl_reduce.specs.Reducing.{items_along, reduce_row};
 
-use crate::axis_items::{AxisItems, fill_character_folds, fill_number_folds};
+use crate::axis_items::{AxisItems, fill_character_folds, fill_number_folds, fill_truth_folds};
 use apl_answer::{OpFault, array_from_fill, array_of_elements, constant_array};
 use apl_array::{
-    Array, Axis, ScalarFunction, Shape, inserted_index_has_place, places_match_index_lists,
-    replaced_index_has_place,
+    Array, Axis, Elements, ScalarFunction, Shape, inserted_index_has_place,
+    places_match_index_lists, replaced_index_has_place,
 };
 use apl_pool::{Crew, Cut, Fault, Gate, Pool, Workers};
 use apl_scalar::identity;
@@ -49,15 +49,16 @@ fn fold<W: Crew>(
     if shape.count() == 0 {
         return constant_array(workers, shape, Ok(0));
     }
-    let filled = match b.numbers() {
-        Some(numbers) => {
+    let filled = match b.elements() {
+        Elements::Numbers(numbers) => {
             let axis = AxisItems::new(b, numbers, k, &shape);
             fill_number_folds(workers, f, &axis)
         }
-        None => {
-            let Some(characters) = b.characters() else {
-                unreachable!()
-            };
+        Elements::Truths(truths) => {
+            let axis = AxisItems::new(b, truths, k, &shape);
+            fill_truth_folds(workers, f, &axis)
+        }
+        Elements::Characters(characters) => {
             let axis = AxisItems::new(b, characters, k, &shape);
             fill_character_folds(workers, f, &axis)
         }

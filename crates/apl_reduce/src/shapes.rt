@@ -7,7 +7,7 @@ ghost use Rattle.apl_pool.specs.declared.kernel.TheConstants.{MOST_PLACES};
 ghost use Rattle.apl_answer.specs.Pointwise.{IsShapeOf};
 
 use apl_answer::OpFault;
-use apl_array::{Array, Shape, joined_index_has_place};
+use apl_array::{Array, Elements, Shape, joined_index_has_place};
 use std::alloc::Global;
 
 /// The shape with the lengths of two. It is refused if it passes a limit (`Limit`).
@@ -42,7 +42,7 @@ pub(crate) fn characters_of(a: &Array) -> &[char]
     requires { a.now.kind ≢ Number }
     ensures { a.now ≡ character_array a.now.shape result.now }
 {
-    let Some(characters) = a.characters() else {
+    let Elements::Characters(characters) = a.elements() else {
         unreachable!()
     };
     characters

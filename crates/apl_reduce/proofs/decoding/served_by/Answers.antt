@@ -7,6 +7,6 @@ use Rattle.apl_reduce.proofs.decoding.served_by.Goals as goal
 pub returns : goal.returns
 returns c =
     let a = c.args.a.now in
-    let numbers = c.in_ok-numbers.numbers.now in
-    let array : a ≡ number_array a.shape numbers = c.in_ok-numbers.ensures.numbers in
+    let numbers = c.as_slice.result.now in
+    let array : a ≡ number_array a.shape numbers = search rules in
     (ap (λ v. is_number_kind v.kind) array, sym (ap numbers_of array ∙ numbers_of_numbers numbers), search rules)

@@ -2,7 +2,6 @@ use Rattle.std.proofs.Common.{◌≡◌, ℤ, pos, ◌+◌, map, Ok, slice_index
 use Rattle.std.proofs.lemmas.Int.{to_z-of_z}
 use Rattle.std.proofs.lemmas.List.{get_or-set_other}
 use Rattle.std.proofs.lemmas.Nat.{le_or_l, le_or_r}
-use Rattle.apl_array.specs.declared.array.Elem.TheVariants.{Int}
 use Rattle.apl_reduce.specs.Folded.{folded_onto, element_along}
 use Rattle.apl_reduce.proofs.Runs.{written_more}
 use Rattle.apl_reduce.proofs.folded_rows.fold_likely.Goals as goal
@@ -17,7 +16,7 @@ loop-j-preserved g c =
     let kept : to_z w64 (of_z w64 next.0) ≡ next.0 = search rules in
     let fits : FitsSigned w64 t = search rules in
     let before = c.loop-j.invariant.rest j (omega arith) in
-    let onto = λ (z : ℤ). folded_onto f (element_along (map Int c.args.numbers.now) (c.args.first + j) c.args.stride) 0 c.args.count (Ok z) in
+    let onto = λ (z : ℤ). folded_onto f (element_along (map g.T.ElementType.elem_of c.args.numbers.now) (c.args.first + j) c.args.stride) 0 c.args.count (Ok z) in
     record {
       values = λ none.
           let before_none : c.loop-j.all_doubts ≡ 0 = omega (arith, none, le_or_l c.loop-j.all_doubts next.1) in

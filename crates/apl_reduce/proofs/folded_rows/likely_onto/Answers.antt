@@ -1,6 +1,6 @@
-use Rattle.std.proofs.Common.{◌≡◌, suc, ◌+◌, ◌-◌, map, ℤ, pos, Ok, slice_index_or, FitsSigned, to_z, of_z, w64, sym, ap, ◌∙◌, rules, arith}
-use Rattle.std.proofs.Math.ListN.{get_or-map}
+use Rattle.std.proofs.Common.{◌≡◌, suc, ◌+◌, ◌-◌, ◌<◌, length, map, ℤ, pos, Ok, slice_index_or, FitsSigned, to_z, of_z, w64, sym, ap, ◌∙◌, rules, arith}
 use Rattle.std.proofs.lemmas.Int.{to_z-of_z}
+use Rattle.std.proofs.lemmas.List.{get_or-map}
 use Rattle.std.proofs.lemmas.Nat.{le_or_l, le_or_r}
 use Rattle.apl_array.specs.declared.array.Elem.TheVariants.{Int}
 use Rattle.apl_scalar.specs.Scalar.{dyadic_numbers}
@@ -11,7 +11,8 @@ use Rattle.apl_reduce.proofs.folded_rows.likely_onto.Goals as goal
 pub loop-done-preserved : goal.loop-done-preserved
 loop-done-preserved g c =
     let f = g.F.Function.FUNCTION in
-    let numbers = c.args.numbers.now in
+    let elem_of = g.T.ElementType.elem_of in
+    let elements = map elem_of c.args.numbers.now in
     let first = c.args.first in
     let stride = c.args.stride in
     let m = c.loop-done._done in
@@ -19,9 +20,14 @@ loop-done-preserved g c =
     let done : m + 1 ≡ suc m = omega arith in
     let k = c.args.count - (m + 1) in
     let left : c.args.count - m ≡ k + 1 = omega (arith, c.loop-done-test.true) in
+    let here = c.loop-done.place - stride in
     let place = one_step_less first (c.args.count - m) k stride c.loop-done.place left kept.place in
-    let x = slice_index_or numbers (c.loop-done.place - stride) (pos 0) in
+    let inside : here < length c.args.numbers.now = search rules in
+    let element = c.index-numbers-place.result in
+    let x = c.number.result in
     let fits : FitsSigned w64 x = search rules in
+    let read : Int x ≡ slice_index_or elements here (Int (pos 0)) =
+    ap Int c.number.ensures ∙ sym (g.met.T.Numeric.is_number element) ∙ ap elem_of c.index-numbers-place.is ∙ sym (get_or-map elem_of c.args.numbers.now here element (Int (pos 0)) inside) in
     let next = c.likely-next.result in
     let stored : to_z w64 (of_z w64 next.0) ≡ next.0 = search rules in
     record {
@@ -32,6 +38,6 @@ loop-done-preserved g c =
           ap (λ (z : ℤ). Ok z) stored
           ∙ sym (c.likely-next.ensures own_none)
           ∙ ap (λ z. dyadic_numbers f z (to_z w64 c.loop-done.total-bits)) (to_z-of_z w64 x fits)
-          ∙ one_onto f (element_along (map Int numbers) first stride) k (c.args.count - m) m (m + 1) (Int x) (Ok (to_z w64 c.loop-done.total-bits)) (Ok (to_z w64 (of_z w64 c.args.total))) (omega (arith, left)) done
-          (sym (get_or-map Int numbers (c.loop-done.place - stride) (pos 0)) ∙ reached (map Int numbers) first stride k (c.loop-done.place - stride) place) (kept.total before_none);
+          ∙ one_onto f (element_along elements first stride) k (c.args.count - m) m (m + 1) (Int x) (Ok (to_z w64 c.loop-done.total-bits)) (Ok (to_z w64 (of_z w64 c.args.total))) (omega (arith, left)) done
+          (read ∙ reached elements first stride k here place) (kept.total before_none);
     }

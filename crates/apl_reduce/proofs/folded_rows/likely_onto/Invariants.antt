@@ -1,10 +1,9 @@
 use Rattle.std.proofs.Common.{◌≡◌, ◌+◌, ◌-◌, ◌*◌, Ok, map}
-use Rattle.apl_array.specs.declared.array.Elem.TheVariants.{Int}
 use Rattle.apl_reduce.specs.Folded.{folded_onto, element_along}
 use Rattle.apl_reduce.proofs.folded_rows.likely_onto.Given as goal
 
 abbrev pub invariant-loop-done : goal.invariant-loop-done
 invariant-loop-done g l = record {
   place : l.place ≡ l.first + (l.count - l._done) * l.stride;
-  total : l.all_doubts ≡ 0 → Ok l.total ≡ folded_onto g.F.Function.FUNCTION (element_along (map Int l.numbers) l.first l.stride) (l.count - l._done) l._done (Ok l.initial.total);
+  total : l.all_doubts ≡ 0 → Ok l.total ≡ folded_onto g.F.Function.FUNCTION (element_along (map g.T.ElementType.elem_of l.numbers) l.first l.stride) (l.count - l._done) l._done (Ok l.initial.total);
 }

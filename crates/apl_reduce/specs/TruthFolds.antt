@@ -1,0 +1,13 @@
+-- Functions that, of truth values, ask for all or for one. No contract of a public function cites this file.
+use Rattle.std.specs.Prelude.{◌≡◌, ◌&&◌, ◌||◌, Bool, Ok}
+use Rattle.apl_array.specs.declared.function.ScalarFunction.{ScalarFunction}
+use Rattle.apl_array.specs.Array.{bit, truth_element}
+use Rattle.apl_scalar.specs.Scalar.{dyadic_of}
+
+-- of two truth values it gives 1 if both are 1, and else 0
+abbrev pub IsConjunction : ScalarFunction → Type 0
+IsConjunction f = (a b : Bool) → dyadic_of f (truth_element a) (truth_element b) ≡ Ok (bit (a && b))
+
+-- of two truth values it gives 0 if both are 0, and else 1
+abbrev pub IsDisjunction : ScalarFunction → Type 0
+IsDisjunction f = (a b : Bool) → dyadic_of f (truth_element a) (truth_element b) ≡ Ok (bit (a || b))

@@ -1,0 +1,159 @@
+//! Kinds of elements, each with its ways to fold them.
+ghost use Rattle.std.specs.Prelude.{refl};
+ghost use Rattle.apl_array.specs.Array.{bit};
+
+use crate::folded_rows::{fold_each, fold_number_rows};
+use crate::folding::fold_many;
+use crate::run_folds::{fold_neighbours, has_quick_runs};
+use crate::truth_folds::{fold_truths, has_truth_runs};
+use apl_answer::ElementType;
+use apl_pool::Fault;
+use apl_scalar::function_types::Function;
+
+/// Elements that are numbers, however they are held.
+pub(crate) trait Numeric: ElementType {
+    ghost use Rattle.std.specs.Prelude.{◌≡◌, ℤ};
+    ghost use Rattle.apl_array.specs.declared.array.Elem.TheVariants.{Int};
+
+    // The number that an element is.
+    ghost number_in: { Self → ℤ };
+
+    /// The number that an element is.
+    fn number(self) -> i64
+        ensures { result ≡ number_in self };
+
+    ghost is_number: { (x : Self) → Self.elem_of x ≡ Int (number_in x) };
+}
+
+impl Numeric for i64 {
+    ghost number_in = { λ x. x };
+
+    ghost is_number = { λ x. refl };
+
+    #[inline(always)]
+    fn number(self) -> i64 {
+        self
+    }
+}
+
+impl Numeric for bool {
+    ghost number_in = { bit };
+
+    ghost is_number = { λ x. refl };
+
+    #[inline(always)]
+    fn number(self) -> i64 {
+        if self { 1 } else { 0 }
+    }
+}
+
+/// Elements of one kind, which are folded onto what those after them gave.
+pub(crate) trait Foldable: ElementType {
+    ghost use Rattle.std.specs.Prelude.{◌≡◌, ◌+◌, ◌*◌, ◌<◌, ◌≤◌, true, Ok, length, map};
+    ghost use Rattle.apl_pool.specs.declared.kernel.TheConstants.{MOST_PLACES};
+    ghost use Rattle.apl_reduce.specs.Folded.{folded_onto, element_along};
+    ghost use Rattle.apl_reduce.specs.RowFolds.{AreFoldedOnto};
+
+    /// The right fold of `count` elements that are `stride` apart from place `first` on, onto a total.
+    fn fold_onto<F: Function>(
+        elements: &[Self],
+        first: usize,
+        stride: usize,
+        count: usize,
+        total: i64,
+    ) -> Result<i64, Fault>
+        requires within { first + count * stride < length elements.now }
+        requires most { length elements.now ≤ MOST_PLACES }
+        ensures { result ≡ folded_onto F.FUNCTION (element_along (map Self.elem_of elements.now) first stride) 0 count (Ok total) };
+
+    /// Folds the items of `count` more rows on the left into the totals, in one pass over the totals. It says whether no place has a fault.
+    fn fold_pass<F: Function>(
+        elements: &[Self],
+        first: usize,
+        stride: usize,
+        count: usize,
+        totals: &mut [i64],
+    ) -> bool
+        requires within { first + count * stride + length totals.old ≤ length elements.now }
+        requires most { length elements.now ≤ MOST_PLACES }
+        ensures values { result ≡ true → AreFoldedOnto F.FUNCTION (map Self.elem_of elements.now) first stride count totals.old totals.new }
+        ensures len { length totals.new ≡ length totals.old };
+}
+
+impl Foldable for i64 {
+    #[inline(always)]
+    fn fold_onto<F: Function>(
+        elements: &[i64],
+        first: usize,
+        stride: usize,
+        count: usize,
+        total: i64,
+    ) -> Result<i64, Fault> {
+        if stride == 1 && has_quick_runs::<F>() {
+            return fold_neighbours::<F>(elements, first, count, total);
+        }
+        fold_many::<F, i64>(elements, first, stride, count, total)
+    }
+
+    #[inline(always)]
+    fn fold_pass<F: Function>(
+        elements: &[i64],
+        first: usize,
+        stride: usize,
+        count: usize,
+        totals: &mut [i64],
+    ) -> bool {
+        fold_number_rows::<F, i64>(elements, first, stride, count, totals)
+    }
+}
+
+impl Foldable for bool {
+    #[inline(always)]
+    fn fold_onto<F: Function>(
+        elements: &[bool],
+        first: usize,
+        stride: usize,
+        count: usize,
+        total: i64,
+    ) -> Result<i64, Fault> {
+        if stride == 1 && has_truth_runs(F::FUNCTION) {
+            return fold_truths::<F>(elements, first, count, total);
+        }
+        fold_many::<F, bool>(elements, first, stride, count, total)
+    }
+
+    #[inline(always)]
+    fn fold_pass<F: Function>(
+        elements: &[bool],
+        first: usize,
+        stride: usize,
+        count: usize,
+        totals: &mut [i64],
+    ) -> bool {
+        fold_number_rows::<F, bool>(elements, first, stride, count, totals)
+    }
+}
+
+impl Foldable for char {
+    #[inline(always)]
+    fn fold_onto<F: Function>(
+        elements: &[char],
+        first: usize,
+        stride: usize,
+        count: usize,
+        total: i64,
+    ) -> Result<i64, Fault> {
+        fold_many::<F, char>(elements, first, stride, count, total)
+    }
+
+    #[inline(always)]
+    fn fold_pass<F: Function>(
+        elements: &[char],
+        first: usize,
+        stride: usize,
+        count: usize,
+        totals: &mut [i64],
+    ) -> bool {
+        fold_each::<F, char>(elements, first, stride, count, totals)
+    }
+}
