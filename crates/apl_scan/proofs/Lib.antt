@@ -8,3 +8,4 @@ pub mod ScannedPlaces
 pub mod ScannedRows
 pub mod ScanLimits
 pub mod RunningSums
+pub mod TruthLines

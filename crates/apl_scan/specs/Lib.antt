@@ -2,3 +2,4 @@ pub mod Scanning
 pub mod RunningSums
 pub mod Lines
 pub mod Running
+pub mod TruthLines

@@ -16,6 +16,7 @@ mod running;
 mod running_sums;
 mod scanning;
 mod summarized;
+mod truth_lines;
 
 pub use laws::scanned_answers_are_within_limits;
 pub use running_sums::consecutive_sums_decide;

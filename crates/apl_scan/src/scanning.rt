@@ -2,6 +2,7 @@
 ghost use Rattle.std.specs.Prelude.{◌≡◌, ◌<◌, ◌≤◌, IsTrue, length, map, slice_index};
 ghost use Rattle.apl_array.specs.declared.array.Elem.TheVariants.{Int};
 ghost use Rattle.apl_array.specs.declared.array.Kind.TheVariants.{Number};
+ghost use Rattle.apl_array.specs.Array.{truth_element};
 ghost use Rattle.apl_array.specs.Shape.{count_of};
 ghost use Rattle.apl_array.specs.Valences.{has_dyadic};
 ghost use Rattle.apl_answer.specs.Pointwise.{answer_of, IsAnswerOf};
@@ -10,10 +11,11 @@ ghost use Rattle.apl_reduce.specs.Folding.{reduction};
 ghost use Rattle.apl_scan.specs.Scanning.{items_up_to, scanned, scan_row};
 
 use crate::lines::{AxisLines, fill_scans};
-use apl_answer::{OpFault, array_from_fill, array_of_elements, constant_array};
+use crate::truth_lines::{end_of, join_lines};
+use apl_answer::{OpFault, array_from_fill, array_of_elements, constant_array, numbers_of};
 use apl_array::{
-    Array, Axis, ScalarFunction, Shape, places_match_index_lists, replaced_index_has_place,
-    split_index_has_place,
+    Array, Axis, Elements, ScalarFunction, Shape, places_match_index_lists,
+    replaced_index_has_place, split_index_has_place,
 };
 use apl_pool::{Crew, Cut, Fault, Gate, Pool, Workers};
 use std::alloc::Global;
@@ -40,6 +42,37 @@ fn scan_numbers<W: Crew>(
     array_from_fill(shape, fill_scans(workers, f, &lines))
 }
 
+/// The scan of truth values along axis `k`, of two and more items. By `∧` and `∨` along the last axis it is of truth values, and else of the
+/// numbers that they are.
+fn scan_truths<W: Crew>(
+    workers: &W,
+    f: ScalarFunction,
+    b: &Array,
+    truths: &[bool],
+    k: usize,
+) -> Result<Array, OpFault>
+    requires axis { k < length b.now.shape }
+    requires some { 0 < count_of b.now.shape }
+    requires truths { b.now.ravel ≡ map truth_element truths.now }
+    requires kind { b.now.kind ≡ Number }
+    ensures { IsAnswerOf (answer_of b.now.shape (λ index. reduction f (items_up_to b.now k index)) Number) result }
+{
+    places_match_index_lists();
+    replaced_index_has_place();
+    split_index_has_place();
+    if b.shape().inner(k) == 1
+        && let Some(end) = end_of(f)
+    {
+        let shape = b.shape().copy(workers.alloc())?;
+        let values = join_lines(workers.alloc(), truths, b.shape().axis(k), end)?;
+        return array_from_fill(shape, Ok(values));
+    }
+    let Some(numbers) = numbers_of(workers, b)? else {
+        unreachable!()
+    };
+    scan_numbers(workers, f, b, numbers.as_slice(), k)
+}
+
 /// The scan along axis `k`, of two and more items.
 fn scan_items<W: Crew>(
     workers: &W,
@@ -53,9 +86,10 @@ fn scan_items<W: Crew>(
     if b.shape().count() == 0 {
         return constant_array(workers, b.shape().copy(workers.alloc())?, Ok(0));
     }
-    match b.numbers() {
-        Some(numbers) => scan_numbers(workers, f, b, numbers, k),
-        None => constant_array(
+    match b.elements() {
+        Elements::Numbers(numbers) => scan_numbers(workers, f, b, numbers, k),
+        Elements::Truths(truths) => scan_truths(workers, f, b, truths, k),
+        Elements::Characters(_) => constant_array(
             workers,
             b.shape().copy(workers.alloc())?,
             Err(Fault::Domain),

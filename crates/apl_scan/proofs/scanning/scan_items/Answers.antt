@@ -3,7 +3,12 @@ use Rattle.apl_array.specs.declared.array.Kind.TheVariants.{Number}
 use Rattle.apl_array.specs.Array.{ArrayValue}
 use Rattle.apl_scan.proofs.scanning.scan_items.Goals as goal
 
-pub returns-in-Some : goal.returns-in-Some
-returns-in-Some g c =
-    let number : c.args.b.now.kind ≡ Number = ap (λ (a : ArrayValue). a.kind) c.in-Some.ensures.numbers in
+pub returns-in-Numbers : goal.returns-in-Numbers
+returns-in-Numbers g c =
+    let number : c.args.b.now.kind ≡ Number = ap (λ (a : ArrayValue). a.kind) c.in-Numbers.ensures.elements in
     rw number c.scan_numbers.ensures
+
+pub returns-in-Truths : goal.returns-in-Truths
+returns-in-Truths g c =
+    let number : c.args.b.now.kind ≡ Number = ap (λ (a : ArrayValue). a.kind) c.in-Truths.ensures.elements in
+    rw number c.scan_truths.ensures
