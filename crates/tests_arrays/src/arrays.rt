@@ -1,5 +1,5 @@
 //! Shapes, places of a small array, and arrays that keep their kind.
-use crate::notation::lengths_of;
+use crate::notation::{held_characters, held_numbers, held_truths, lengths_of};
 use apl_array::{
     Array, Elem, Kind, Shape, ShapeError, changed_axis_has_place, elements_determine_array,
     inserted_index_has_place, joined_index_has_place, place_is_sum_of_strides,
@@ -115,10 +115,46 @@ fn numbers_in_row_order(rt: HostRuntime) -> Result<(), Fail> {
     assert!(rt; table.shape().rank() == 2 && table.kind() == Kind::Number);
     assert!(rt; table.get(4) == Elem::Int(i64::MIN) && table.get(5) == Elem::Int(i64::MAX));
     assert!(rt;
-        table.numbers().is_some_and(|numbers| numbers.len() == 6) && table.characters().is_none()
+        held_numbers(&table).is_some_and(|numbers| numbers.len() == 6)
+            && held_truths(&table).is_none()
     );
+    let numbers = table.into_numbers();
+    assert!(rt; numbers.is_some_and(|numbers| numbers.last() == Some(&i64::MAX)));
     elements_determine_array();
     range_is_decided();
+    Ok(())
+}
+
+/// A truth value is the number 0 or 1.
+#[test]
+fn truth_values_in_row_order(rt: HostRuntime) -> Result<(), Fail> {
+    let alloc = rt.alloc();
+    let shape = Shape::new(alloc, &[2, 3])?;
+    assert!(rt; shape.count() == 6);
+    let truths = vec![in alloc; true, false, false, true, true, false]?;
+    let table = Array::truths(shape, truths).copy(alloc)?;
+    assert!(rt; table.shape().lengths() == [2, 3].as_slice() && table.kind() == Kind::Number);
+    assert!(rt; table.get(0) == Elem::Int(1) && table.get(5) == Elem::Int(0));
+    let wanted = [true, false, false, true, true, false];
+    assert!(rt; held_truths(&table) == Some(wanted.as_slice()));
+    assert!(rt; held_numbers(&table).is_none() && held_characters(&table).is_none());
+    assert!(rt; table.into_numbers().is_none());
+    Ok(())
+}
+
+/// Many truth values, of which the last alone is true.
+#[test]
+fn many_truth_values(rt: HostRuntime) -> Result<(), Fail> {
+    let alloc = rt.alloc();
+    let shape = Shape::new(alloc, &[100_000])?;
+    let mut truths = vec![in alloc; false; 99_999]?;
+    truths.push(true)?;
+    assert!(rt; shape.count() == 100_000 && truths.len() == 100_000);
+    let vector = Array::truths(shape, truths).copy(alloc)?;
+    assert!(rt; vector.shape().count() == 100_000);
+    assert!(rt; vector.get(99_998) == Elem::Int(0) && vector.get(99_999) == Elem::Int(1));
+    let first = held_truths(&vector).and_then(|truths| truths.iter().position(|truth| *truth));
+    assert!(rt; first == Some(99_999));
     Ok(())
 }
 
@@ -128,10 +164,11 @@ fn an_empty_array_keeps_its_kind(rt: HostRuntime) -> Result<(), Fail> {
     let shape = Shape::new(alloc, &[0])?;
     assert!(rt; shape.count() == 0);
     let text = Array::chars(shape, Vec::new(alloc)).copy(alloc)?;
-    assert!(rt; text.kind() == Kind::Character && text.numbers().is_none());
+    assert!(rt; text.kind() == Kind::Character && held_numbers(&text).is_none());
+    assert!(rt; held_characters(&text).is_some_and(|characters| characters.is_empty()));
+    let none = Array::truths(Shape::new(alloc, &[0])?, Vec::new(alloc));
     assert!(rt;
-        text.characters()
-            .is_some_and(|characters| characters.is_empty())
+        none.kind() == Kind::Number && held_truths(&none).is_some_and(|truths| truths.is_empty())
     );
     Ok(())
 }

@@ -2,9 +2,10 @@
 ghost use Rattle.std.specs.Prelude.{◌≤◌};
 ghost use Rattle.apl_pool.specs.declared.kernel.TheConstants.{MOST_PLACES};
 
-use crate::notation::array_of;
+use crate::notation::{array_of, held_characters, held_numbers, held_truths};
 use apl_answer::{
     OpFault, answer_is_each_outcome, answer_is_in_range, answer_is_within_limits, fill_array,
+    numbers_of,
 };
 use apl_array::{Array, Shape};
 use apl_pool::{Every, Fault, Kernel, MOST_PLACES, Open, Pool, Workers};
@@ -42,6 +43,31 @@ impl Kernel for PlaceNumbers {
     }
 }
 
+/// True at every third place, from the first on.
+#[derive(Drop)]
+struct Thirds {
+    count: usize,
+    ghost few: { count ≤ MOST_PLACES },
+}
+
+impl Kernel for Thirds {
+    ghost use Rattle.std.specs.Prelude.{◌%◌, nat_eq, Ok};
+
+    type Out = bool;
+
+    ghost place_count = { λ k. k.count };
+
+    ghost outcome = { λ k place. Ok (nat_eq (place % 3) 0) };
+
+    fn count(&self) -> usize {
+        self.count
+    }
+
+    fn at(&self, place: usize) -> Result<bool, Fault> {
+        Ok(place % 3 == 0)
+    }
+}
+
 /// At each place the letter A, but B at the last place of four.
 #[derive(Drop)]
 struct Letters;
@@ -69,7 +95,7 @@ fn is_answer(alloc: Global, answer: Result<Array, OpFault>, wanted: Result<&str,
     match (answer, wanted) {
         (Ok(array), Ok(text)) => array_of(alloc, text).is_some_and(|wanted| {
             array.shape().lengths() == wanted.shape().lengths()
-                && array.numbers() == wanted.numbers()
+                && held_numbers(&array) == held_numbers(&wanted)
         }),
         (Err(fault), Err(wanted)) => fault == wanted,
         _ => false,
@@ -121,6 +147,42 @@ fn characters(rt: HostRuntime) -> Result<(), Fail> {
         pool: &pool,
     };
     let text = fill_array(&workers, shape, &Letters)?;
-    assert!(rt; text.characters() == Some(['A', 'A', 'A', 'B'].as_slice()));
+    assert!(rt; held_characters(&text) == Some(['A', 'A', 'A', 'B'].as_slice()));
+    Ok(())
+}
+
+/// Whether these are truth values of which every third is true, from the first on, and as many as these are.
+fn are_thirds(truths: &[bool], count: usize, thirds: usize) -> bool {
+    let each = truths
+        .iter()
+        .enumerate()
+        .all(|(place, truth)| *truth == (place % 3 == 0));
+    each && truths.len() == count && truths.iter().filter(|truth| **truth).count() == thirds
+}
+
+/// An array of truth values, and the numbers that are made of it.
+#[test]
+fn truth_values(rt: HostRuntime) -> Result<(), Fail> {
+    let rows: [(&[usize], usize); 4] = [(&[2, 4], 3), (&[], 1), (&[0], 0), (&[100_000], 33_334)];
+    for (lengths, thirds) in rows {
+        let shape = Shape::new(rt.alloc(), lengths)?;
+        let count = shape.count();
+        let pool = Pool::new(3, Every(1024), Open);
+        let workers = Workers {
+            rt: &rt,
+            alloc: rt.alloc(),
+            pool: &pool,
+        };
+        let array = fill_array(&workers, shape, &Thirds { count })?;
+        let truths = held_truths(&array).ok_or("no truth values")?;
+        assert!(rt; are_thirds(truths, count, thirds), "{lengths:?}");
+        let numbers = numbers_of(&workers, &array)?.ok_or("no numbers")?;
+        let each = numbers
+            .as_slice()
+            .iter()
+            .enumerate()
+            .all(|(place, number)| *number == i64::from(place % 3 == 0));
+        assert!(rt; each && numbers.as_slice().len() == count, "{lengths:?}");
+    }
     Ok(())
 }

@@ -5,7 +5,7 @@
 //! An array is `SHAPE: ELEMENTS`, where a scalar has an empty shape. Its elements, in row order, are characters between quotes or numbers,
 //! again and again: `2 3: 'AB'`, `2 3: 1 0 ¯1`.
 
-use apl_array::{Array, Shape};
+use apl_array::{Array, Elements, Shape};
 use apl_scalar::Prim;
 use std::alloc::{AllocError, Global};
 
@@ -78,6 +78,30 @@ pub(crate) fn array_of(alloc: Global, text: &str) -> Option<Array> {
         return None;
     }
     Some(Array::ints(shape, items))
+}
+
+/// The numbers of an array that holds them in 64 bits.
+pub(crate) fn held_numbers(array: &Array) -> Option<&[i64]> {
+    match array.elements() {
+        Elements::Numbers(numbers) => Some(numbers),
+        Elements::Truths(_) | Elements::Characters(_) => None,
+    }
+}
+
+/// The truth values of an array that holds them.
+pub(crate) fn held_truths(array: &Array) -> Option<&[bool]> {
+    match array.elements() {
+        Elements::Truths(truths) => Some(truths),
+        Elements::Numbers(_) | Elements::Characters(_) => None,
+    }
+}
+
+/// The characters of an array of characters.
+pub(crate) fn held_characters(array: &Array) -> Option<&[char]> {
+    match array.elements() {
+        Elements::Characters(characters) => Some(characters),
+        Elements::Numbers(_) | Elements::Truths(_) => None,
+    }
 }
 
 /// The scalar function of a symbol.

@@ -1,5 +1,6 @@
 //! Tokens of lines, as text: each token with its column, or the stop.
 use crate::tables::{Table, rows_of};
+use apl_array::Elements;
 use apl_tokens::{
     Constant, Glyph, Token, TokenKind, blanks_before, constants_are_within_limits, front,
     front_is_total, front_is_unique, is_digit, lexing_is_total, lexing_is_unique, tokens,
@@ -10,15 +11,18 @@ use std::test::Fail;
 
 fn describe_constant(text: &mut String, constant: &Constant) -> Result<(), AllocError> {
     let value = constant.array(*text.allocator())?;
-    if let Some(numbers) = value.numbers() {
-        for number in numbers {
-            write!(text, " {number}")?;
+    match value.elements() {
+        Elements::Numbers(numbers) => {
+            for number in numbers {
+                write!(text, " {number}")?;
+            }
         }
-    }
-    if let Some(characters) = value.characters() {
-        text.push_str(" ")?;
-        for character in characters {
-            text.push(*character)?;
+        Elements::Truths(_) => text.push_str(" truth values")?,
+        Elements::Characters(characters) => {
+            text.push_str(" ")?;
+            for character in characters {
+                text.push(*character)?;
+            }
         }
     }
     write!(text, " rank {}", value.shape().rank())
@@ -133,7 +137,10 @@ fn count_and_last(alloc: Global, line: &str) -> Result<Option<(usize, i64)>, Fai
         return Ok(None);
     };
     let value = constant.array(alloc)?;
-    let last = value.numbers().and_then(|numbers| numbers.last().copied());
+    let Elements::Numbers(numbers) = value.elements() else {
+        return Ok(None);
+    };
+    let last = numbers.last().copied();
     Ok(last.map(|last| (value.shape().count(), last)))
 }
 
