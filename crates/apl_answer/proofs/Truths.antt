@@ -13,7 +13,7 @@ number_elements truths numbers all =
     let len : length truths ≡ length numbers = sym all.len in
     let e : Elem = Int (pos 0) in
     ext_get_or e (map truth_element truths) (map Int numbers) (length-map truths truth_element ∙ len ∙ sym (length-map numbers Int)) (λ k below.
-        let inside : k < length truths = omega (arith, length-map truths truth_element) in
-        let inside_numbers : k < length numbers = omega arith in
-        let same : bit (get_or truths k false) ≡ get_or numbers k (pos 0) = let h = all.each k (pos 0) inside in cc in
-        get_or-map truth_element truths k false e inside ∙ ap Int same ∙ sym (get_or-map Int numbers k (pos 0) e inside_numbers))
+    let inside : k < length truths = omega (arith, length-map truths truth_element) in
+    let inside_numbers : k < length numbers = omega arith in
+    let same : bit (get_or truths k false) ≡ get_or numbers k (pos 0) = let h = all.each k (pos 0) inside in cc in
+    get_or-map truth_element truths k false e inside ∙ ap Int same ∙ sym (get_or-map Int numbers k (pos 0) e inside_numbers))
