@@ -560,9 +560,9 @@ fn meet_under_both<R: Threads + Sync>(
     Ok(())
 }
 
-/// Lines that make `A` a vector of `count` ones, and then two texts.
+/// Lines that make `A` a vector of `count` ones, held as numbers, and then two texts.
 fn ones(alloc: Global, count: usize, first: &str, second: &str) -> Result<String, AllocError> {
-    let mut lines = String::from_str(alloc, "A←'x'='")?;
+    let mut lines = String::from_str(alloc, "A←0+'x'='")?;
     for _ in 0..count {
         lines.push('x')?;
     }
