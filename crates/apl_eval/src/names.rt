@@ -5,7 +5,7 @@ ghost use Rattle.apl_eval.specs.Names.{overlaid};
 
 use crate::spent::let_go;
 use apl_array::Array;
-use apl_pool::KeptList;
+use apl_pool::KeptLists;
 use std::alloc::{AllocError, Global};
 use std::collections::HashMap;
 use std::marker::Model;
@@ -72,7 +72,7 @@ impl Names {
     }
 
     /// Gives the staged names their values: all of them, or none where room is refused. Those that they had before are let go.
-    pub(crate) fn keep(&mut self, staged: Names, kept: &KeptList) -> Result<(), AllocError>
+    pub(crate) fn keep(&mut self, staged: Names, kept: &KeptLists) -> Result<(), AllocError>
         ensures ok { OnOk result (self.new ≡ overlaid staged self.old) }
         ensures err { OnErr result (self.new ≡ self.old) }
     {

@@ -6,7 +6,7 @@ ghost use Rattle.apl_eval.specs.Names.{overlaid};
 
 use crate::names::Names;
 use apl_array::{Array, Origin};
-use apl_pool::KeptList;
+use apl_pool::KeptLists;
 use std::alloc::{AllocError, Global};
 use std::marker::Model;
 
@@ -108,7 +108,7 @@ impl Workspace {
     }
 
     /// Gives the staged names their values: all of them, or none where room is refused. Those that they had before are let go.
-    pub(crate) fn keep(&mut self, staged: Names, kept: &KeptList) -> Result<(), AllocError>
+    pub(crate) fn keep(&mut self, staged: Names, kept: &KeptLists) -> Result<(), AllocError>
         ensures ok { OnOk result (self.new ≡ with_names (overlaid staged self.old.names) self.old) }
         ensures err { OnErr result (self.new ≡ self.old) }
     {

@@ -29,7 +29,7 @@ mod workers;
 
 pub use cut::{Cut, Every};
 pub use gate::{Gate, Open};
-pub use kept::{KeptList, Reused};
+pub use kept::{KeptLists, Reused};
 pub use kernel::{Fault, Kernel, MOST_PLACES, Stop};
 pub use pool::{MOST_WORKERS, Pool};
 pub use rows::{RowSummaries, Rows};

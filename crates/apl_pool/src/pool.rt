@@ -10,7 +10,7 @@ use crate::complete::fill_values;
 use crate::cut::Cut;
 use crate::folds::{fold_rows_alone, fold_rows_together};
 use crate::gate::Gate;
-use crate::kept::KeptList;
+use crate::kept::KeptLists;
 use crate::kernel::{Kernel, MOST_PLACES, Stop};
 use crate::pass::Pass;
 use crate::pieces::piece_end;
@@ -25,14 +25,14 @@ use std::thread::Threads;
 /// The most workers.
 pub const MOST_WORKERS: u8 = 64;
 
-/// Workers, a cutting and a gate, and the list that was let go last.
+/// Workers, a cutting and a gate, and the lists that were let go last.
 #[derive(Drop)]
 pub struct Pool<C, G> {
     workers: u8,
     schedule: Schedule,
     cut: C,
     gate: G,
-    kept: KeptList,
+    kept: KeptLists,
     ghost some: { 1 ≤ workers },
     ghost most: { workers ≤ MOST_WORKERS },
 }
@@ -56,12 +56,12 @@ impl<C: Cut + Sync, G: Gate + Sync> Pool<C, G> {
             schedule,
             cut,
             gate,
-            kept: KeptList::new(),
+            kept: KeptLists::new(),
         }
     }
 
-    /// The list that was let go last.
-    pub fn kept(&self) -> &KeptList {
+    /// The lists that were let go last.
+    pub fn kept(&self) -> &KeptLists {
         &self.kept
     }
 

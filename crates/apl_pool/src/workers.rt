@@ -57,7 +57,7 @@ impl<R: Threads + Sync, C: Cut + Sync, G: Gate + Sync> Crew for Workers<'_, R, C
 }
 
 /// What the pool of these workers answers for a kernel, as `Pool::fill`. It is the value at each place, or the least place that has a
-/// fault, and that fault. `Memory` may come in place of any answer. The values may be written over those of the list that the pool keeps.
+/// fault, and that fault. `Memory` may come in place of any answer. The values may be written over those of a list that the pool keeps.
 pub fn fill<W: Crew, K: Kernel + Sync>(workers: &W, kernel: &K) -> Result<Vec<K::Out>, Stop>
 where
     K::Out: Reused + Send,
@@ -65,7 +65,7 @@ where
     ensures stop { IfErr result (IsStopOf (K.outcome kernel.now) (K.place_count kernel.now)) }
 {
     let (rt, alloc, pool) = (workers.rt(), workers.alloc(), workers.pool());
-    match K::Out::reused(pool.kept(), kernel.count()) {
+    match pool.kept().take(kernel.count()) {
         Some(values) => pool.fill_into(rt, alloc, kernel, values, 0),
         None => pool.fill(rt, alloc, kernel),
     }

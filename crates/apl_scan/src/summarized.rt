@@ -15,7 +15,7 @@ use crate::chunks::{CHUNK, Chunks, summarize};
 use crate::running::{fold_behind, with_next};
 use apl_array::ScalarFunction;
 use apl_divisor::Divisor;
-use apl_pool::{Crew, Fault, Kernel, Reused, Stop, Summary, fill};
+use apl_pool::{Crew, Fault, Kernel, Stop, Summary, fill};
 use apl_summary::{Running, with_summary};
 use std::alloc::AllocError;
 
@@ -193,7 +193,7 @@ pub(crate) fn room_for<W: Crew>(workers: &W, count: usize) -> Result<Vec<i64>, A
     ensures empty { IfOk result (λ room. vec_len room ≡ 0) }
     ensures room { IfOk result (λ room. count ≤ vec_capacity room) }
 {
-    match i64::reused(workers.pool().kept(), count) {
+    match workers.pool().kept().take(count) {
         Some(mut list) => {
             list.truncate(0);
             Ok(list)

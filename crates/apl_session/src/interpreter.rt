@@ -7,7 +7,7 @@ ghost use Rattle.apl_session.specs.LineAnswer.{IsLineAnswered};
 ghost use Rattle.apl_session.specs.Step.{session_semantics};
 
 use crate::sessions::Session;
-use apl_pool::{Crew, KeptList};
+use apl_pool::{Crew, KeptLists};
 use apl_print::Sink;
 use std::marker::Model;
 use thiserror::Error;
@@ -60,7 +60,7 @@ impl<'a, W: Crew> Interpreter<'a, W> {
     }
 
     /// The list that the pool keeps.
-    pub(crate) fn kept(&self) -> &'a KeptList {
+    pub(crate) fn kept(&self) -> &'a KeptLists {
         self.workers.pool().kept()
     }
 

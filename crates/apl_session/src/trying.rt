@@ -6,7 +6,7 @@ ghost use Rattle.apl_eval.specs.Evaluates.{Evaluates};
 
 use apl_eval::{EvalStop, Shown, Workspace, eval};
 use apl_grammar::Program;
-use apl_pool::{Crew, KeptList};
+use apl_pool::{Crew, KeptLists};
 use apl_syntax::{Line, ReadStop, read};
 use std::alloc::AllocError;
 
@@ -46,7 +46,7 @@ pub(crate) fn evaluate<W: Crew>(
 }
 
 /// Adds bytes to those of a line that are held.
-pub(crate) fn hold(kept: &KeptList, held: &mut Vec<u8>, bytes: &[u8]) -> Result<(), AllocError>
+pub(crate) fn hold(kept: &KeptLists, held: &mut Vec<u8>, bytes: &[u8]) -> Result<(), AllocError>
     ensures ok { OnOk result (held.new.items ≡ held.old.items ++ bytes.now) }
     ensures err { OnErr result (held.new.items ≡ held.old.items) }
     ensures some { OnErr result (0 < length bytes.now) }
