@@ -24,6 +24,7 @@ mod schedule;
 mod shares;
 mod summary;
 mod tasks;
+mod turns;
 mod work;
 mod workers;
 
@@ -35,4 +36,5 @@ pub use pool::{MOST_WORKERS, Pool};
 pub use rows::{RowSummaries, Rows};
 pub use schedule::Schedule;
 pub use summary::{LONGEST_RUN, Summary};
+pub use turns::write_each;
 pub use workers::{Crew, Workers, fill};

@@ -10,7 +10,6 @@ mod finding;
 mod laws;
 mod ordering;
 mod replies;
-mod runs;
 mod searching;
 mod sorting;
 mod table;

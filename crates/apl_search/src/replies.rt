@@ -2,9 +2,9 @@
 ghost use Rattle.std.specs.Prelude.{◌≡◌, ℤ, pos, ◌<◌, ◌≤◌, List, length, map, slice_index_or};
 ghost use Rattle.apl_search.specs.Tables.{place_of, IsTable, AreReplies};
 
-use crate::runs::write_each;
 use crate::sorting::Keyed;
 use crate::table::Entries;
+use apl_pool::write_each;
 
 /// What is answered of an element by its first place in a list.
 pub(crate) trait Reply: Copy {

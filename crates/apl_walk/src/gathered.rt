@@ -10,14 +10,14 @@ ghost use Rattle.apl_walk.specs.Maps.{extent_of, walked};
 ghost use Rattle.apl_walk.specs.Steps.{and_step};
 ghost use Rattle.apl_walk.specs.Walks.{maps_of};
 
-use crate::fronts::{element_or, write_each, write_same};
+use crate::fronts::{element_or, write_same};
 use crate::lined::{ByLines, Lined};
 use crate::map::AxisMap;
 use crate::maps::{MOST_MAPS, Map, start_at, with_kind};
 use crate::walk::Walk;
 use apl_answer::{ElementType, OpFault, fill_array};
 use apl_array::{Array, Elements, Shape};
-use apl_pool::Crew;
+use apl_pool::{Crew, write_each};
 
 /// A walk over an argument, of whose last axis the map is known by its type.
 #[derive(Drop)]

@@ -3,10 +3,11 @@ ghost use Rattle.std.specs.Prelude.{◌≡◌, ℕ, ◌+◌, ◌*◌, ◌<◌, �
 ghost use Rattle.apl_pool.specs.declared.kernel.TheConstants.{MOST_PLACES};
 ghost use Rattle.apl_walk.specs.Steps.{wrapped, rotated_place, rotated_column};
 
-use crate::fronts::{element_or, write_each, write_or};
+use crate::fronts::{element_or, write_or};
 use crate::lined::Lined;
 use crate::turned::counted_round;
 use apl_divisor::Divisor;
+use apl_pool::write_each;
 
 /// By how many indexes each line is rotated. Lines are counted in the row order of the other axes' index lists.
 #[derive(Clone, Copy)]

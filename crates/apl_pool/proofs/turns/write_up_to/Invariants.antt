@@ -1,5 +1,5 @@
 use Rattle.std.proofs.Common.{ℕ, ◌<◌, slice_index_or}
-use Rattle.apl_search.proofs.runs.write_up_to.Given as goal
+use Rattle.apl_pool.proofs.turns.write_up_to.Given as goal
 
 abbrev pub invariant-loop-k : goal.invariant-loop-k
 invariant-loop-k g l =

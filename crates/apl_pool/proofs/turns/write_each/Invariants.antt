@@ -1,5 +1,5 @@
 use Rattle.std.proofs.Common.{ℕ, ◌*◌, ◌<◌, slice_index_or}
-use Rattle.apl_walk.proofs.fronts.write_each.Given as goal
+use Rattle.apl_pool.proofs.turns.write_each.Given as goal
 
 abbrev pub invariant-loop-turn : goal.invariant-loop-turn
 invariant-loop-turn g l =

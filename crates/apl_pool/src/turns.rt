@@ -1,10 +1,10 @@
-//! The loop that writes the front of a room.
+//! The loop that writes the front of a room, several places in a turn.
 ghost use Rattle.std.specs.Prelude.{◌≡◌, ℕ, ◌<◌, ◌≤◌, length, slice_index_or};
 
-/// How many values are written in one turn of a loop.
+/// How many places are written before a test whether there are more.
 const TURN: usize = 4;
 
-/// Writes what a function gives for each place before `to`. Those before `from` are written.
+/// Writes what a function gives for each place up to before `to`, of which those before `from` are written.
 #[inline(always)]
 fn write_up_to<T: Copy, F: Fn(usize) -> T>(from: usize, to: usize, value: &F, room: &mut [T])
     requires calls { (k : ℕ) → k < to → F.pre value.now k }
@@ -19,9 +19,9 @@ fn write_up_to<T: Copy, F: Fn(usize) -> T>(from: usize, to: usize, value: &F, ro
     }
 }
 
-/// Writes what a function gives for each place before `count`.
+/// Writes what a function gives for each place. It takes no memory.
 #[inline(always)]
-pub(crate) fn write_each<T: Copy, F: Fn(usize) -> T>(count: usize, value: F, room: &mut [T])
+pub fn write_each<T: Copy, F: Fn(usize) -> T>(count: usize, value: F, room: &mut [T])
     requires calls { (k : ℕ) → k < count → F.pre value k }
     requires room { count ≤ length room.old }
     ensures each { (k : ℕ) (d : T) → k < count → F.post value k (slice_index_or room.new k d) }

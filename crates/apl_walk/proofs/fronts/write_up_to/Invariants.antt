@@ -1,6 +1,0 @@
-use Rattle.std.proofs.Common.{ℕ, ◌<◌, slice_index_or}
-use Rattle.apl_walk.proofs.fronts.write_up_to.Given as goal
-
-abbrev pub invariant-loop-k : goal.invariant-loop-k
-invariant-loop-k g l =
-    (k : ℕ) (d : g.row.T.Denot) → k < l.k → goal.F-post g l.value k (slice_index_or l.room k d)
