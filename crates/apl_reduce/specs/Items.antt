@@ -1,5 +1,5 @@
 -- Items that are folded, numbers or faults, by their places. No contract of a public function cites this file.
-use Rattle.std.specs.Prelude.{◌≡◌, ℕ, zero, suc, ℤ, pos, ◌+◌, ◌<◌, ◌/◌, ◌%◌, Bool, List, length, map, Option, Some, None, Result, Ok, Err, slice_index_or}
+use Rattle.std.specs.Prelude.{◌≡◌, ℕ, zero, suc, ℤ, pos, ◌+◌, ◌<◌, ◌/◌, ◌%◌, List, length, map, Option, Some, None, Result, Ok, Err, slice_index_or}
 use Rattle.std.specs.List.{range_with_len}
 use Rattle.apl_array.specs.declared.array.Elem.{Elem}
 use Rattle.apl_array.specs.declared.array.Elem.TheVariants.{Int}
@@ -7,7 +7,7 @@ use Rattle.apl_array.specs.declared.function.ScalarFunction.{ScalarFunction}
 use Rattle.apl_pool.specs.declared.kernel.Fault.{Fault}
 use Rattle.apl_answer.specs.Arguments.{number_of}
 use Rattle.apl_answer.specs.Pointwise.{collect_outcomes}
-use Rattle.apl_scalar.specs.Scalar.{dyadic_of, dyadic_numbers, as_element, truth_outcome}
+use Rattle.apl_scalar.specs.Scalar.{dyadic_of, dyadic_numbers, as_element}
 use Rattle.apl_reduce.specs.Products.{judged_reduction}
 
 abbrev pub item_in : List Elem → ℕ → Elem
@@ -20,10 +20,6 @@ outer_number f left right place = dyadic_of f (item_in left (place / length righ
 -- a function of one element and element k of others
 abbrev pub pair_number : ScalarFunction → Elem → List Elem → ℕ → Result ℤ Fault
 pair_number f x others k = dyadic_of f x (item_in others k)
-
--- the same as a truth value
-abbrev pub pair_truth : ScalarFunction → Elem → List Elem → ℕ → Result Bool Fault
-pair_truth f x others k = truth_outcome (pair_number f x others k)
 
 -- from a place on, `count` places of the outer product have one left element, with others one by one
 abbrev pub IsOuterRun : List Elem → List Elem → (from count : ℕ) → Elem → List Elem → Type 0

@@ -6,7 +6,7 @@ use apl_answer::ElementType;
 use apl_array::{Elem, ScalarFunction};
 use apl_pool::Fault;
 use apl_scalar::function_types::Function;
-use apl_scalar::{dyadic_elements, identity, with_type, write_pairs, write_truth_pairs};
+use apl_scalar::{Held, dyadic_elements, identity, with_type, write_pairs};
 use std::marker::PhantomData;
 
 /// A scalar function of two elements.
@@ -16,7 +16,7 @@ pub(crate) trait Dyadic: Copy {
     ghost use Rattle.apl_pool.specs.declared.kernel.TheConstants.{MOST_PLACES};
     ghost use Rattle.apl_pool.specs.Runs.{AreWritten};
     ghost use Rattle.apl_scalar.specs.Scalar.{dyadic_of, dyadic_numbers, identity_of};
-    ghost use Rattle.apl_reduce.specs.Items.{pair_number, pair_truth};
+    ghost use Rattle.apl_reduce.specs.Items.{pair_number};
 
     ghost function: { Self → ScalarFunction };
 
@@ -34,29 +34,16 @@ pub(crate) trait Dyadic: Copy {
 
     /// Writes what it gives of one element and each of others into the room for them. It ends at some other, or at the first
     /// that has a fault, and answers how many it wrote.
-    fn write_row<T: ElementType, U: ElementType>(
+    fn write_row<T: ElementType, U: ElementType, H: Held>(
         &self,
         x: T,
         others: &[U],
-        room: &mut [i64],
+        room: &mut [H],
     ) -> usize
         requires most { length others.now ≤ MOST_PLACES }
         requires room { length others.now ≤ length room.old }
         ensures within { result ≤ length others.now }
-        ensures values { AreWritten (pair_number (function self.now) (T.elem_of x) (map U.elem_of others.now)) 0 result room.new }
-        ensures len { length room.new ≡ length room.old };
-
-    /// The same, of results that are read as truth values.
-    fn write_truth_row<T: ElementType, U: ElementType>(
-        &self,
-        x: T,
-        others: &[U],
-        room: &mut [bool],
-    ) -> usize
-        requires most { length others.now ≤ MOST_PLACES }
-        requires room { length others.now ≤ length room.old }
-        ensures within { result ≤ length others.now }
-        ensures values { AreWritten (pair_truth (function self.now) (T.elem_of x) (map U.elem_of others.now)) 0 result room.new }
+        ensures values { AreWritten (λ k. H.held (pair_number (function self.now) (T.elem_of x) (map U.elem_of others.now) k)) 0 result room.new }
         ensures len { length room.new ≡ length room.old };
 
     /// What the reduction of no element gives, if anything.
@@ -87,23 +74,13 @@ impl<F: Function + Copy> Dyadic for Typed<F> {
     }
 
     #[inline(always)]
-    fn write_row<T: ElementType, U: ElementType>(
+    fn write_row<T: ElementType, U: ElementType, H: Held>(
         &self,
         x: T,
         others: &[U],
-        room: &mut [i64],
+        room: &mut [H],
     ) -> usize {
-        write_pairs::<F, T, U>(x, others, room)
-    }
-
-    #[inline(always)]
-    fn write_truth_row<T: ElementType, U: ElementType>(
-        &self,
-        x: T,
-        others: &[U],
-        room: &mut [bool],
-    ) -> usize {
-        write_truth_pairs::<F, T, U>(x, others, room)
+        write_pairs::<F, T, U, H>(x, others, room)
     }
 
     #[inline(always)]
@@ -143,23 +120,13 @@ impl Dyadic for Chosen {
     }
 
     #[inline(always)]
-    fn write_row<T: ElementType, U: ElementType>(
+    fn write_row<T: ElementType, U: ElementType, H: Held>(
         &self,
         x: T,
         others: &[U],
-        room: &mut [i64],
+        room: &mut [H],
     ) -> usize {
-        with_type!(self.0, write_pairs::<F, T, U>(x, others, room))
-    }
-
-    #[inline(always)]
-    fn write_truth_row<T: ElementType, U: ElementType>(
-        &self,
-        x: T,
-        others: &[U],
-        room: &mut [bool],
-    ) -> usize {
-        with_type!(self.0, write_truth_pairs::<F, T, U>(x, others, room))
+        with_type!(self.0, write_pairs::<F, T, U, H>(x, others, room))
     }
 
     #[inline(always)]

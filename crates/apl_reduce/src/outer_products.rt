@@ -19,7 +19,7 @@ use apl_array::{Array, ScalarFunction, Shape, joined_index_has_place, places_mat
 use apl_divisor::Divisor;
 use apl_pool::{Crew, Cut, Fault, Gate, Kernel, Pool, Workers};
 use apl_scalar::function_types::{Equal, Function, NotEqual};
-use apl_scalar::{is_truth_valued, truth_values_are_results, with_type};
+use apl_scalar::{Held, as_held, is_truth_valued, truth_values_are_results, with_type};
 use std::alloc::Global;
 use std::marker::PhantomData;
 use std::thread::Threads;
@@ -55,76 +55,53 @@ impl<T: ElementType, U: ElementType, F: Dyadic> EachPair<'_, T, U, F> {
         let x = self.left[self.columns.quotient(from)];
         (x, &self.right[column..end])
     }
-}
 
-impl<T: ElementType, U: ElementType, F: Dyadic> Kernel for EachPair<'_, T, U, F> {
-    ghost use Rattle.std.specs.Prelude.{map};
-    ghost use Rattle.apl_reduce.specs.Items.{outer_number};
-
-    type Out = i64;
-
-    ghost place_count = { λ k. k.count };
-
-    ghost outcome = { λ k place. outer_number (F.function k.function) (map T.elem_of k.left.now) (map U.elem_of k.right.now) place };
-
-    fn count(&self) -> usize {
-        self.count
-    }
-
+    /// What the function gives at a place.
     #[inline(always)]
-    fn at(&self, place: usize) -> Result<i64, Fault> {
+    fn number_at(&self, place: usize) -> Result<i64, Fault>
+        requires { place < self.now.count }
+        ensures { result ≡ outer_number (F.function self.now.function) (map T.elem_of self.now.left.now) (map U.elem_of self.now.right.now) place }
+    {
         let row = self.columns.quotient(place);
         let column = self.columns.remainder(place);
         self.function
             .of(self.left[row].elem(), self.right[column].elem())
     }
-
-    #[inline(always)]
-    fn write_run(&self, from: usize, to: usize, room: &mut [i64]) -> usize {
-        if from == to || self.right.len() < NARROW {
-            return from;
-        }
-        let (x, others) = self.row_from(from, to);
-        from + self.function.write_row(x, others, room)
-    }
 }
 
-/// The same, of a function whose results are truth values.
+/// What a function gives of each pair, as results are held.
 #[derive(Drop)]
-struct EachTruthPair<'a, T, U, F: Dyadic> {
+struct HeldPairs<'a, T, U, F: Dyadic, H> {
     pairs: EachPair<'a, T, U, F>,
+    held: PhantomData<H>,
 }
 
-impl<T: ElementType, U: ElementType, F: Dyadic> Kernel for EachTruthPair<'_, T, U, F> {
+impl<T: ElementType, U: ElementType, F: Dyadic, H: Held> Kernel for HeldPairs<'_, T, U, F, H> {
     ghost use Rattle.std.specs.Prelude.{map};
-    ghost use Rattle.apl_scalar.specs.Scalar.{truth_outcome};
     ghost use Rattle.apl_reduce.specs.Items.{outer_number};
 
-    type Out = bool;
+    type Out = H;
 
     ghost place_count = { λ k. k.pairs.count };
 
-    ghost outcome = { λ k place. truth_outcome (outer_number (F.function k.pairs.function) (map T.elem_of k.pairs.left.now) (map U.elem_of k.pairs.right.now) place) };
+    ghost outcome = { λ k place. H.held (outer_number (F.function k.pairs.function) (map T.elem_of k.pairs.left.now) (map U.elem_of k.pairs.right.now) place) };
 
     fn count(&self) -> usize {
         self.pairs.count
     }
 
     #[inline(always)]
-    fn at(&self, place: usize) -> Result<bool, Fault> {
-        match self.pairs.at(place) {
-            Ok(number) => Ok(number == 1),
-            Err(fault) => Err(fault),
-        }
+    fn at(&self, place: usize) -> Result<H, Fault> {
+        as_held(self.pairs.number_at(place))
     }
 
     #[inline(always)]
-    fn write_run(&self, from: usize, to: usize, room: &mut [bool]) -> usize {
+    fn write_run(&self, from: usize, to: usize, room: &mut [H]) -> usize {
         if from == to || self.pairs.right.len() < NARROW {
             return from;
         }
         let (x, others) = self.pairs.row_from(from, to);
-        from + self.pairs.function.write_truth_row(x, others, room)
+        from + self.pairs.function.write_row(x, others, room)
     }
 }
 
@@ -152,9 +129,23 @@ fn outer_array<T: ElementType + Sync, U: ElementType + Sync, F: Dyadic + Sync, W
     };
     if is_truth_valued(function.named()) {
         truth_values_are_results();
-        return fill_array(workers, shape, &EachTruthPair { pairs });
+        return fill_array(
+            workers,
+            shape,
+            &HeldPairs::<T, U, F, bool> {
+                pairs,
+                held: PhantomData,
+            },
+        );
     }
-    fill_array(workers, shape, &pairs)
+    fill_array(
+        workers,
+        shape,
+        &HeldPairs::<T, U, F, i64> {
+            pairs,
+            held: PhantomData,
+        },
+    )
 }
 
 /// As of numbers, but of characters, of which only `=` and `≠` give something.

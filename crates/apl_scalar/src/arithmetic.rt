@@ -133,7 +133,7 @@ pub(crate) fn likely_magnitude(x: i64) -> (i64, u64)
 {
     range_is_decided();
     let magnitude = x.wrapping_abs();
-    (magnitude, if magnitude < 0 { 1 } else { 0 })
+    (magnitude, magnitude.cast_unsigned() >> 63)
 }
 
 /// The sign of `x`: 1, 0 or -1. It has no branches.

@@ -1,5 +1,6 @@
 //! The scalar functions of arrays.
-ghost use Rattle.std.specs.Prelude.{◌≡◌, Ok, IsTrue};
+ghost use Rattle.std.specs.Prelude.{◌≡◌, Ok, IfSome, IsTrue, map};
+ghost use Rattle.apl_array.specs.Array.{IsArray, truth_element};
 ghost use Rattle.apl_array.specs.Valences.{has_monadic, has_dyadic};
 ghost use Rattle.apl_scalar.specs.Extension.{extended_shape};
 ghost use Rattle.apl_answer.specs.Pointwise.{IsAnswerOf};
@@ -74,6 +75,19 @@ pub fn dyadic<R: Threads + Sync, C: Cut + Sync, G: Gate + Sync>(
     fill_dyadic(&workers, f, shape, left, right)
 }
 
+/// The elements of an array as truth values, if it holds them so, or if it is one number that is 0 or 1.
+fn truths_of(a: &Array) -> Option<&[bool]>
+    ensures truths { IfSome result (λ truths. a.now.ravel ≡ map truth_element truths.now) }
+    ensures lawful { IsArray a.now }
+{
+    match a.elements() {
+        Elements::Truths(truths) => Some(truths),
+        Elements::Numbers([0]) => Some(&[false]),
+        Elements::Numbers([1]) => Some(&[true]),
+        _ => None,
+    }
+}
+
 fn fill_dyadic<W: Crew>(
     workers: &W,
     f: ScalarFunction,
@@ -88,11 +102,11 @@ fn fill_dyadic<W: Crew>(
         places_match_index_lists();
         return constant_array(workers, shape, compare(f, false));
     }
+    if let (Some(xs), Some(ys)) = (truths_of(left), truths_of(right)) {
+        let pairs = Pairs::new(left, xs, right, ys, &shape);
+        return fill_pairs(workers, f, shape, &pairs);
+    }
     match (left.elements(), right.elements()) {
-        (Elements::Truths(xs), Elements::Truths(ys)) => {
-            let pairs = Pairs::new(left, xs, right, ys, &shape);
-            fill_pairs(workers, f, shape, &pairs)
-        }
         (Elements::Characters(xs), Elements::Characters(ys)) => {
             let pairs = Pairs::new(left, xs, right, ys, &shape);
             fill_pairs(workers, f, shape, &pairs)

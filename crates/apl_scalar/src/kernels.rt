@@ -2,13 +2,13 @@
 ghost use Rattle.std.specs.Prelude.{◌≡◌, ℕ, ◌+◌, ◌<◌, ◌≤◌, length};
 ghost use Rattle.apl_pool.specs.declared.kernel.TheConstants.{MOST_PLACES};
 ghost use Rattle.apl_pool.specs.Runs.{AreWritten};
-ghost use Rattle.apl_scalar.specs.Scalar.{dyadic_of, monadic_of, truth_outcome};
+ghost use Rattle.apl_scalar.specs.Scalar.{dyadic_of, monadic_of};
 
 use crate::elements::{dyadic_elements, likely_element, likely_elements, monadic_element};
 use crate::function_types::{Function, has_dyadic_runs, has_monadic_runs};
+use crate::held::{Held, as_held};
 use crate::operands::Operand;
 use crate::runs::{Results, write_results};
-use crate::truth::is_one;
 use crate::with_type;
 use apl_array::ScalarFunction;
 use apl_pool::{Fault, Kernel};
@@ -37,8 +37,6 @@ impl<A: Operand, F: Function + Copy> ElementResults<A, F> {
 
 impl<A: Operand, F: Function + Copy> Results for ElementResults<A, F> {
     ghost use Rattle.apl_scalar.specs.Scalar.{monadic_of};
-
-    type Out = i64;
 
     ghost served = { λ r. A.served r.argument };
 
@@ -88,8 +86,6 @@ impl<L: Operand, R: Operand, F: Function + Copy> Results for PairResults<L, R, F
     ghost use Rattle.std.specs.Prelude.{min};
     ghost use Rattle.apl_scalar.specs.Scalar.{dyadic_of};
 
-    type Out = i64;
-
     ghost served = { λ r. min (L.served r.left) (R.served r.right) };
 
     ghost outcome = { λ r place. dyadic_of F.FUNCTION (L.element r.left place) (R.element r.right place) };
@@ -110,36 +106,6 @@ impl<L: Operand, R: Operand, F: Function + Copy> Results for PairResults<L, R, F
     }
 }
 
-/// Results read as truth values, of which 1 is true.
-#[derive(Clone, Copy)]
-pub(crate) struct TruthResults<P>(pub P);
-
-impl<P: Results<Out = i64>> Results for TruthResults<P> {
-    ghost use Rattle.apl_scalar.specs.Scalar.{truth_outcome};
-
-    type Out = bool;
-
-    ghost served = { λ r. P.served r.0 };
-
-    ghost outcome = { λ r place. truth_outcome (P.outcome r.0 place) };
-
-    #[inline(always)]
-    fn result_at(&self, place: usize) -> Result<bool, Fault> {
-        Ok(is_one(self.0.result_at(place)?))
-    }
-
-    #[inline(always)]
-    fn likely_at(&self, place: usize) -> (bool, u64) {
-        let (value, doubts) = self.0.likely_at(place);
-        (is_one(value), doubts)
-    }
-
-    #[inline(always)]
-    fn have_runs() -> bool {
-        P::have_runs()
-    }
-}
-
 /// The results of a scalar function that is chosen anew for each run of places. So a pass of the pool is compiled once for all functions, and
 /// the loop over a run for each of them.
 pub(crate) trait Chosen: Copy {
@@ -147,7 +113,6 @@ pub(crate) trait Chosen: Copy {
     ghost use Rattle.apl_pool.specs.declared.kernel.Fault.{Fault};
     ghost use Rattle.apl_pool.specs.declared.kernel.TheConstants.{MOST_PLACES};
     ghost use Rattle.apl_pool.specs.Runs.{AreWritten};
-    ghost use Rattle.apl_scalar.specs.Scalar.{truth_outcome};
 
     // How many places there are.
     ghost served: { Self → ℕ };
@@ -161,25 +126,14 @@ pub(crate) trait Chosen: Copy {
         ensures { result ≡ outcome self.now place };
 
     /// Writes a run of results, as `write_results`.
-    fn write_numbers(&self, from: usize, to: usize, room: &mut [i64]) -> usize
+    fn write<H: Held>(&self, from: usize, to: usize, room: &mut [H]) -> usize
         requires order { from ≤ to }
         requires places { to ≤ served self.now }
         requires most { to ≤ MOST_PLACES }
         requires room { to ≤ from + length room.old }
         ensures order { from ≤ result }
         ensures within { result ≤ to }
-        ensures values { AreWritten (outcome self.now) from result room.new }
-        ensures len { length room.new ≡ length room.old };
-
-    /// The same, of results that are read as truth values.
-    fn write_truths(&self, from: usize, to: usize, room: &mut [bool]) -> usize
-        requires order { from ≤ to }
-        requires places { to ≤ served self.now }
-        requires most { to ≤ MOST_PLACES }
-        requires room { to ≤ from + length room.old }
-        ensures order { from ≤ result }
-        ensures within { result ≤ to }
-        ensures values { AreWritten (λ place. truth_outcome (outcome self.now place)) from result room.new }
+        ensures values { AreWritten (λ place. H.held (outcome self.now place)) from result room.new }
         ensures len { length room.new ≡ length room.old };
 }
 
@@ -197,11 +151,11 @@ fn element_at<F: Function, A: Operand>(argument: A, place: usize) -> Result<i64,
     monadic_element::<F>(argument.at(place))
 }
 
-fn write_elements<F: Function + Copy, A: Operand>(
+fn write_elements<F: Function + Copy, A: Operand, H: Held>(
     argument: A,
     from: usize,
     to: usize,
-    room: &mut [i64],
+    room: &mut [H],
 ) -> usize
     requires order { from ≤ to }
     requires places { to ≤ A.served argument }
@@ -209,29 +163,10 @@ fn write_elements<F: Function + Copy, A: Operand>(
     requires room { to ≤ from + length room.old }
     ensures order { from ≤ result }
     ensures within { result ≤ to }
-    ensures values { AreWritten (λ place. monadic_of F.FUNCTION (A.element argument place)) from result room.new }
+    ensures values { AreWritten (λ place. H.held (monadic_of F.FUNCTION (A.element argument place))) from result room.new }
     ensures len { length room.new ≡ length room.old }
 {
     write_results(ElementResults::<A, F>::new(argument), from, to, room)
-}
-
-fn write_truth_elements<F: Function + Copy, A: Operand>(
-    argument: A,
-    from: usize,
-    to: usize,
-    room: &mut [bool],
-) -> usize
-    requires order { from ≤ to }
-    requires places { to ≤ A.served argument }
-    requires most { to ≤ MOST_PLACES }
-    requires room { to ≤ from + length room.old }
-    ensures order { from ≤ result }
-    ensures within { result ≤ to }
-    ensures values { AreWritten (λ place. truth_outcome (monadic_of F.FUNCTION (A.element argument place))) from result room.new }
-    ensures len { length room.new ≡ length room.old }
-{
-    let results = ElementResults::<A, F>::new(argument);
-    write_results(TruthResults(results), from, to, room)
 }
 
 impl<A: Operand> Chosen for OfElements<A> {
@@ -245,17 +180,10 @@ impl<A: Operand> Chosen for OfElements<A> {
         with_type!(self.f, element_at::<F, A>(self.argument, place))
     }
 
-    fn write_numbers(&self, from: usize, to: usize, room: &mut [i64]) -> usize {
+    fn write<H: Held>(&self, from: usize, to: usize, room: &mut [H]) -> usize {
         with_type!(
             self.f,
-            write_elements::<F, A>(self.argument, from, to, room)
-        )
-    }
-
-    fn write_truths(&self, from: usize, to: usize, room: &mut [bool]) -> usize {
-        with_type!(
-            self.f,
-            write_truth_elements::<F, A>(self.argument, from, to, room)
+            write_elements::<F, A, H>(self.argument, from, to, room)
         )
     }
 }
@@ -280,12 +208,12 @@ fn pair_at<F: Function, L: Operand, R: Operand>(
     dyadic_elements::<F>(left.at(place), right.at(place))
 }
 
-fn write_pairs<F: Function + Copy, L: Operand, R: Operand>(
+fn write_pairs<F: Function + Copy, L: Operand, R: Operand, H: Held>(
     left: L,
     right: R,
     from: usize,
     to: usize,
-    room: &mut [i64],
+    room: &mut [H],
 ) -> usize
     requires order { from ≤ to }
     requires left { to ≤ L.served left }
@@ -294,31 +222,10 @@ fn write_pairs<F: Function + Copy, L: Operand, R: Operand>(
     requires room { to ≤ from + length room.old }
     ensures order { from ≤ result }
     ensures within { result ≤ to }
-    ensures values { AreWritten (λ place. dyadic_of F.FUNCTION (L.element left place) (R.element right place)) from result room.new }
+    ensures values { AreWritten (λ place. H.held (dyadic_of F.FUNCTION (L.element left place) (R.element right place))) from result room.new }
     ensures len { length room.new ≡ length room.old }
 {
     write_results(PairResults::<L, R, F>::new(left, right), from, to, room)
-}
-
-fn write_truth_pairs<F: Function + Copy, L: Operand, R: Operand>(
-    left: L,
-    right: R,
-    from: usize,
-    to: usize,
-    room: &mut [bool],
-) -> usize
-    requires order { from ≤ to }
-    requires left { to ≤ L.served left }
-    requires right { to ≤ R.served right }
-    requires most { to ≤ MOST_PLACES }
-    requires room { to ≤ from + length room.old }
-    ensures order { from ≤ result }
-    ensures within { result ≤ to }
-    ensures values { AreWritten (λ place. truth_outcome (dyadic_of F.FUNCTION (L.element left place) (R.element right place))) from result room.new }
-    ensures len { length room.new ≡ length room.old }
-{
-    let results = PairResults::<L, R, F>::new(left, right);
-    write_results(TruthResults(results), from, to, room)
 }
 
 impl<L: Operand, R: Operand> Chosen for OfPairs<L, R> {
@@ -333,77 +240,40 @@ impl<L: Operand, R: Operand> Chosen for OfPairs<L, R> {
         with_type!(self.f, pair_at::<F, L, R>(self.left, self.right, place))
     }
 
-    fn write_numbers(&self, from: usize, to: usize, room: &mut [i64]) -> usize {
+    fn write<H: Held>(&self, from: usize, to: usize, room: &mut [H]) -> usize {
         with_type!(
             self.f,
-            write_pairs::<F, L, R>(self.left, self.right, from, to, room)
-        )
-    }
-
-    fn write_truths(&self, from: usize, to: usize, room: &mut [bool]) -> usize {
-        with_type!(
-            self.f,
-            write_truth_pairs::<F, L, R>(self.left, self.right, from, to, room)
+            write_pairs::<F, L, R, H>(self.left, self.right, from, to, room)
         )
     }
 }
 
-/// The results at the first `count` places, as numbers.
+/// The results at the first `count` places, as they are held.
 #[derive(Drop)]
-pub(crate) struct NumberKernel<C: Chosen> {
+pub(crate) struct ResultKernel<C: Chosen, H> {
     pub results: C,
     pub count: usize,
+    pub held: PhantomData<H>,
     ghost most: { count ≤ MOST_PLACES },
     ghost served: { count ≤ C.served results },
 }
 
-impl<C: Chosen> Kernel for NumberKernel<C> {
-    type Out = i64;
+impl<C: Chosen, H: Held> Kernel for ResultKernel<C, H> {
+    type Out = H;
 
     ghost place_count = { λ k. k.count };
 
-    ghost outcome = { λ k place. C.outcome k.results place };
+    ghost outcome = { λ k place. H.held (C.outcome k.results place) };
 
     fn count(&self) -> usize {
         self.count
     }
 
-    fn at(&self, place: usize) -> Result<i64, Fault> {
-        self.results.result_at(place)
+    fn at(&self, place: usize) -> Result<H, Fault> {
+        as_held(self.results.result_at(place))
     }
 
-    fn write_run(&self, from: usize, to: usize, room: &mut [i64]) -> usize {
-        self.results.write_numbers(from, to, room)
-    }
-}
-
-/// The results at the first `count` places, as truth values, of which 1 is true.
-#[derive(Drop)]
-pub(crate) struct TruthKernel<C: Chosen> {
-    pub results: C,
-    pub count: usize,
-    ghost most: { count ≤ MOST_PLACES },
-    ghost served: { count ≤ C.served results },
-}
-
-impl<C: Chosen> Kernel for TruthKernel<C> {
-    ghost use Rattle.apl_scalar.specs.Scalar.{truth_outcome};
-
-    type Out = bool;
-
-    ghost place_count = { λ k. k.count };
-
-    ghost outcome = { λ k place. truth_outcome (C.outcome k.results place) };
-
-    fn count(&self) -> usize {
-        self.count
-    }
-
-    fn at(&self, place: usize) -> Result<bool, Fault> {
-        Ok(is_one(self.results.result_at(place)?))
-    }
-
-    fn write_run(&self, from: usize, to: usize, room: &mut [bool]) -> usize {
-        self.results.write_truths(from, to, room)
+    fn write_run(&self, from: usize, to: usize, room: &mut [H]) -> usize {
+        self.results.write(from, to, room)
     }
 }

@@ -10,12 +10,13 @@ ghost use Rattle.apl_scalar.specs.Scalar.{as_element, dyadic_of, is_truth_valued
 ghost use Rattle.apl_scalar.specs.Pairs.{pair_in};
 
 use crate::function_types::is_truth_valued;
-use crate::kernels::{Chosen, NumberKernel, OfElements, OfPairs, TruthKernel};
+use crate::kernels::{Chosen, OfElements, OfPairs, ResultKernel};
 use crate::laws::truth_values_are_results;
 use crate::operands::{Operand, Pairs, Value, Whole};
 use apl_answer::{ElementType, OpFault, fill_array};
 use apl_array::{Array, ScalarFunction, Shape};
 use apl_pool::Crew;
+use std::marker::PhantomData;
 
 /// The array of results at all places of a shape. Those of a truth-valued function are held as truth values.
 fn fill_results<C: Chosen + Sync, W: Crew>(
@@ -31,9 +32,25 @@ fn fill_results<C: Chosen + Sync, W: Crew>(
 {
     let count = shape.count();
     if is_truth_valued(f) {
-        fill_array(workers, shape, &TruthKernel { results, count })
+        fill_array(
+            workers,
+            shape,
+            &ResultKernel::<C, bool> {
+                results,
+                count,
+                held: PhantomData,
+            },
+        )
     } else {
-        fill_array(workers, shape, &NumberKernel { results, count })
+        fill_array(
+            workers,
+            shape,
+            &ResultKernel::<C, i64> {
+                results,
+                count,
+                held: PhantomData,
+            },
+        )
     }
 }
 

@@ -3,10 +3,11 @@ ghost use Rattle.std.specs.Prelude.{◌≡◌, ◌≤◌, pos, length, map, slic
 ghost use Rattle.apl_array.specs.declared.array.Elem.TheVariants.{Int};
 ghost use Rattle.apl_pool.specs.declared.kernel.TheConstants.{MOST_PLACES};
 ghost use Rattle.apl_pool.specs.Runs.{AreWritten};
-ghost use Rattle.apl_scalar.specs.Scalar.{dyadic_of, truth_outcome};
+ghost use Rattle.apl_scalar.specs.Scalar.{dyadic_of};
 
 use crate::function_types::Function;
-use crate::kernels::{PairResults, TruthResults};
+use crate::held::Held;
+use crate::kernels::PairResults;
 use crate::operands::{Value, Whole};
 use crate::runs::write_results;
 use apl_answer::ElementType;
@@ -14,34 +15,17 @@ use apl_answer::ElementType;
 /// Writes what the function of type `F` gives of `x` and each of others into the room for them. It ends at some other, or
 /// at the first that has a fault. It answers how many it wrote, and takes no memory.
 #[inline(always)]
-pub fn write_pairs<F: Function + Copy, T: ElementType, U: ElementType>(
+pub fn write_pairs<F: Function + Copy, T: ElementType, U: ElementType, H: Held>(
     x: T,
     others: &[U],
-    room: &mut [i64],
+    room: &mut [H],
 ) -> usize
     requires most { length others.now ≤ MOST_PLACES }
     requires room { length others.now ≤ length room.old }
     ensures within { result ≤ length others.now }
-    ensures values { AreWritten (λ k. dyadic_of F.FUNCTION (T.elem_of x) (slice_index_or (map U.elem_of others.now) k (Int (pos 0)))) 0 result room.new }
+    ensures values { AreWritten (λ k. H.held (dyadic_of F.FUNCTION (T.elem_of x) (slice_index_or (map U.elem_of others.now) k (Int (pos 0))))) 0 result room.new }
     ensures len { length room.new ≡ length room.old }
 {
     let results = PairResults::<Value<T>, Whole<U>, F>::new(Value(x), Whole(others));
     write_results(results, 0, others.len(), room)
-}
-
-/// The same, of results that are read as truth values.
-#[inline(always)]
-pub fn write_truth_pairs<F: Function + Copy, T: ElementType, U: ElementType>(
-    x: T,
-    others: &[U],
-    room: &mut [bool],
-) -> usize
-    requires most { length others.now ≤ MOST_PLACES }
-    requires room { length others.now ≤ length room.old }
-    ensures within { result ≤ length others.now }
-    ensures values { AreWritten (λ k. truth_outcome (dyadic_of F.FUNCTION (T.elem_of x) (slice_index_or (map U.elem_of others.now) k (Int (pos 0))))) 0 result room.new }
-    ensures len { length room.new ≡ length room.old }
-{
-    let results = PairResults::<Value<T>, Whole<U>, F>::new(Value(x), Whole(others));
-    write_results(TruthResults(results), 0, others.len(), room)
 }

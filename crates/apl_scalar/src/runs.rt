@@ -3,6 +3,7 @@ ghost use Rattle.std.specs.Prelude.{◌≡◌, ◌+◌, ◌≤◌, true, length}
 ghost use Rattle.apl_pool.specs.declared.kernel.TheConstants.{MOST_PLACES};
 ghost use Rattle.apl_pool.specs.Runs.{AreWritten};
 
+use crate::held::Held;
 use apl_pool::Fault;
 
 /// The most places of a run.
@@ -10,25 +11,22 @@ const LONGEST_RUN: usize = 1024;
 
 /// The results of a scalar function at places. They are passed by value, so that a loop that writes reads no pointer anew.
 pub(crate) trait Results: Copy {
-    ghost use Rattle.std.specs.Prelude.{◌≡◌, ◌<◌, ℕ, Result, Ok};
+    ghost use Rattle.std.specs.Prelude.{◌≡◌, ◌<◌, ℕ, ℤ, Result, Ok};
     ghost use Rattle.apl_pool.specs.declared.kernel.Fault.{Fault};
-
-    /// The type of the results.
-    type Out: Copy;
 
     // How many places there are.
     ghost served: { Self → ℕ };
 
     // The result at a place.
-    ghost outcome: { Self → ℕ → Result Self.Out Fault };
+    ghost outcome: { Self → ℕ → Result ℤ Fault };
 
     /// The result at a place.
-    fn result_at(&self, place: usize) -> Result<Self::Out, Fault>
+    fn result_at(&self, place: usize) -> Result<i64, Fault>
         requires { place < served self.now }
         ensures { result ≡ outcome self.now place };
 
     /// A value, and the doubts whether it is the result at a place. It is if there are none.
-    fn likely_at(&self, place: usize) -> (Self::Out, u64)
+    fn likely_at(&self, place: usize) -> (i64, u64)
         requires { place < served self.now }
         ensures { result.1 ≡ 0 → outcome self.now place ≡ Ok result.0 };
 
@@ -38,17 +36,17 @@ pub(crate) trait Results: Copy {
 
 /// Writes the likely results into the room for the places from `from` on. It answers whether all are sure.
 #[inline(always)]
-fn write_likely<P: Results>(results: P, from: usize, count: usize, room: &mut [P::Out]) -> bool
+fn write_likely<P: Results, H: Held>(results: P, from: usize, count: usize, room: &mut [H]) -> bool
     requires places { from + count ≤ P.served results }
     requires most { from + count ≤ MOST_PLACES }
     requires room { count ≤ length room.old }
-    ensures values { result ≡ true → AreWritten (P.outcome results) from (from + count) room.new }
+    ensures values { result ≡ true → AreWritten (λ place. H.held (P.outcome results place)) from (from + count) room.new }
     ensures len { length room.new ≡ length room.old }
 {
     let mut all_doubts = 0;
     for k in 0..count {
         let (value, doubts) = results.likely_at(from + k);
-        room[k] = value;
+        room[k] = H::of(value);
         all_doubts |= doubts;
     }
     all_doubts == 0
@@ -60,26 +58,26 @@ const TURN: usize = 4;
 /// Writes the next `count` results into the room for the places from `from` on, of which it has `done`. It answers the
 /// place of the first fault, or where these end.
 #[inline(always)]
-fn write_some<P: Results>(
+fn write_some<P: Results, H: Held>(
     results: P,
     from: usize,
     done: usize,
     count: usize,
-    room: &mut [P::Out],
+    room: &mut [H],
 ) -> usize
     requires places { from + done + count ≤ P.served results }
     requires most { from + done + count ≤ MOST_PLACES }
     requires room { done + count ≤ length room.old }
-    requires before { AreWritten (P.outcome results) from (from + done) room.old }
+    requires before { AreWritten (λ place. H.held (P.outcome results place)) from (from + done) room.old }
     ensures order { from ≤ result }
     ensures within { result ≤ from + done + count }
-    ensures values { AreWritten (P.outcome results) from result room.new }
+    ensures values { AreWritten (λ place. H.held (P.outcome results place)) from result room.new }
     ensures len { length room.new ≡ length room.old }
 {
     for offset in 0..count {
         let k = done + offset;
         match results.result_at(from + k) {
-            Ok(value) => room[k] = value,
+            Ok(value) => room[k] = H::of(value),
             Err(_) => return from + k,
         }
     }
@@ -88,18 +86,18 @@ fn write_some<P: Results>(
 
 /// Writes results into the room for the places from `from` on, one by one. It answers the place of the first fault,
 /// or where the places end.
-fn write_before_fault<P: Results>(
+fn write_before_fault<P: Results, H: Held>(
     results: P,
     from: usize,
     count: usize,
-    room: &mut [P::Out],
+    room: &mut [H],
 ) -> usize
     requires places { from + count ≤ P.served results }
     requires most { from + count ≤ MOST_PLACES }
     requires room { count ≤ length room.old }
     ensures order { from ≤ result }
     ensures within { result ≤ from + count }
-    ensures values { AreWritten (P.outcome results) from result room.new }
+    ensures values { AreWritten (λ place. H.held (P.outcome results place)) from result room.new }
     ensures len { length room.new ≡ length room.old }
 {
     for turn in 0..count / TURN {
@@ -116,11 +114,11 @@ fn write_before_fault<P: Results>(
 /// fault, or where the run ends. If one of the run is not sure, the results up to `to` are written one by one. The next runs tend to be
 /// like this one. Results that have no quick runs are written one by one too.
 #[inline(always)]
-pub(crate) fn write_results<P: Results>(
+pub(crate) fn write_results<P: Results, H: Held>(
     results: P,
     from: usize,
     to: usize,
-    room: &mut [P::Out],
+    room: &mut [H],
 ) -> usize
     requires order { from ≤ to }
     requires places { to ≤ P.served results }
@@ -128,7 +126,7 @@ pub(crate) fn write_results<P: Results>(
     requires room { to ≤ from + length room.old }
     ensures order { from ≤ result }
     ensures within { result ≤ to }
-    ensures values { AreWritten (P.outcome results) from result room.new }
+    ensures values { AreWritten (λ place. H.held (P.outcome results place)) from result room.new }
     ensures len { length room.new ≡ length room.old }
 {
     let count = (to - from).min(LONGEST_RUN);
