@@ -46,6 +46,8 @@ LOOP(negative, int64_t, int64_t, faults |= __builtin_sub_overflow(0, b[i], &r[i]
 LOOP(magnitude, int64_t, int64_t, (r[i] = b[i] < 0 ? (int64_t)(0 - (uint64_t)b[i]) : b[i], faults |= b[i] == INT64_MIN))
 LOOP(signum, int64_t, int64_t, r[i] = (b[i] > 0) - (b[i] < 0))
 LOOP(not, truth, truth, r[i] = b[i] ^ 1)
+LOOP(equal_to_one, truth, truth, r[i] = b[i] == 1)
+LOOP(one_less, truth, int64_t, r[i] = 1 - b[i])
 
 static const struct {
     const char *name;
@@ -53,7 +55,7 @@ static const struct {
     int of_truths;
 } LOOPS[] = {{"+", plus}, {"-", minus}, {"×", times}, {"⌊", least}, {"⌈", greatest}, {"<", less}, {"≤", at_most}, {"=", equal},
              {"≥", at_least}, {">", greater}, {"≠", unequal}, {"∧", and, 1}, {"∨", or, 1}, {"⍲", nand, 1}, {"⍱", nor, 1}, {"negative", negative},
-             {"magnitude", magnitude}, {"signum", signum}, {"not", not, 1}};
+             {"magnitude", magnitude}, {"signum", signum}, {"not", not, 1}, {"1=L", equal_to_one, 1}, {"1-L", one_less, 1}};
 
 // Prints the least nanoseconds a number of the named loop, over `rounds` times a thousand passes.
 int main(int words, char **word) {
