@@ -2,27 +2,18 @@
 ghost use Rattle.std.specs.Prelude.{◌≡◌};
 ghost use Rattle.apl_scalar.specs.Scalar.{dyadic_numbers};
 
-use apl_answer::ElementType;
 use apl_array::{Elem, ScalarFunction};
 use apl_pool::Fault;
 use apl_scalar::function_types::Function;
-use apl_scalar::{Held, dyadic_elements, identity, with_type, write_pairs};
+use apl_scalar::{dyadic_elements, identity, with_type};
 use std::marker::PhantomData;
 
 /// A scalar function of two elements.
 pub(crate) trait Dyadic: Copy {
     ghost use Rattle.apl_array.specs.declared.function.ScalarFunction.{ScalarFunction};
-    ghost use Rattle.std.specs.Prelude.{◌≤◌, length, map};
-    ghost use Rattle.apl_pool.specs.declared.kernel.TheConstants.{MOST_PLACES};
-    ghost use Rattle.apl_pool.specs.Runs.{AreWritten};
     ghost use Rattle.apl_scalar.specs.Scalar.{dyadic_of, dyadic_numbers, identity_of};
-    ghost use Rattle.apl_reduce.specs.Items.{pair_number};
 
     ghost function: { Self → ScalarFunction };
-
-    /// Which function it is.
-    fn named(&self) -> ScalarFunction
-        ensures { result ≡ function self.now };
 
     /// What it gives of two elements.
     fn of(&self, x: Elem, y: Elem) -> Result<i64, Fault>
@@ -31,20 +22,6 @@ pub(crate) trait Dyadic: Copy {
     /// What it gives of two numbers.
     fn of_numbers(&self, x: i64, y: i64) -> Result<i64, Fault>
         ensures { result ≡ dyadic_numbers (function self.now) x y };
-
-    /// Writes what it gives of one element and each of others into the room for them. It ends at some other, or at the first
-    /// that has a fault, and answers how many it wrote.
-    fn write_row<T: ElementType, U: ElementType, H: Held>(
-        &self,
-        x: T,
-        others: &[U],
-        room: &mut [H],
-    ) -> usize
-        requires most { length others.now ≤ MOST_PLACES }
-        requires room { length others.now ≤ length room.old }
-        ensures within { result ≤ length others.now }
-        ensures values { AreWritten (λ k. H.held (pair_number (function self.now) (T.elem_of x) (map U.elem_of others.now) k)) 0 result room.new }
-        ensures len { length room.new ≡ length room.old };
 
     /// What the reduction of no element gives, if anything.
     fn identity(&self) -> Option<i64>
@@ -59,11 +36,6 @@ impl<F: Function + Copy> Dyadic for Typed<F> {
     ghost function = { λ d. F.FUNCTION };
 
     #[inline(always)]
-    fn named(&self) -> ScalarFunction {
-        F::FUNCTION
-    }
-
-    #[inline(always)]
     fn of(&self, x: Elem, y: Elem) -> Result<i64, Fault> {
         dyadic_elements::<F>(x, y)
     }
@@ -71,16 +43,6 @@ impl<F: Function + Copy> Dyadic for Typed<F> {
     #[inline(always)]
     fn of_numbers(&self, x: i64, y: i64) -> Result<i64, Fault> {
         F::apply(x, y)
-    }
-
-    #[inline(always)]
-    fn write_row<T: ElementType, U: ElementType, H: Held>(
-        &self,
-        x: T,
-        others: &[U],
-        room: &mut [H],
-    ) -> usize {
-        write_pairs::<F, T, U, H>(x, others, room)
     }
 
     #[inline(always)]
@@ -105,11 +67,6 @@ impl Dyadic for Chosen {
     ghost function = { λ d. d.0 };
 
     #[inline(always)]
-    fn named(&self) -> ScalarFunction {
-        self.0
-    }
-
-    #[inline(always)]
     fn of(&self, x: Elem, y: Elem) -> Result<i64, Fault> {
         with_type!(self.0, dyadic_elements::<F>(x, y))
     }
@@ -117,16 +74,6 @@ impl Dyadic for Chosen {
     #[inline(always)]
     fn of_numbers(&self, x: i64, y: i64) -> Result<i64, Fault> {
         with_type!(self.0, applied::<F>(x, y))
-    }
-
-    #[inline(always)]
-    fn write_row<T: ElementType, U: ElementType, H: Held>(
-        &self,
-        x: T,
-        others: &[U],
-        room: &mut [H],
-    ) -> usize {
-        with_type!(self.0, write_pairs::<F, T, U, H>(x, others, room))
     }
 
     #[inline(always)]

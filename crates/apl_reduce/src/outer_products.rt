@@ -1,25 +1,25 @@
 //! Outer products.
 ghost use Rattle.std.specs.Prelude.{◌≡◌, ◌+◌, ◌<◌, ◌≤◌, ◌*◌, IfErr, IfOk, IsTrue, length, map};
-ghost use Rattle.apl_array.specs.declared.function.ScalarFunction.{ScalarFunction};
-ghost use Rattle.apl_array.specs.declared.array.Elem.TheVariants.{Int, Chr};
 ghost use Rattle.apl_array.specs.declared.array.Kind.TheVariants.{Number};
 ghost use Rattle.apl_array.specs.Shape.{count_of};
 ghost use Rattle.apl_array.specs.Valences.{has_dyadic};
 ghost use Rattle.apl_pool.specs.declared.kernel.TheConstants.{MOST_PLACES};
+ghost use Rattle.apl_pool.specs.Runs.{AreWritten};
 ghost use Rattle.apl_answer.specs.Pointwise.{IsAnswerAt};
 ghost use Rattle.apl_answer.specs.Rows.{Answers};
 ghost use Rattle.apl_scalar.specs.Scalar.{as_element};
-ghost use Rattle.apl_reduce.specs.Items.{outer_number, IsOuterRun};
+ghost use Rattle.apl_reduce.specs.Items.{outer_number, pair_number, IsOuterRun};
 ghost use Rattle.apl_reduce.specs.Products.{outer_row};
 
-use crate::dyadic::{Chosen, Dyadic, Typed};
+use crate::dyadic::{Chosen, Dyadic};
 use crate::shapes::{characters_of, joined_shape};
 use apl_answer::{ElementType, OpFault, constant_array, fill_array, numbers_of};
 use apl_array::{Array, ScalarFunction, Shape, joined_index_has_place, places_match_index_lists};
 use apl_divisor::Divisor;
 use apl_pool::{Crew, Cut, Fault, Gate, Kernel, Pool, Workers};
-use apl_scalar::function_types::{Equal, Function, NotEqual};
-use apl_scalar::{Held, as_held, is_truth_valued, truth_values_are_results, with_type};
+use apl_scalar::{
+    Held, as_held, is_truth_valued, truth_values_are_results, with_type, write_pairs,
+};
 use std::alloc::Global;
 use std::marker::PhantomData;
 use std::thread::Threads;
@@ -29,18 +29,18 @@ pub(crate) const NARROW: usize = 8;
 
 /// Each element of one list with each element of another, the right one varying fastest.
 #[derive(Drop)]
-struct EachPair<'a, T, U, F: Dyadic> {
+struct EachPair<'a, T, U> {
     left: &'a [T],
     right: &'a [U],
     columns: Divisor,
     count: usize,
-    function: F,
+    f: ScalarFunction,
     ghost most: { count ≤ MOST_PLACES },
     ghost count_is: { count ≡ length left.now * length right.now },
     ghost columns_are: { columns ≡ length right.now },
 }
 
-impl<T: ElementType, U: ElementType, F: Dyadic> EachPair<'_, T, U, F> {
+impl<T: ElementType, U: ElementType> EachPair<'_, T, U> {
     /// The left element of a place's row, and the right ones from that place on. They end before another place, or at the end of the row.
     #[inline(always)]
     fn row_from(&self, from: usize, to: usize) -> (T, &[U])
@@ -60,23 +60,40 @@ impl<T: ElementType, U: ElementType, F: Dyadic> EachPair<'_, T, U, F> {
     #[inline(always)]
     fn number_at(&self, place: usize) -> Result<i64, Fault>
         requires { place < self.now.count }
-        ensures { result ≡ outer_number (F.function self.now.function) (map T.elem_of self.now.left.now) (map U.elem_of self.now.right.now) place }
+        ensures { result ≡ outer_number self.now.f (map T.elem_of self.now.left.now) (map U.elem_of self.now.right.now) place }
     {
         let row = self.columns.quotient(place);
         let column = self.columns.remainder(place);
-        self.function
-            .of(self.left[row].elem(), self.right[column].elem())
+        Chosen(self.f).of(self.left[row].elem(), self.right[column].elem())
     }
+}
+
+/// Writes what a function gives of one element and each of others into the room for them, as results are held. It ends at some other, or at
+/// the first that has a fault, and answers how many it wrote.
+#[inline(always)]
+fn write_row<T: ElementType, U: ElementType, H: Held>(
+    f: ScalarFunction,
+    x: T,
+    others: &[U],
+    room: &mut [H],
+) -> usize
+    requires most { length others.now ≤ MOST_PLACES }
+    requires room { length others.now ≤ length room.old }
+    ensures within { result ≤ length others.now }
+    ensures values { AreWritten (λ k. H.held (pair_number f (T.elem_of x) (map U.elem_of others.now) k)) 0 result room.new }
+    ensures len { length room.new ≡ length room.old }
+{
+    with_type!(f, write_pairs::<F, T, U, H>(x, others, room))
 }
 
 /// What a function gives of each pair, as results are held.
 #[derive(Drop)]
-struct HeldPairs<'a, T, U, F: Dyadic, H> {
-    pairs: EachPair<'a, T, U, F>,
+struct HeldPairs<'a, T, U, H> {
+    pairs: EachPair<'a, T, U>,
     held: PhantomData<H>,
 }
 
-impl<T: ElementType, U: ElementType, F: Dyadic, H: Held> Kernel for HeldPairs<'_, T, U, F, H> {
+impl<T: ElementType, U: ElementType, H: Held> Kernel for HeldPairs<'_, T, U, H> {
     ghost use Rattle.std.specs.Prelude.{map};
     ghost use Rattle.apl_reduce.specs.Items.{outer_number};
 
@@ -84,7 +101,7 @@ impl<T: ElementType, U: ElementType, F: Dyadic, H: Held> Kernel for HeldPairs<'_
 
     ghost place_count = { λ k. k.pairs.count };
 
-    ghost outcome = { λ k place. H.held (outer_number (F.function k.pairs.function) (map T.elem_of k.pairs.left.now) (map U.elem_of k.pairs.right.now) place) };
+    ghost outcome = { λ k place. H.held (outer_number k.pairs.f (map T.elem_of k.pairs.left.now) (map U.elem_of k.pairs.right.now) place) };
 
     fn count(&self) -> usize {
         self.pairs.count
@@ -101,20 +118,20 @@ impl<T: ElementType, U: ElementType, F: Dyadic, H: Held> Kernel for HeldPairs<'_
             return from;
         }
         let (x, others) = self.pairs.row_from(from, to);
-        from + self.pairs.function.write_row(x, others, room)
+        from + write_row(self.pairs.f, x, others, room)
     }
 }
 
 /// The array of this shape of a function of each element of one list and each element of another.
-fn outer_array<T: ElementType + Sync, U: ElementType + Sync, F: Dyadic + Sync, W: Crew>(
+fn outer_array<T: ElementType + Sync, U: ElementType + Sync, W: Crew>(
     workers: &W,
     shape: Shape,
+    f: ScalarFunction,
     left: &[T],
     right: &[U],
-    function: F,
 ) -> Result<Array, OpFault>
     requires { count_of shape ≡ length left.now * length right.now }
-    ensures { IsAnswerAt shape Number (λ place. as_element (outer_number (F.function function) (map T.elem_of left.now) (map U.elem_of right.now) place)) result }
+    ensures { IsAnswerAt shape Number (λ place. as_element (outer_number f (map T.elem_of left.now) (map U.elem_of right.now) place)) result }
 {
     let count = shape.count();
     if count == 0 {
@@ -125,14 +142,14 @@ fn outer_array<T: ElementType + Sync, U: ElementType + Sync, F: Dyadic + Sync, W
         right,
         columns: Divisor::new(right.len()),
         count,
-        function,
+        f,
     };
-    if is_truth_valued(function.named()) {
+    if is_truth_valued(f) {
         truth_values_are_results();
         return fill_array(
             workers,
             shape,
-            &HeldPairs::<T, U, F, bool> {
+            &HeldPairs::<T, U, bool> {
                 pairs,
                 held: PhantomData,
             },
@@ -141,68 +158,11 @@ fn outer_array<T: ElementType + Sync, U: ElementType + Sync, F: Dyadic + Sync, W
     fill_array(
         workers,
         shape,
-        &HeldPairs::<T, U, F, i64> {
+        &HeldPairs::<T, U, i64> {
             pairs,
             held: PhantomData,
         },
     )
-}
-
-/// As of numbers, but of characters, of which only `=` and `≠` give something.
-fn outer_characters<W: Crew>(
-    workers: &W,
-    shape: Shape,
-    f: ScalarFunction,
-    left: &[char],
-    right: &[char],
-) -> Result<Array, OpFault>
-    requires { count_of shape ≡ length left.now * length right.now }
-    ensures { IsAnswerAt shape Number (λ place. as_element (outer_number f (map Chr left.now) (map Chr right.now) place)) result }
-{
-    match f {
-        ScalarFunction::Equal => outer_array(
-            workers,
-            shape,
-            left,
-            right,
-            Typed::<Equal>(PhantomData),
-        ),
-        ScalarFunction::NotEqual => outer_array(
-            workers,
-            shape,
-            left,
-            right,
-            Typed::<NotEqual>(PhantomData),
-        ),
-        _ => outer_array(workers, shape, left, right, Chosen(f)),
-    }
-}
-
-/// A function of each number of one list and each number of another, compiled for that function.
-fn outer_typed<F: Function + Copy + Sync, W: Crew>(
-    workers: &W,
-    shape: Shape,
-    left: &[i64],
-    right: &[i64],
-) -> Result<Array, OpFault>
-    requires { count_of shape ≡ length left.now * length right.now }
-    ensures { IsAnswerAt shape Number (λ place. as_element (outer_number F.FUNCTION (map Int left.now) (map Int right.now) place)) result }
-{
-    outer_array(workers, shape, left, right, Typed::<F>(PhantomData))
-}
-
-/// A function of each number of one list and each number of another.
-fn outer_numbers<W: Crew>(
-    workers: &W,
-    shape: Shape,
-    f: ScalarFunction,
-    left: &[i64],
-    right: &[i64],
-) -> Result<Array, OpFault>
-    requires { count_of shape ≡ length left.now * length right.now }
-    ensures { IsAnswerAt shape Number (λ place. as_element (outer_number f (map Int left.now) (map Int right.now) place)) result }
-{
-    with_type!(f, outer_typed::<F, W>(workers, shape, left, right))
 }
 
 /// The array of this shape of a function of each element of `a` and each element of `b`.
@@ -218,21 +178,13 @@ fn outer_elements<W: Crew>(
 {
     match (numbers_of(workers, a)?, numbers_of(workers, b)?) {
         (Some(left), Some(right)) => {
-            outer_numbers(workers, shape, f, left.as_slice(), right.as_slice())
+            outer_array(workers, shape, f, left.as_slice(), right.as_slice())
         }
-        (Some(left), None) => {
-            outer_array(workers, shape, left.as_slice(), characters_of(b), Chosen(f))
-        }
+        (Some(left), None) => { outer_array(workers, shape, f, left.as_slice(), characters_of(b)) }
         (None, Some(right)) => {
-            outer_array(
-                workers,
-                shape,
-                characters_of(a),
-                right.as_slice(),
-                Chosen(f),
-            )
+            outer_array(workers, shape, f, characters_of(a), right.as_slice())
         }
-        (None, None) => outer_characters(workers, shape, f, characters_of(a), characters_of(b)),
+        (None, None) => outer_array(workers, shape, f, characters_of(a), characters_of(b)),
     }
 }
 

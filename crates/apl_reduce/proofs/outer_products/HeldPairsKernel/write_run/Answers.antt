@@ -5,7 +5,7 @@ use Rattle.apl_reduce.proofs.outer_products.HeldPairsKernel.write_run.Goals as g
 
 pub returns-clause-values : goal.returns-clause-values
 returns-clause-values g c =
-    let f = g.F.Dyadic.function c.args.self.now.pairs.function in
+    let f = c.args.self.now.pairs.f in
     let x = g.T.ElementType.elem_of c.row_from-x.result.0 in
     let others = map g.U.ElementType.elem_of c.row_from-x.result.1.now in
     let written = c.write_row.ensures.values in
