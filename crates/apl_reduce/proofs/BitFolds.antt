@@ -1,5 +1,5 @@
 -- Folds of truth values, one number more on the right.
-use Rattle.std.proofs.Common.{◌≡◌, ℕ, zero, suc, ℤ, pos, negsuc, ◌+◌, ◌<◌, Bool, true, false, FitsSigned, of_z, w64, bit_and, bit_or, List, map, Ok, refl, sym, ap, ◌∙◌, slice_index_or, arith}
+use Rattle.std.proofs.Common.{◌≡◌, ℕ, zero, suc, ℤ, pos, negsuc, ◌+◌, ◌*◌, ◌<◌, Bool, true, false, FitsSigned, of_z, w64, bit_and, bit_or, List, map, Ok, refl, sym, ap, ◌∙◌, slice_index_or, arith}
 use Rattle.std.specs.Prelude.{◌&&◌, ◌||◌, nat_eq}
 use Rattle.std.proofs.Math.ListN.{get_or-map}
 use Rattle.std.proofs.lemmas.Int.{ints}
@@ -11,7 +11,7 @@ use Rattle.apl_scalar.specs.Scalar.{bit, dyadic_of}
 use Rattle.apl_reduce.specs.BitFolds.{AreRunBits}
 use Rattle.apl_reduce.specs.Folded.{number_step, folded_onto}
 use Rattle.apl_reduce.specs.Items.{item_in}
-use Rattle.apl_reduce.proofs.Folds.{two_runs}
+use Rattle.apl_reduce.proofs.Folds.{two_runs, two_halves}
 
 -- a number without a bit above the lowest
 pub is_low : (x : ℤ) → FitsSigned w64 x → of_z w64 x < 2 → x ≡ bit (nat_eq (of_z w64 x) 1)
@@ -89,6 +89,28 @@ module _ (numbers : List ℤ) (first k : ℕ) where
           ∙ before.ors old (nat_eq m 1 || b)
           ∙ ap (λ c. Ok (bit c)) (or_is any m b old here);
     }
+
+-- ---- both halves
+
+module _ (numbers : List ℤ) (first half all any all_beyond any_beyond : ℕ) (low : AreRunBits numbers first half all any) (high : AreRunBits numbers (first + half) half all_beyond any_beyond) where
+  pub joined_bits : AreRunBits numbers first (2 * half) (bit_and all all_beyond) (bit_or any any_beyond)
+  joined_bits = record {
+    low = and_low all all_beyond low.low;
+    ands = λ few b.
+        let front : any < 2 = omega (arith, few, le_or_l any any_beyond) in
+        let back : any_beyond < 2 = omega (arith, few, le_or_r any any_beyond) in
+        two_halves And (item_in (map Int numbers)) first half (Ok (bit b))
+        ∙ ap (folded_onto And (item_in (map Int numbers)) first half) (high.ands back b)
+        ∙ low.ands front (nat_eq all_beyond 1 && b)
+        ∙ ap (λ c. Ok (bit c)) (and_is all all_beyond b low.low high.low);
+    ors = λ few b.
+        let front : any < 2 = omega (arith, few, le_or_l any any_beyond) in
+        let back : any_beyond < 2 = omega (arith, few, le_or_r any any_beyond) in
+        two_halves Or (item_in (map Int numbers)) first half (Ok (bit b))
+        ∙ ap (folded_onto Or (item_in (map Int numbers)) first half) (high.ors back b)
+        ∙ low.ors front (nat_eq any_beyond 1 || b)
+        ∙ ap (λ c. Ok (bit c)) (or_is any any_beyond b front back);
+  }
 
 -- ---- the folds onto a bit
 

@@ -1,5 +1,5 @@
--- The greatest and the least of neighbours and a total, one number more on the right.
-use Rattle.std.proofs.Common.{◌≡◌, ℕ, zero, suc, ℤ, pos, ◌+◌, List, map, Ok, refl, sym, ap, ◌∙◌, slice_index_or, arith}
+-- The greatest and the least of both halves of neighbours and a total, one number more on the right of each.
+use Rattle.std.proofs.Common.{◌≡◌, ℕ, zero, suc, ℤ, pos, ◌+◌, List, map, Result, Ok, refl, sym, ap, ◌∙◌, slice_index_or, arith}
 use Rattle.std.specs.Int.{int_min, int_max}
 use Rattle.std.proofs.Math.ListN.{get_or-map}
 use Rattle.std.proofs.lemmas.Int.{ints, clamps}
@@ -7,13 +7,15 @@ use Rattle.apl_array.specs.declared.array.Elem.{Elem}
 use Rattle.apl_array.specs.declared.array.Elem.TheVariants.{Int}
 use Rattle.apl_array.specs.declared.function.ScalarFunction.{ScalarFunction}
 use Rattle.apl_array.specs.declared.function.ScalarFunction.TheVariants.{Ceiling, Floor}
+use Rattle.apl_pool.specs.declared.kernel.Fault.{Fault}
 use Rattle.apl_scalar.specs.Scalar.{dyadic_of}
 use Rattle.apl_reduce.specs.Folded.{number_step, folded_onto}
 use Rattle.apl_reduce.specs.Items.{item_in}
 use Rattle.apl_reduce.proofs.Folds.{two_runs}
 
 -- a function that is defined for all numbers, and does not mind their order
-module _ (f : ScalarFunction) (two : ℤ → ℤ → ℤ) (is : (x y : ℤ) → dyadic_of f (Int x) (Int y) ≡ Ok (two x y)) (exchanged : (x y z : ℤ) → two x (two y z) ≡ two y (two x z)) (numbers : List ℤ) where
+module _ (f : ScalarFunction) (two : ℤ → ℤ → ℤ) (is : (x y : ℤ) → dyadic_of f (Int x) (Int y) ≡ Ok (two x y)) (exchanged : (x y z : ℤ) → two x (two y z) ≡ two y (two x z))
+    (grouped : (x y z : ℤ) → two x (two y z) ≡ two (two x y) z) (numbers : List ℤ) where
   abbrev item : ℕ → Elem
   item = item_in (map Int numbers)
 
@@ -46,17 +48,45 @@ module _ (f : ScalarFunction) (two : ℤ → ℤ → ℤ) (is : (x y : ℤ) → 
       ∙ folds_to first k (two (number (first + k)) total)
       ∙ ap (λ z. Ok z) (first_or_last first k (number (first + k)) total ∙ ap (two (number (first + k))) same)
 
+  two_numbers_more : (first second k : ℕ) (total so_far : ℤ) → folded_onto f item first k (folded_onto f item second k (Ok total)) ≡ Ok so_far
+      → folded_onto f item first (k + 1) (folded_onto f item second (k + 1) (Ok total)) ≡ Ok (two (two (number (first + k)) (number (second + k))) so_far)
+  two_numbers_more first second k total so_far before =
+      let x = number (first + k) in
+      let y = number (second + k) in
+      let beyond = all_onto second k total in
+      let onto : Ok (all_onto first k beyond) ≡ Ok so_far = sym (folds_to first k beyond) ∙ sym (ap (folded_onto f item first k) (folds_to second k total)) ∙ before in
+      let same : all_onto first k beyond ≡ so_far = cc in
+      let with_one : folded_onto f item first k (Ok (two y beyond)) ≡ Ok (two y so_far) =
+      folds_to first k (two y beyond) ∙ ap (λ z. Ok z) (first_or_last first k y beyond ∙ ap (two y) same) in
+      ap (folded_onto f item first (k + 1)) (one_number_more second k total beyond (folds_to second k total))
+      ∙ one_number_more first k (two y beyond) (two y so_far) with_one
+      ∙ ap (λ z. Ok z) (grouped x y so_far)
+
 exchanged_greater : (x y z : ℤ) → int_max x (int_max y z) ≡ int_max y (int_max x z)
 exchanged_greater x y z = omega (arith, ints, clamps)
 
 exchanged_lesser : (x y z : ℤ) → int_min x (int_min y z) ≡ int_min y (int_min x z)
 exchanged_lesser x y z = omega (arith, ints, clamps)
 
-module _ (numbers : List ℤ) (first k : ℕ) (total so_far : ℤ) where
-  pub one_more_greatest : folded_onto Ceiling (item_in (map Int numbers)) first k (Ok total) ≡ Ok so_far
-      → folded_onto Ceiling (item_in (map Int numbers)) first (k + 1) (Ok total) ≡ Ok (int_max (slice_index_or numbers (first + k) (pos 0)) so_far)
-  one_more_greatest = one_number_more Ceiling int_max (λ x y. refl) exchanged_greater numbers first k total so_far
+grouped_greater : (x y z : ℤ) → int_max x (int_max y z) ≡ int_max (int_max x y) z
+grouped_greater x y z = omega (arith, ints, clamps)
 
-  pub one_more_least : folded_onto Floor (item_in (map Int numbers)) first k (Ok total) ≡ Ok so_far
-      → folded_onto Floor (item_in (map Int numbers)) first (k + 1) (Ok total) ≡ Ok (int_min (slice_index_or numbers (first + k) (pos 0)) so_far)
-  one_more_least = one_number_more Floor int_min (λ x y. refl) exchanged_lesser numbers first k total so_far
+grouped_lesser : (x y z : ℤ) → int_min x (int_min y z) ≡ int_min (int_min x y) z
+grouped_lesser x y z = omega (arith, ints, clamps)
+
+-- both halves onto a total
+abbrev pub both : ScalarFunction → List ℤ → (first second : ℕ) → (total : ℤ) → (k : ℕ) → Result ℤ Fault
+both f numbers first second total k = folded_onto f (item_in (map Int numbers)) first k (folded_onto f (item_in (map Int numbers)) second k (Ok total))
+
+module _ (numbers : List ℤ) (first second k : ℕ) (total so_far : ℤ) where
+  abbrev x : ℤ
+  x = slice_index_or numbers (first + k) (pos 0)
+
+  abbrev y : ℤ
+  y = slice_index_or numbers (second + k) (pos 0)
+
+  pub two_more_greatest : both Ceiling numbers first second total k ≡ Ok so_far → both Ceiling numbers first second total (k + 1) ≡ Ok (int_max (int_max x y) so_far)
+  two_more_greatest = two_numbers_more Ceiling int_max (λ x y. refl) exchanged_greater grouped_greater numbers first second k total so_far
+
+  pub two_more_least : both Floor numbers first second total k ≡ Ok so_far → both Floor numbers first second total (k + 1) ≡ Ok (int_min (int_min x y) so_far)
+  two_more_least = two_numbers_more Floor int_min (λ x y. refl) exchanged_lesser grouped_lesser numbers first second k total so_far

@@ -46,6 +46,12 @@ module _ (f : ScalarFunction) where
       ap (λ i. folded_onto f item k i start) more
       ∙ ap (number_step f (item k)) (two_runs item (suc k) m n start ∙ ap (λ i. folded_onto f item (suc k) m (folded_onto f item i n start)) next)
 
+  -- both halves of a run
+  pub two_halves : (item : ℕ → Elem) (k n : ℕ) (start : Result ℤ Fault) → folded_onto f item k (2 * n) start ≡ folded_onto f item k n (folded_onto f item (k + n) n start)
+  two_halves item k n start =
+      let twice : 2 * n ≡ n + n = omega arith in
+      ap (λ m. folded_onto f item k m start) twice ∙ two_runs item k n n start
+
   -- a fault is that of all items in front of it too
   pub fault_stays : (item : ℕ → Elem) (fault : Fault) (first k n all : ℕ) (start : Result ℤ Fault) → all ≡ k + n → folded_onto f item (first + k) n start ≡ Err fault
       → folded_onto f item first all start ≡ Err fault

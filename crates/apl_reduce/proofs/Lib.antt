@@ -33,6 +33,7 @@ pub mod Passing
 pub mod Distances
 pub mod Adding
 pub mod NearFolds
+pub mod NearSums
 pub mod BitFolds
 pub mod TrueCounts
 pub mod TruthFolds

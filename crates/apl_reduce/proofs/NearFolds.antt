@@ -1,9 +1,8 @@
 -- Folds of pairs of numbers so near 0 that no partial result leaves the range.
-use Rattle.std.proofs.Common.{◌≡◌, ◌↔◌, ℕ, zero, suc, ℤ, pos, ◌+◌, ◌*◌, ◌^◌, ◌<◌, ◌≤◌, ◌+ℤ◌, ◌-ℤ◌, FitsSigned, w64, true, List, map, Ok, sym, ap, subst, ◌∙◌, ⊎_elim, arith}
+use Rattle.std.proofs.Common.{◌≡◌, ◌↔◌, ℕ, zero, suc, ℤ, pos, ◌+◌, ◌*◌, ◌^◌, ◌<◌, ◌≤◌, ◌+ℤ◌, ◌-ℤ◌, FitsSigned, w64, true, List, map, Ok, sym, ap, subst, ◌∙◌, arith}
 use Rattle.std.specs.Prelude.{unsigned_abs, slice_index_or}
 use Rattle.std.proofs.Math.ListN.{get_or-map}
 use Rattle.std.proofs.lemmas.Int.{ints, fits_signed_from_abs}
-use Rattle.std.proofs.lemmas.Bool.{cases_lt}
 use Rattle.apl_array.specs.declared.array.Elem.{Elem}
 use Rattle.apl_array.specs.declared.array.Elem.TheVariants.{Int}
 use Rattle.apl_array.specs.declared.function.ScalarFunction.TheVariants.{Plus, Minus}
@@ -25,7 +24,7 @@ near_sum number most zero near = omega arith
 near_sum number most (suc n) near =
     omega (arith, sum_near (sum_of number n) (number n), near n (omega arith), near_sum number most n (λ k below. near k (omega arith)))
 
--- ---- the sums of pairs, one pair more
+-- ---- the sums of pairs
 
 module _ (numbers : List ℤ) (first k : ℕ) (firsts seconds : ℤ) (sums : ArePairSums numbers first k firsts seconds) (few : k ≤ 2048) where
   pub firsts_near : unsigned_abs firsts ≤ 2 ^ 61
@@ -42,14 +41,7 @@ module _ (numbers : List ℤ) (first k : ℕ) (firsts seconds : ℤ) (sums : Are
       let total : unsigned_abs seconds ≤ k * 2 ^ 50 = subst (λ z. unsigned_abs z ≤ k * 2 ^ 50) (sym sums.seconds_are) so_far in
       omega (arith, total)
 
-  -- 64 bits hold both with one number more
-  pub firsts_fit : (left : ℤ) → unsigned_abs left ≤ 2 ^ 50 → FitsSigned w64 (firsts +ℤ left)
-  firsts_fit left near = fits_signed_from_abs w64 (firsts +ℤ left) (omega (arith, sum_near firsts left, near, firsts_near))
-
-  pub seconds_fit : (right : ℤ) → unsigned_abs right ≤ 2 ^ 50 → FitsSigned w64 (seconds +ℤ right)
-  seconds_fit right near = fits_signed_from_abs w64 (seconds +ℤ right) (omega (arith, sum_near seconds right, near, seconds_near))
-
-  -- and both with a total that is near 0
+  -- 64 bits hold both with a total that is near 0
   module _ (total : ℤ) (small : unsigned_abs total < 2 ^ 62) where
     pub total_firsts_fit : FitsSigned w64 (total +ℤ firsts)
     total_firsts_fit = fits_signed_from_abs w64 (total +ℤ firsts) (omega (arith, sum_near total firsts, firsts_near))
@@ -59,27 +51,6 @@ module _ (numbers : List ℤ) (first k : ℕ) (firsts seconds : ℤ) (sums : Are
 
     pub difference_fits : FitsSigned w64 (total +ℤ firsts -ℤ seconds)
     difference_fits = fits_signed_from_abs w64 (total +ℤ firsts -ℤ seconds) (omega (arith, sum_near total firsts, difference_near (total +ℤ firsts) seconds, firsts_near, seconds_near))
-
-  pub one_pair_more : (left right : ℤ) → left ≡ slice_index_or numbers (first + 2 * k) (pos 0) → right ≡ slice_index_or numbers (first + 2 * k + 1) (pos 0)
-      → unsigned_abs left ≤ 2 ^ 50 → unsigned_abs right ≤ 2 ^ 50 → ArePairSums numbers first (k + 1) (firsts +ℤ left) (seconds +ℤ right)
-  one_pair_more left right left_is right_is left_near right_near =
-      let next : suc k ≡ k + 1 = omega arith in
-      record {
-        near = λ j below.
-            let IsNear : ℕ → Type 0 = λ i. unsigned_abs (slice_index_or numbers i (pos 0)) ≤ 2 ^ 50 in
-            ⊎_elim
-            (λ earlier. sums.near j earlier)
-            (λ later.
-            ⊎_elim
-            (λ same. let place : first + 2 * k ≡ first + j = omega arith in subst IsNear place (subst (λ z. unsigned_abs z ≤ 2 ^ 50) left_is left_near))
-            (λ last. let place : first + 2 * k + 1 ≡ first + j = omega arith in subst IsNear place (subst (λ z. unsigned_abs z ≤ 2 ^ 50) right_is right_near))
-            (cases_lt j (2 * k + 1)))
-            (cases_lt j (2 * k));
-        firsts_are = ap (λ z. z +ℤ left) sums.firsts_are ∙ ap (λ z. sum_of (λ j. slice_index_or numbers (first + 2 * j) (pos 0)) k +ℤ z) left_is
-            ∙ ap (sum_of (λ j. slice_index_or numbers (first + 2 * j) (pos 0))) next;
-        seconds_are = ap (λ z. z +ℤ right) sums.seconds_are ∙ ap (λ z. sum_of (λ j. slice_index_or numbers (first + 2 * j + 1) (pos 0)) k +ℤ z) right_is
-            ∙ ap (sum_of (λ j. slice_index_or numbers (first + 2 * j + 1) (pos 0))) next;
-      }
 
 -- ---- folds
 

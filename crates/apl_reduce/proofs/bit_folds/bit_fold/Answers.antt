@@ -1,4 +1,4 @@
-use Rattle.std.proofs.Common.{◌≡◌, ◌<◌, map, ℤ, Ok, to_z, of_z, w64, sym, ap, ◌∙◌, arith}
+use Rattle.std.proofs.Common.{◌≡◌, ◌*◌, ◌<◌, map, ℤ, Ok, to_z, of_z, w64, sym, ap, ◌∙◌, arith}
 use Rattle.std.proofs.lemmas.Int.{to_z-of_z}
 use Rattle.apl_array.specs.declared.array.Elem.TheVariants.{Int}
 use Rattle.apl_reduce.specs.Folded.{folded_onto}
@@ -23,28 +23,28 @@ pub returns-then-bits-eq1 : goal.returns-then-bits-eq1
 returns-then-bits-eq1 g c =
     let at = (goal.at.returns-then-bits-eq1 g c).After-FUNCTION in
     let named = sym c.FUNCTION.ensures ∙ c.in-And.is in
-    ap (λ f. folded_onto f (item_in (map Int c.args.numbers.now)) c.args.first c.args.count (Ok c.args.total)) named
-    ∙ and_of_ones c.args.numbers.now c.args.first c.args.count _ _ c.run_bits-bits.ensures (any_low g at) c.args.total c.ranges.total (total_low g at) (omega (arith, c.if-bits-eq1.true))
+    ap (λ f. folded_onto f (item_in (map Int c.args.numbers.now)) c.args.first (2 * c.args.half) (Ok c.args.total)) named
+    ∙ and_of_ones c.args.numbers.now c.args.first (2 * c.args.half) _ _ c.run_bits-bits.ensures (any_low g at) c.args.total c.ranges.total (total_low g at) (omega (arith, c.if-bits-eq1.true))
     ∙ ap (λ (z : ℤ). Ok z) (sym (read g at))
 
 pub returns-else-bits-eq1 : goal.returns-else-bits-eq1
 returns-else-bits-eq1 g c =
     let at = (goal.at.returns-else-bits-eq1 g c).After-FUNCTION in
     let named = sym c.FUNCTION.ensures ∙ c.in-And.is in
-    ap (λ f. folded_onto f (item_in (map Int c.args.numbers.now)) c.args.first c.args.count (Ok c.args.total)) named
-    ∙ and_with_zero c.args.numbers.now c.args.first c.args.count _ _ c.run_bits-bits.ensures (any_low g at) c.args.total c.ranges.total (total_low g at) (omega (arith, c.run_bits-bits.ensures.low, c.if-bits-eq1.false))
+    ap (λ f. folded_onto f (item_in (map Int c.args.numbers.now)) c.args.first (2 * c.args.half) (Ok c.args.total)) named
+    ∙ and_with_zero c.args.numbers.now c.args.first (2 * c.args.half) _ _ c.run_bits-bits.ensures (any_low g at) c.args.total c.ranges.total (total_low g at) (omega (arith, c.run_bits-bits.ensures.low, c.if-bits-eq1.false))
 
 pub returns-then-bits-eq1-2 : goal.returns-then-bits-eq1-2
 returns-then-bits-eq1-2 g c =
     let at = (goal.at.returns-then-bits-eq1-2 g c).After-FUNCTION in
     let named = sym c.FUNCTION.ensures ∙ c.in-Or.is in
-    ap (λ f. folded_onto f (item_in (map Int c.args.numbers.now)) c.args.first c.args.count (Ok c.args.total)) named
-    ∙ or_with_one c.args.numbers.now c.args.first c.args.count _ _ c.run_bits-bits.ensures (any_low g at) c.args.total c.ranges.total (total_low g at) (omega (arith, c.if-bits-eq1-2.true))
+    ap (λ f. folded_onto f (item_in (map Int c.args.numbers.now)) c.args.first (2 * c.args.half) (Ok c.args.total)) named
+    ∙ or_with_one c.args.numbers.now c.args.first (2 * c.args.half) _ _ c.run_bits-bits.ensures (any_low g at) c.args.total c.ranges.total (total_low g at) (omega (arith, c.if-bits-eq1-2.true))
 
 pub returns-else-bits-eq1-2 : goal.returns-else-bits-eq1-2
 returns-else-bits-eq1-2 g c =
     let at = (goal.at.returns-else-bits-eq1-2 g c).After-FUNCTION in
     let named = sym c.FUNCTION.ensures ∙ c.in-Or.is in
-    ap (λ f. folded_onto f (item_in (map Int c.args.numbers.now)) c.args.first c.args.count (Ok c.args.total)) named
-    ∙ or_of_zeros c.args.numbers.now c.args.first c.args.count _ _ c.run_bits-bits.ensures (any_low g at) c.args.total c.ranges.total (total_low g at) (omega (arith, any_low g at, c.if-bits-eq1-2.false))
+    ap (λ f. folded_onto f (item_in (map Int c.args.numbers.now)) c.args.first (2 * c.args.half) (Ok c.args.total)) named
+    ∙ or_of_zeros c.args.numbers.now c.args.first (2 * c.args.half) _ _ c.run_bits-bits.ensures (any_low g at) c.args.total c.ranges.total (total_low g at) (omega (arith, any_low g at, c.if-bits-eq1-2.false))
     ∙ ap (λ (z : ℤ). Ok z) (sym (read g at))

@@ -1,9 +1,7 @@
-use Rattle.std.proofs.Common.{◌≡◌, Ok, map}
-use Rattle.apl_array.specs.declared.array.Elem.TheVariants.{Int}
+use Rattle.std.proofs.Common.{◌≡◌, Ok}
 use Rattle.apl_array.specs.declared.function.ScalarFunction.TheVariants.{Floor}
-use Rattle.apl_reduce.specs.Folded.{folded_onto}
-use Rattle.apl_reduce.specs.Items.{item_in}
+use Rattle.apl_reduce.proofs.ExtremeFolds.{both}
 use Rattle.apl_reduce.proofs.extreme_folds.least_onto.Given as goal
 
 abbrev pub invariant-loop-k : goal.invariant-loop-k
-invariant-loop-k l = folded_onto Floor (item_in (map Int l.numbers)) l.first l.k (Ok l.initial.total) ≡ Ok l.least
+invariant-loop-k l = both Floor l.numbers l.first l.second l.initial.total l.k ≡ Ok l.least

@@ -12,7 +12,7 @@ pub overflow_add-result : goal.overflow_add-result
 overflow_add-result g c =
     let numbers = c.args.numbers.now in
     let first = c.args.first in
-    let pairs = c.args.pairs in
+    let pairs = 2 * c.args.half in
     let total = c.args.total in
     let a = c.pair_sums-sums.result.firsts in
     let b = c.pair_sums-sums.result.seconds in
@@ -35,7 +35,7 @@ pub overflow_add-result-in-Minus : goal.overflow_add-result-in-Minus
 overflow_add-result-in-Minus g c =
     let numbers = c.args.numbers.now in
     let first = c.args.first in
-    let pairs = c.args.pairs in
+    let pairs = 2 * c.args.half in
     let total = c.args.total in
     let a = c.pair_sums-sums.result.firsts in
     let b = c.pair_sums-sums.result.seconds in
@@ -58,7 +58,7 @@ pub overflow_add-result-in-Plus : goal.overflow_add-result-in-Plus
 overflow_add-result-in-Plus g c =
     let numbers = c.args.numbers.now in
     let first = c.args.first in
-    let pairs = c.args.pairs in
+    let pairs = 2 * c.args.half in
     let total = c.args.total in
     let a = c.pair_sums-sums.result.firsts in
     let b = c.pair_sums-sums.result.seconds in
@@ -81,7 +81,7 @@ pub overflow_sub-result : goal.overflow_sub-result
 overflow_sub-result g c =
     let numbers = c.args.numbers.now in
     let first = c.args.first in
-    let pairs = c.args.pairs in
+    let pairs = 2 * c.args.half in
     let total = c.args.total in
     let a = c.pair_sums-sums.result.firsts in
     let b = c.pair_sums-sums.result.seconds in
@@ -104,7 +104,7 @@ pub returns-in-Plus : goal.returns-in-Plus
 returns-in-Plus g c =
     let numbers = c.args.numbers.now in
     let first = c.args.first in
-    let pairs = c.args.pairs in
+    let pairs = 2 * c.args.half in
     let total = c.args.total in
     let a = c.pair_sums-sums.result.firsts in
     let b = c.pair_sums-sums.result.seconds in
@@ -131,7 +131,7 @@ pub returns-in-Minus : goal.returns-in-Minus
 returns-in-Minus g c =
     let numbers = c.args.numbers.now in
     let first = c.args.first in
-    let pairs = c.args.pairs in
+    let pairs = 2 * c.args.half in
     let total = c.args.total in
     let a = c.pair_sums-sums.result.firsts in
     let b = c.pair_sums-sums.result.seconds in
