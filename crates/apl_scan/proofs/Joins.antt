@@ -3,7 +3,7 @@ use Rattle.std.proofs.Common.{◌≡◌, ℕ, ℤ, ◌+◌, List, [], ◌∷◌,
 use Rattle.apl_pool.specs.declared.kernel.Fault.{Fault}
 use Rattle.apl_pool.specs.Summaries.{IsI64, and_then, fold_onto, IsSummaryOf}
 
-fold_append : (step : ℤ → ℤ → Result ℤ Fault) (left right : List ℤ) (r : ℤ) → fold_onto step (left ++ right) r ≡ and_then (fold_onto step right r) (fold_onto step left)
+pub fold_append : (step : ℤ → ℤ → Result ℤ Fault) (left right : List ℤ) (r : ℤ) → fold_onto step (left ++ right) r ≡ and_then (fold_onto step right r) (fold_onto step left)
 fold_append step [] right r = sym (kept (fold_onto step right r))
   where
     kept : (z : Result ℤ Fault) → and_then z (λ y. Ok y) ≡ z

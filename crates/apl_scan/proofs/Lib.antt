@@ -9,3 +9,5 @@ pub mod ScannedRows
 pub mod ScanLimits
 pub mod RunningSums
 pub mod TruthLines
+pub mod TruthScans
+pub mod TruthSums

@@ -1,7 +1,8 @@
 -- Truth values in lines of neighbours, joined by ∧ or ∨.
-use Rattle.std.proofs.Common.{◌≡◌, ◌⊎◌, ℕ, zero, suc, ℤ, ◌+◌, ◌-◌, ◌*◌, ◌/◌, ◌%◌, ◌<◌, ◌≤◌, Bool, true, false, not, List, map, length, take, drop, Ok, Result, slice_index_or, get_or-drop, get_or-take, inl, inr, ⊎_elim, ap, sym, ◌∙◌, refl, arith, mul-le-mul_right}
+use Rattle.std.proofs.Common.{◌≡◌, ◌⊎◌, ℕ, zero, suc, ℤ, pos, ◌+◌, ◌-◌, ◌*◌, ◌/◌, ◌%◌, ◌<◌, ◌≤◌, Bool, true, false, not, List, map, length, take, drop, Ok, Result, slice_index_or, get_or-drop, get_or-take, inl, inr, ⊎_elim, ap, sym, ◌∙◌, refl, arith, mul-le-mul_right}
 use Rattle.std.specs.Prelude.{◌&&◌, ◌||◌}
 use Rattle.std.proofs.lemmas.Bool.{cases_lt}
+use Rattle.std.proofs.lemmas.List.{length-map, get_or_default}
 use Rattle.std.proofs.Math.ListN.{get_or-map}
 use Rattle.std.proofs.Math.Nat.{mod-lt, div-one, div-add-mod'}
 use Rattle.apl_array.specs.declared.array.Elem.TheVariants.{Int}
@@ -13,7 +14,7 @@ use Rattle.apl_pool.specs.Pool.{AreValues}
 use Rattle.apl_scalar.specs.Scalar.{dyadic_numbers, is_one, truth_outcome}
 use Rattle.apl_answer.specs.Elements.{element_outcome}
 use Rattle.apl_scan.specs.Lines.{folded, number_along, numbers_before, scan_at}
-use Rattle.apl_scan.specs.TruthLines.{IsEndOf, IsEnded, AreEnded}
+use Rattle.apl_scan.specs.TruthLines.{IsEndOf, IsEnded, AreEnded, AreTruthScans}
 
 -- what is at a place of a part of a list
 pub part_at : (xs : List Bool) (from to k : ℕ) (d : Bool) → k < to - from → slice_index_or (take (to - from) (drop from xs)) k d ≡ slice_index_or xs (from + k) d
@@ -138,21 +139,31 @@ module _ (f : ScalarFunction) (end : Bool) (ends : IsEndOf f end) (truths : List
       ∙ fold_is end t (dyadic_numbers f) (step_is f end ends) number are 0 k
       ∙ ap (λ b. Ok (bit b)) (value ∙ ap (λ p. slice_index_or values p d) at)
 
-  is_bit_one : (b : Bool) → is_one (bit b) ≡ b
-  is_bit_one true = refl
-  is_bit_one false = refl
+  -- so these are the folds
+  pub joined_are : length values ≡ length truths → AreTruthScans f truths items (map bit values)
+  joined_are long = record {
+    len = length-map values bit ∙ long;
+    each = λ place d inside.
+        scans_are place false inside
+        ∙ ap (λ (z : ℤ). Ok z) (sym (get_or-map bit values place false) ∙ get_or_default (map bit values) place (pos 0) d (omega (arith, inside, long, length-map values bit)));
+  }
 
-  abbrev at_place : ℕ → Result ℤ Fault
-  at_place = scan_at (dyadic_numbers f) (map bit truths) items 1
+is_bit_one : (b : Bool) → is_one (bit b) ≡ b
+is_bit_one true = refl
+is_bit_one false = refl
 
-  -- so they are the outcomes as truth values
-  pub truths_are : length values ≡ length truths → AreValues (λ place. truth_outcome (at_place place)) (length truths) values
-  truths_are long = record {
-    len = long;
-    each = λ place d inside. ap truth_outcome (scans_are place d inside) ∙ ap Ok (is_bit_one (slice_index_or values place d));
+module _ (at_place : ℕ → Result ℤ Fault) (count : ℕ) (values : List Bool) (are : AreValues at_place count (map bit values)) where
+  is_bit_at : (place : ℕ) (d : Bool) → place < count → at_place place ≡ Ok (bit (slice_index_or values place d))
+  is_bit_at place d inside = are.each place (bit d) inside ∙ ap (λ (z : ℤ). Ok z) (get_or-map bit values place d)
+
+  -- numbers that are truth values are the outcomes as truth values
+  pub truths_are : AreValues (λ place. truth_outcome (at_place place)) count values
+  truths_are = record {
+    len = sym (length-map values bit) ∙ are.len;
+    each = λ place d inside. ap truth_outcome (is_bit_at place d inside) ∙ ap (λ (b : Bool). Ok b) (is_bit_one (slice_index_or values place d));
   }
 
   -- which as elements are those of the numbers
-  pub same_elements : (place : ℕ) → place < length truths → element_outcome truth_element (truth_outcome (at_place place)) ≡ element_outcome Int (at_place place)
+  pub same_elements : (place : ℕ) → place < count → element_outcome truth_element (truth_outcome (at_place place)) ≡ element_outcome Int (at_place place)
   same_elements place inside =
-      rw (scans_are place false inside) (ap (λ b. Ok (Int (bit b))) (is_bit_one (slice_index_or values place false)))
+      rw (is_bit_at place false inside) (ap (λ b. Ok (Int (bit b))) (is_bit_one (slice_index_or values place false)))

@@ -17,6 +17,8 @@ mod running_sums;
 mod scanning;
 mod summarized;
 mod truth_lines;
+mod truth_scans;
+mod truth_states;
 
 pub use laws::scanned_answers_are_within_limits;
 pub use running_sums::consecutive_sums_decide;

@@ -11,7 +11,7 @@ ghost use Rattle.apl_reduce.specs.Folding.{reduction};
 ghost use Rattle.apl_scan.specs.Scanning.{items_up_to, scanned, scan_row};
 
 use crate::lines::{AxisLines, fill_scans};
-use crate::truth_lines::{end_of, join_lines};
+use crate::truth_scans::{scan_to_numbers, scan_to_truths};
 use apl_answer::{OpFault, array_from_fill, array_of_elements, constant_array, numbers_of};
 use apl_array::{
     Array, Axis, Elements, ScalarFunction, Shape, places_match_index_lists,
@@ -42,8 +42,8 @@ fn scan_numbers<W: Crew>(
     array_from_fill(shape, fill_scans(workers, f, &lines))
 }
 
-/// The scan of truth values along axis `k`, of two and more items. By `∧` and `∨` along the last axis it is of truth values, and else of the
-/// numbers that they are.
+/// The scan of truth values along axis `k`, of two and more items. Along the last axis they are scanned as they are, if they can be. Else the
+/// numbers that they are are scanned.
 fn scan_truths<W: Crew>(
     workers: &W,
     f: ScalarFunction,
@@ -60,12 +60,14 @@ fn scan_truths<W: Crew>(
     places_match_index_lists();
     replaced_index_has_place();
     split_index_has_place();
-    if b.shape().inner(k) == 1
-        && let Some(end) = end_of(f)
-    {
-        let shape = b.shape().copy(workers.alloc())?;
-        let values = join_lines(workers.alloc(), truths, b.shape().axis(k), end)?;
-        return array_from_fill(shape, Ok(values));
+    if b.shape().inner(k) == 1 {
+        let items = b.shape().axis(k);
+        if let Some(values) = scan_to_truths(workers, f, truths, items)? {
+            return array_from_fill(b.shape().copy(workers.alloc())?, Ok(values));
+        }
+        if let Some(values) = scan_to_numbers(workers, f, truths, items)? {
+            return array_from_fill(b.shape().copy(workers.alloc())?, Ok(values));
+        }
     }
     let Some(numbers) = numbers_of(workers, b)? else {
         unreachable!()

@@ -15,7 +15,7 @@ use crate::chunks::{CHUNK, Chunks, summarize};
 use crate::running::{fold_behind, with_next};
 use apl_array::ScalarFunction;
 use apl_divisor::Divisor;
-use apl_pool::{Crew, Fault, Kernel, Stop, Summary, fill};
+use apl_pool::{Crew, Fault, Kernel, Reused, Stop, Summary, fill};
 use apl_summary::{Running, with_summary};
 use std::alloc::AllocError;
 
@@ -188,8 +188,8 @@ fn summarize_lines<S: Summary<Item = i64> + Copy + Drop + Send, W: Crew>(
     summarize(workers, &chunks)
 }
 
-/// An empty list with room for `count` numbers: the one that the pool keeps, or a new one.
-pub(crate) fn room_for<W: Crew>(workers: &W, count: usize) -> Result<Vec<i64>, AllocError>
+/// An empty list with room for `count` values: the one that the pool keeps, or a new one.
+pub(crate) fn room_for<T: Reused, W: Crew>(workers: &W, count: usize) -> Result<Vec<T>, AllocError>
     ensures empty { IfOk result (λ room. vec_len room ≡ 0) }
     ensures room { IfOk result (λ room. count ≤ vec_capacity room) }
 {

@@ -4,7 +4,8 @@ ghost use Rattle.std.specs.Prelude.{◌≡◌, ◌⊎◌, ℕ, ◌+◌, ◌*◌,
 ghost use Rattle.apl_scan.specs.TruthLines.{IsEndOf, IsEnded, AreEnded};
 
 use apl_array::ScalarFunction;
-use std::alloc::{AllocError, Global};
+use apl_pool::Crew;
+use std::alloc::AllocError;
 
 /// The value that ends a line: false for `∧`, true for `∨`.
 pub(crate) fn end_of(f: ScalarFunction) -> Option<bool>
@@ -62,40 +63,46 @@ fn count_before(truths: &[bool], end: bool) -> usize
     truths.len()
 }
 
-/// Writes true at each place from `from` up to before `to`.
+/// Writes a truth value at each place from `from` up to before `to`.
 #[inline(always)]
-fn write_true(from: usize, to: usize, room: &mut [bool])
+fn write_equal(value: bool, from: usize, to: usize, room: &mut [bool])
     requires order { from ≤ to }
     requires room { to ≤ length room.old }
-    ensures within { (k : ℕ) (d : Bool) → from ≤ k → k < to → slice_index_or room.new k d ≡ true }
+    ensures within { (k : ℕ) (d : Bool) → from ≤ k → k < to → slice_index_or room.new k d ≡ value }
     ensures outside { (k : ℕ) (d : Bool) → (k < from) ⊎ (to ≤ k) → slice_index_or room.new k d ≡ slice_index_or room.old k d }
     ensures len { length room.new ≡ length room.old }
 {
     for k in from..to {
-        room[k] = true;
+        room[k] = value;
     }
 }
 
-/// Writes the line of `items` truth values from place `first` on, where the room has false at each place.
+/// Writes the line of `items` truth values from place `first` on.
 fn write_line(truths: &[bool], first: usize, items: usize, end: bool, room: &mut [bool])
     requires line { first + items ≤ length truths.now }
     requires room { length room.old ≡ length truths.now }
-    requires none { (k : ℕ) (d : Bool) → first ≤ k → k < length room.old → slice_index_or room.old k d ≡ false }
     ensures line { IsEnded end truths.now first items room.new }
     ensures outside { (k : ℕ) (d : Bool) → (k < first) ⊎ (first + items ≤ k) → slice_index_or room.new k d ≡ slice_index_or room.old k d }
     ensures len { length room.new ≡ length room.old }
 {
     let count = count_before(&truths[first..first + items], end);
-    if end {
-        write_true(first + count, first + items, room);
-    } else {
-        write_true(first, first + count, room);
+    write_equal(!end, first, first + count, room);
+    write_equal(end, first + count, first + items, room);
+}
+
+/// A list of `count` truth values, whichever they are: the one that the pool keeps, or a new one.
+fn list_of<W: Crew>(workers: &W, count: usize) -> Result<Vec<bool>, AllocError>
+    ensures { IfOk result (λ list. vec_len list ≡ count) }
+{
+    match workers.pool().kept().take(count) {
+        Some(list) => Ok(list),
+        None => vec![in workers.alloc(); false; count],
     }
 }
 
 /// Lines of neighbours, each with `items` truth values, of which each is joined with all before it in its line.
-pub(crate) fn join_lines(
-    alloc: Global,
+pub(crate) fn join_lines<W: Crew>(
+    workers: &W,
     truths: &[bool],
     items: usize,
     end: bool,
@@ -105,7 +112,7 @@ pub(crate) fn join_lines(
     ensures len { IfOk result (λ v. vec_len v ≡ length truths.now) }
     ensures lines { IfOk result (λ v. AreEnded end truths.now items (length truths.now / items) v.items) }
 {
-    let mut values = vec![in alloc; false; truths.len()]?;
+    let mut values = list_of(workers, truths.len())?;
     let room = values.as_mut_slice();
     for line in 0..truths.len() / items {
         write_line(truths, line * items, items, end, room);

@@ -12,27 +12,28 @@ use Rattle.apl_pool.specs.declared.kernel.Fault.{Fault}
 use Rattle.apl_scalar.specs.Scalar.{dyadic_numbers, truth_outcome}
 use Rattle.apl_scan.specs.Lines.{scan_at}
 use Rattle.apl_scan.specs.Scanning.{items_up_to}
+use Rattle.apl_scan.specs.TruthLines.{AreTruthScans}
 use Rattle.apl_reduce.specs.Folding.{reduction}
 use Rattle.apl_scan.proofs.ScannedLines.{axis_is, whole_lines, outcomes_along}
 use Rattle.apl_scan.proofs.TruthLines.{truths_are, same_elements}
 use Rattle.apl_scan.proofs.scanning.scan_truths.Goals as goal
-use Rattle.apl_scan.proofs.scanning.scan_truths.Goals.{After-axis}
+use Rattle.apl_scan.proofs.scanning.scan_truths.Goals.{After-axis-items}
 
 -- the axis is of neighbours, and the truth values are whole lines along it
-record AreLines (g : _) (c : After-axis g) : Type 0 where
-  items : c.axis.result ≡ slice_index c.args.b.now.shape c.args.k
+record AreLines (g : _) (c : After-axis-items g) : Type 0 where
+  items : c.axis-items.result ≡ slice_index c.args.b.now.shape c.args.k
   inner : 1 ≡ count_of (drop (c.args.k + 1) c.args.b.now.shape)
   all : length c.args.truths.now ≡ count_of c.args.b.now.shape
-  some : 0 < c.axis.result
-  whole : length c.args.truths.now / c.axis.result * c.axis.result ≡ length c.args.truths.now
+  some : 0 < c.axis-items.result
+  whole : length c.args.truths.now / c.axis-items.result * c.axis-items.result ≡ length c.args.truths.now
 
-are_lines : (g : _) (c : After-axis g) → AreLines g c
+are_lines : (g : _) (c : After-axis-items g) → AreLines g c
 are_lines g c =
     let b = c.args.b.now in
     let k = c.args.k in
     let truths = c.args.truths.now in
     let apart = count_of (drop (k + 1) b.shape) in
-    let items : c.axis.result ≡ slice_index b.shape k = c.axis.ensures.length ∙ ap (λ s. slice_index s k) c.shape-3.ensures.shape in
+    let items : c.axis-items.result ≡ slice_index b.shape k = c.axis-items.ensures.length ∙ ap (λ s. slice_index s k) c.shape-then-inner-eq1.ensures.shape in
     let told : c.inner.result ≡ apart = c.inner.ensures.inner ∙ ap (λ s. count_of (drop (k + 1) s)) c.shape.ensures.shape in
     let one : c.inner.result ≡ 1 = search rules in
     let inner : 1 ≡ apart = sym one ∙ told in
@@ -40,7 +41,7 @@ are_lines g c =
     let count = c.replaced_index_has_place.ensures.count b.shape k c.requires.axis in
     let axis = axis_is (count_of (take k b.shape)) (slice_index b.shape k) apart (count_of b.shape) count c.requires.some c.shape.ensures.lawful.shape.count in
     let whole = whole_lines (count_of (take k b.shape)) (slice_index b.shape k) apart (length truths) axis.items_some axis.inner_some (all ∙ count) in
-    let neighbours : slice_index b.shape k * apart ≡ c.axis.result = ap (λ n. slice_index b.shape k * n) (sym inner) ∙ omega (arith, items) in
+    let neighbours : slice_index b.shape k * apart ≡ c.axis-items.result = ap (λ n. slice_index b.shape k * n) (sym inner) ∙ omega (arith, items) in
     record {
       items = items;
       inner = inner;
@@ -49,29 +50,49 @@ are_lines g c =
       whole = rw neighbours at whole;
     }
 
-pub join_lines-requires-clause-lines : goal.join_lines-requires-clause-lines
-join_lines-requires-clause-lines g c = (are_lines g c).whole
+pub scan_to_truths-requires-clause-lines : goal.scan_to_truths-requires-clause-lines
+scan_to_truths-requires-clause-lines g c = λ κs lives. (are_lines g c).whole
 
-pub returns : goal.returns
-returns g c =
-    let lines = are_lines g (goal.at.returns g c).After-axis in
+pub scan_to_numbers-requires-clause-lines : goal.scan_to_numbers-requires-clause-lines
+scan_to_numbers-requires-clause-lines g c = λ κs lives. (are_lines g (goal.at.scan_to_numbers-requires-clause-lines g c).After-axis-items).whole
+
+pub returns-in-Some : goal.returns-in-Some
+returns-in-Some g c =
+    let lines = are_lines g (goal.at.returns-in-Some g c).After-axis-items in
     let b = c.args.b.now in
     let k = c.args.k in
     let f = c.args.f in
     let truths = c.args.truths.now in
-    let items = c.axis.result in
-    let values = c.in_ok-values.values in
+    let items = c.axis-items.result in
+    let values = c.in-Some.values in
+    let folds : AreTruthScans f truths items (map bit values.items) = rw c.in-Some.is at c.in_ok-values.ensures in
     let at_place : ℕ → Result ℤ Fault = scan_at (dyadic_numbers f) (map bit truths) items 1 in
     let truth_at : ℕ → Result Bool Fault = λ place. truth_outcome (at_place place) in
     let outcome = λ (index : List ℕ). reduction f (items_up_to b k index) in
-    let shape : c.in_ok-shape.shape ≡ b.shape = search rules in
-    let ended = c.in_ok-values.ensures.lines in
-    let long : length values.items ≡ length truths = search rules in
+    let shape : c.in_ok-copy.field-0 ≡ b.shape = search rules in
     let ravel : b.ravel ≡ map Int (map bit truths) = c.requires.truths ∙ sym (map-map Int bit truths) in
     let outcomes = outcomes_along c.replaced_index_has_place.ensures.place c.split_index_has_place.ensures.index b (map bit truths) k c.requires.axis ravel
     f (map bit truths) items 1 refl lines.items lines.inner in
-    let same = same_elements f c.in-Some.end c.in-Some.ensures truths items values.items lines.some lines.whole ended in
+    let same = same_elements at_place (length truths) values.items folds in
     let told : HaveOutcomes truth_element truth_at b.shape outcome = λ place inside. same place (omega (arith, inside, lines.all)) ∙ outcomes place inside in
-    let are = truths_are f c.in-Some.end c.in-Some.ensures truths items values.items lines.some lines.whole ended long in
+    let are = truths_are at_place (length truths) values.items folds in
     subst (λ s. IsAnswerOf (answer_of s outcome Number) c.array_from_fill.result) shape
     (c.array_from_fill.ensures truth_at outcome (rw shape told) (rw (shape, sym lines.all) are) (search rules))
+
+pub returns-in-Some-2 : goal.returns-in-Some-2
+returns-in-Some-2 g c =
+    let lines = are_lines g (goal.at.returns-in-Some-2 g c).After-axis-items in
+    let b = c.args.b.now in
+    let k = c.args.k in
+    let f = c.args.f in
+    let truths = c.args.truths.now in
+    let items = c.axis-items.result in
+    let folds : AreTruthScans f truths items c.in-Some-2.values.items = rw c.in-Some-2.is at c.in_ok-values-2.ensures in
+    let at_place : ℕ → Result ℤ Fault = scan_at (dyadic_numbers f) (map bit truths) items 1 in
+    let outcome = λ (index : List ℕ). reduction f (items_up_to b k index) in
+    let shape : c.in_ok-copy-2.field-0 ≡ b.shape = search rules in
+    let ravel : b.ravel ≡ map Int (map bit truths) = c.requires.truths ∙ sym (map-map Int bit truths) in
+    let outcomes = outcomes_along c.replaced_index_has_place.ensures.place c.split_index_has_place.ensures.index b (map bit truths) k c.requires.axis ravel
+    f (map bit truths) items 1 refl lines.items lines.inner in
+    subst (λ s. IsAnswerOf (answer_of s outcome Number) c.array_from_fill-in-Some-2.result) shape
+    (c.array_from_fill-in-Some-2.ensures at_place outcome (rw shape outcomes) (rw (shape, sym lines.all) folds) (search rules))
