@@ -1,5 +1,5 @@
 -- The folds of truth values, appended one after the other.
-use Rattle.std.proofs.Common.{◌≡◌, ℕ, suc, ℤ, pos, ◌+◌, ◌-◌, ◌<◌, ◌≤◌, Bool, true, false, not, List, [], ◌∷◌, ◌++◌, map, length, take, drop, Result, Ok, Err, slice_index_or, refl, sym, ap, ◌∙◌, subst, ⊎_elim, arith, take-suc, length-take-le, length-drop}
+use Rattle.std.proofs.Common.{◌≡◌, ℕ, suc, ℤ, pos, ◌+◌, ◌-◌, ◌<◌, ◌≤◌, Bool, true, false, not, List, [], ◌∷◌, ◌++◌, map, length, take, drop, Result, Ok, slice_index_or, sym, ap, ◌∙◌, ⊎_elim, arith, take-suc, length-take-le, length-drop}
 use mathlib.Core.Bool.{beq}
 use Rattle.std.proofs.lemmas.Bool.{cases_lt}
 use Rattle.std.proofs.lemmas.List.{append-nil, append_assoc, length-append, length-map, length_push, map-append, take-map, drop-map, get_or_append_left, get_or_push}

@@ -1,5 +1,5 @@
 -- The sum of truth values, and of one more.
-use Rattle.std.proofs.Common.{◌≡◌, ℕ, ℤ, pos, negsuc, neg_ℤ, ◌+◌, ◌<◌, ◌≤◌, ◌+ℤ◌, ◌-ℤ◌, ◌≤ℤ◌, int_le, Bool, true, false, true≢false, cond, not, ◌&&◌, List, [], ◌∷◌, ◌++◌, length, Result, Ok, Err, refl, sym, ap, ◌∙◌, subst, arith}
+use Rattle.std.proofs.Common.{◌≡◌, ℕ, ℤ, pos, negsuc, neg_ℤ, ◌+◌, ◌<◌, ◌+ℤ◌, ◌-ℤ◌, ◌≤ℤ◌, int_le, Bool, true, false, true≢false, cond, not, ◌&&◌, List, [], ◌∷◌, ◌++◌, length, Result, Ok, Err, refl, sym, ap, ◌∙◌, arith}
 use Rattle.std.proofs.lemmas.Int.{ints}
 use Rattle.std.proofs.lemmas.List.{length_push}
 use Rattle.apl_array.specs.Array.{bit}
@@ -7,10 +7,10 @@ use Rattle.apl_array.specs.Range.{in_range}
 use Rattle.apl_pool.specs.declared.kernel.Fault.{Fault}
 use Rattle.apl_pool.specs.declared.kernel.Fault.TheVariants.{Limit}
 use Rattle.apl_pool.specs.declared.kernel.TheConstants.{MOST_PLACES}
-use Rattle.apl_pool.specs.Summaries.{IsI64, and_then, fold_onto}
+use Rattle.apl_pool.specs.Summaries.{and_then, fold_onto}
 use Rattle.apl_scalar.specs.Scalar.{dyadic_numbers}
 use Rattle.apl_summary.specs.Constants.{signed_function}
-use Rattle.apl_summary.specs.Fronts.{signed_total, IsBoundedSum}
+use Rattle.apl_summary.specs.Fronts.{signed_total}
 use Rattle.apl_scan.specs.TruthLines.{IsTruthSum}
 use Rattle.apl_scan.proofs.Joins.{fold_append}
 

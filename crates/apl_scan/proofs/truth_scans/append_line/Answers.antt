@@ -1,4 +1,4 @@
-use Rattle.std.proofs.Common.{◌≡◌, ◌+◌, ◌*◌, map, take, length, subst, rules, arith}
+use Rattle.std.proofs.Common.{◌≡◌, ◌+◌, ◌*◌, map, take, subst, rules, arith}
 use Rattle.std.proofs.lemmas.List.{length-map}
 use Rattle.apl_array.specs.Array.{bit}
 use Rattle.apl_scan.proofs.TruthScans.{none_appended}

@@ -1,5 +1,5 @@
-use Rattle.std.proofs.Common.{◌≡◌, pos, ◌+◌, ◌<◌, Bool, false, map, length, take, slice_index_or, sym, ap, subst, ◌∙◌, rules, arith, length-take-le}
-use Rattle.std.proofs.lemmas.List.{length-map, length_push}
+use Rattle.std.proofs.Common.{◌≡◌, ◌+◌, ◌<◌, map, length, take, sym, ap, subst, ◌∙◌, arith}
+use Rattle.std.proofs.lemmas.List.{length_push}
 use Rattle.apl_array.specs.Array.{bit}
 use Rattle.apl_summary.specs.Fronts.{HasMoreAppended}
 use Rattle.apl_scan.proofs.TruthScans.{one_more, one_more_appended, few}
