@@ -2,8 +2,9 @@
 use Rattle.std.specs.Prelude.{ℕ, ◌*◌, ◌/◌, ◌%◌, ◌-◌, ◌+◌, List, [], ◌∷◌, length, slice_index, Option, Some}
 use Rattle.apl_walk.specs.declared.window.Window.{Window as WindowMap}
 use Rattle.apl_walk.specs.declared.maps.Map.{Map}
-use Rattle.apl_walk.specs.declared.maps.Map.TheVariants.{Window, Reversed, Rotated, Listed, ListedOrNone, Repeated}
+use Rattle.apl_walk.specs.declared.maps.Map.TheVariants.{Window, Reversed, Rotated, Listed, ListedOrNone, Repeated, Ones}
 use Rattle.apl_walk.specs.Steps.{and_step, window_step, reversed_step, rotated_step, listed_step, entry_step, repeated_step}
+use Rattle.apl_walk.specs.Ones.{one_step}
 
 -- the step of a window
 abbrev pub step_of : WindowMap → ℕ → Option ℕ
@@ -17,6 +18,7 @@ map_extent (Rotated r) = r.extent
 map_extent (Listed l) = length l.numbers.now
 map_extent (ListedOrNone l) = length l.entries.now
 map_extent (Repeated r) = r.axis_length * r.times
+map_extent (Ones o) = o.counted.count
 
 -- the most that an index adds
 abbrev pub map_reach : Map → ℕ
@@ -26,6 +28,7 @@ map_reach (Rotated r) = (r.extent - 1) * r.stride
 map_reach (Listed l) = (l.axis_length - 1) * l.stride
 map_reach (ListedOrNone l) = (l.axis_length - 1) * l.stride
 map_reach (Repeated r) = (r.axis_length - 1) * r.stride
+map_reach (Ones o) = (length o.counted.bits.now - 1) * o.stride
 
 -- what an index adds to the place in the argument, or none, which is the fill
 abbrev pub map_step : Map → ℕ → Option ℕ
@@ -35,6 +38,7 @@ map_step (Rotated r) i = rotated_step r.extent r.by r.stride i
 map_step (Listed l) i = listed_step l.first l.stride l.numbers.now i
 map_step (ListedOrNone l) i = entry_step l.axis_length l.stride (slice_index l.entries.now i)
 map_step (Repeated r) i = repeated_step r.times r.stride i
+map_step (Ones o) i = one_step o.counted.bits.now o.stride i
 
 -- how many index lists all the axes have
 abbrev pub extent_of : List Map → ℕ

@@ -5,24 +5,28 @@
 //! Begin with `specs/Maps.antt`, which says what a walk reaches, and then `map.rt`, `lined.rt` and `gathered.rt`.
 #![tactic(auto)]
 
+mod counted;
 mod fronts;
 mod gathered;
 mod lined;
 mod listed;
 mod map;
 mod maps;
+mod ones;
 mod rotated_lines;
 mod stretches;
 mod turned;
 mod walk;
 mod window;
 
+pub use counted::{CountedBits, count_blocks};
 pub use fronts::element_or;
 pub use gathered::{Gathered, gather};
 pub use lined::{ByLines, Lined};
 pub use listed::{Listed, ListedOrNone};
 pub use map::{AxisMap, MOST_STEP};
 pub use maps::{MOST_MAPS, Map, start_at};
+pub use ones::Ones;
 pub use rotated_lines::{RotatedColumns, RotatedRows, Rotations};
 pub use stretches::{Cyclic, Joined, Part};
 pub use turned::{Repeated, Reversed, Rotated};

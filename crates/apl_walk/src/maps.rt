@@ -7,6 +7,7 @@ ghost use Rattle.apl_walk.specs.declared.maps.TheConstants.{MOST_MAPS};
 
 use crate::listed::{Listed, ListedOrNone};
 use crate::map::AxisMap;
+use crate::ones::Ones;
 use crate::turned::{Repeated, Reversed, Rotated};
 use crate::window::Window;
 
@@ -19,6 +20,7 @@ pub enum Map<'a> {
     Listed(Listed<'a>),
     ListedOrNone(ListedOrNone<'a>),
     Repeated(Repeated),
+    Ones(Ones<'a>),
 }
 
 /// The same of an axis of any kind.
@@ -31,6 +33,7 @@ macro_rules! with_kind {
             $crate::maps::Map::Listed($map) => $answer,
             $crate::maps::Map::ListedOrNone($map) => $answer,
             $crate::maps::Map::Repeated($map) => $answer,
+            $crate::maps::Map::Ones($map) => $answer,
         }
     };
 }
