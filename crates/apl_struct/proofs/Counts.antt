@@ -1,6 +1,6 @@
 -- Indexes that counts repeat, and lists of numbers as counts.
 use Rattle.std.proofs.Common.{◌≡◌, ℕ, zero, suc, add-one, ◌+◌, ◌-◌, ◌*◌, ◌/◌, ◌<◌, List, [], ◌∷◌, ◌++◌, take, length, replicate, slice_index, refl, ap, sym, ◌∙◌, ⊎_elim, arith, ℤ, pos, negsuc, true, false, int_eq, map, slice_index_or, inl, inr, int_lt, nat_abs, to_z, of_z, w64, nat_le, slice_set, Result, Err}
-use Rattle.std.specs.Prelude.{◌≤◌, All, sum, flat_map, ◌^◌, ◌==◌, ◌⊎◌}
+use Rattle.std.specs.Prelude.{Bool, Some, ◌≤◌, All, sum, flat_map, ◌^◌, ◌==◌, ◌⊎◌}
 use Rattle.std.specs.List.{range_with_len, list_all}
 use Rattle.std.proofs.Math.Nat.{div-eq_of_lt, add-div_right}
 use Rattle.std.proofs.lemmas.Bool.{or_cases, cases_lt, true≢false, cases_Bool, eqb-true, le-ltb}
@@ -21,7 +21,8 @@ use Rattle.apl_struct.proofs.Taken.{pos_right}
 use Rattle.apl_struct.proofs.Takings.{entry_there}
 use Rattle.std.proofs.lemmas.Grind.{get_or-set_at}
 use Rattle.apl_array.specs.Shape.{is_shape, most_axes, most_elements}
-use Rattle.apl_array.specs.Array.{ArrayValue, element_at}
+use Rattle.apl_array.specs.Array.{ArrayValue, bit, element_at}
+use Rattle.apl_walk.specs.Ones.{one_index, ones_before}
 use Rattle.apl_answer.specs.declared.fault.OpFault.{OpFault}
 use Rattle.apl_answer.specs.declared.fault.OpFault.TheVariants.{Limit, Memory}
 use Rattle.apl_answer.specs.Pointwise.{IsAnswerOf}
@@ -94,6 +95,29 @@ pub repeated_same : (n c i : ℕ) → i < n * c → slice_index (repeated_indexe
 repeated_same n c i inside =
     let here : 0 + i / c ≡ i / c = omega arith in
     rw (repeated_is (replicate n c)) (repeats_same 0 n c i inside ∙ here)
+
+-- ---- truth values, as counts
+
+ones_sum : (truths : List Bool) → sum (map place_number (map bit truths)) ≡ ones_before truths (length truths)
+ones_sum [] = refl
+ones_sum (true ∷ truths) = sum_by-cons (λ n. n) 1 (map place_number (map bit truths)) ∙ ap (λ n. 1 + n) (ones_sum truths)
+ones_sum (false ∷ truths) = sum_by-cons (λ n. n) 0 (map place_number (map bit truths)) ∙ ap (λ n. 0 + n) (ones_sum truths)
+
+pub truths_natural : (truths : List Bool) → list_all is_natural (map bit truths) ≡ true
+truths_natural [] = refl
+truths_natural (true ∷ truths) = truths_natural truths
+truths_natural (false ∷ truths) = truths_natural truths
+
+repeats_ones : (start : ℕ) (truths : List Bool) (i : ℕ) → i < ones_before truths (length truths)
+    → slice_index (repeats start (map place_number (map bit truths))) i ≡ start + one_index truths i
+repeats_ones start [] i inside = absurd (omega (arith, inside))
+repeats_ones start (false ∷ truths) i inside = omega (arith, repeats_ones (start + 1) truths i (omega (arith, inside)))
+repeats_ones start (true ∷ truths) zero inside = omega arith
+repeats_ones start (true ∷ truths) (suc i) inside = omega (arith, repeats_ones (start + 1) truths i (omega (arith, inside)))
+
+-- the indexes at which they are true
+one_repeated : (truths : List Bool) (i : ℕ) → i < ones_before truths (length truths) → slice_index (repeated_indexes (map place_number (map bit truths))) i ≡ one_index truths i
+one_repeated truths i inside = rw (repeated_is (map place_number (map bit truths))) (omega (arith, repeats_ones 0 truths i inside))
 
 -- ---- bits, as counts
 
@@ -196,6 +220,21 @@ repeated_answer c k n extent counts indexes result axis many long are given =
     let here : i < length (repeated_indexes counts) = omega (arith, inside.below k wide, extent_is, repeated_length counts) in
     let below : slice_index (repeated_indexes counts) i < n = omega (arith, many, All-get_or (λ i. i < length counts) (repeated_indexes counts) i 0 here (repeated_below counts)) in
     rw (entry_there n (slice_index (repeated_indexes counts) i) below) refl)
+
+-- the indexes at which truth values are true, where they are not listed
+pub ones_answer : (c : ArrayValue) (k extent : ℕ) (truths : List Bool) (result : Result ArrayValue OpFault) → k < length c.shape → extent ≡ ones_before truths (length truths)
+    → IsArrayOrLimit (slice_set c.shape k extent) c.kind (λ index. element_or_fill c (along_axis_or_none k (λ i. Some (one_index truths i)) index)) result
+    → IsAnswerOf (replicated c k (counts (map bit truths))) result
+ones_answer c k extent truths result axis long given =
+    let own = counts (map bit truths) in
+    let shape = slice_set c.shape k (sum own) in
+    let made = rw (long ∙ sym (ones_sum truths)) at given in
+    made (λ index. element_at c (along_axis k (slice_index (repeated_indexes own)) index)) (λ index inside.
+    let i = slice_index index k in
+    let extent_is : slice_index shape k ≡ sum own = get_or-set_same c.shape k (sum own) 0 axis in
+    let wide : k < length shape = omega (arith, axis, length-set c.shape k (sum own)) in
+    let here : i < ones_before truths (length truths) = omega (arith, inside.below k wide, extent_is, ones_sum truths) in
+    rw (one_repeated truths i here) refl)
 
 -- a shape that is refused
 pub shape_refused : (c : ArrayValue) (k extent : ℕ) (counts : List ℕ) (fault : OpFault) (result : Result ArrayValue OpFault) → extent ≡ sum counts → result ≡ Err fault

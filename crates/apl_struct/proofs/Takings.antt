@@ -1,5 +1,5 @@
 -- Scalars that serve as vectors, and the elements of a result along an axis whose indexes are taken.
-use Rattle.std.proofs.Common.{◌≡◌, ℕ, ◌<◌, true, false, Bool, List, [], ◌∷◌, length, refl, arith, ◌↔◌, pos, ◌+◌, ◌*◌, ◌/◌, ◌%◌, ◌≤◌, inl, inr, Result, drop, take, slice_index, ap, sym, subst, ◌∙◌}
+use Rattle.std.proofs.Common.{◌≡◌, ℕ, zero, suc, ◌<◌, true, false, Bool, List, [], ◌∷◌, length, refl, arith, ◌↔◌, pos, ◌+◌, ◌*◌, ◌/◌, ◌%◌, ◌≤◌, inl, inr, Result, drop, take, slice_index, ap, sym, subst, ◌∙◌}
 use Rattle.std.specs.Prelude.{Some, IfSome, max, All, replicate, if◌then◌else◌, slice_set, None, Option, option_map}
 use Rattle.std.proofs.lemmas.Bool.Decides.{nat_tests}
 use Rattle.std.proofs.lemmas.List.Elements.{All-replicate}
@@ -19,8 +19,9 @@ use Rattle.apl_answer.specs.declared.fault.OpFault.{OpFault}
 use Rattle.apl_answer.specs.Pointwise.{IsArrayBy}
 use Rattle.apl_walk.specs.Gathered.{filled_at}
 use Rattle.apl_walk.specs.Steps.{and_step}
+use Rattle.apl_walk.specs.Ones.{one_index, ones_before}
 use Rattle.apl_struct.specs.declared.along.Taking.{Taking}
-use Rattle.apl_struct.specs.declared.along.Taking.TheVariants.{Reversed, Rotated, Repeated, Listed}
+use Rattle.apl_struct.specs.declared.along.Taking.TheVariants.{Reversed, Rotated, Repeated, Listed, Ones}
 use Rattle.apl_struct.specs.Gathering.{element_or_fill}
 use Rattle.apl_struct.specs.Shaped.{IsArrayOrLimit}
 use Rattle.apl_struct.proofs.Elements.{filled_within}
@@ -51,11 +52,18 @@ as_vector_in n b h = either_all (is_scalar b) (replicate n (only_element b)) b.r
 
 -- ---- indexes that are taken
 
+one_below : (bits : List Bool) (n : ℕ) → n < ones_before bits (length bits) → one_index bits n < length bits
+one_below [] n below = absurd (omega (arith, below))
+one_below (false ∷ bits) n below = omega (arith, one_below bits n (omega (arith, below)))
+one_below (true ∷ bits) zero below = omega arith
+one_below (true ∷ bits) (suc n) below = omega (arith, one_below bits n (omega (arith, below)))
+
 pub taking_below : (n : ℕ) (taking : Taking) (i : ℕ) → IsTakingOf n taking → i < taking_extent n taking → IfSome (taking_index n taking i) (λ j. j < n)
 taking_below n Reversed i is inside = omega (arith, inside)
 taking_below n (Rotated by) i is inside = wrapped_below n i by inside is
 taking_below n (Repeated times) i is inside = (div-lt_iff_lt-mul (pos_right n times (omega (arith, inside)))).1 inside
 taking_below n (Listed entries) i is inside = entry_below n (slice_index entries.now i)
+taking_below n (Ones counted) i is inside = omega (arith, one_below counted.bits.now i (omega (arith, counted.all, inside)), is)
 
 -- an array that is no scalar is its own vector
 pub vector_is : (n k : ℕ) (b : ArrayValue) → k < length b.shape → as_vector n b ≡ b

@@ -17,7 +17,10 @@ use apl_array::{
     Array, Shape, changed_axis_has_place, places_match_index_lists, replaced_index_has_place,
 };
 use apl_pool::Crew;
-use apl_walk::{AxisMap, ListedOrNone, Map, Repeated, Reversed, Rotated, Walk, Window, gather};
+use apl_walk::{
+    AxisMap, CountedBits, ListedOrNone, Map, Ones, Repeated, Reversed, Rotated, Walk, Window,
+    gather,
+};
 use std::alloc::{AllocError, Global};
 
 /// How many axes an array has where a scalar serves as a vector.
@@ -71,6 +74,8 @@ pub(crate) enum Taking<'a> {
     Repeated(usize),
     /// Those that are listed. An entry that is no index of the axis is a fill.
     Listed(&'a [u32]),
+    /// Those at which truth values are true.
+    Ones(CountedBits<'a>),
 }
 
 impl<'a> Taking<'a> {
@@ -100,6 +105,7 @@ impl<'a> Taking<'a> {
                 axis_length: length,
                 stride,
             }),
+            Taking::Ones(counted) => Map::Ones(Ones { counted, stride }),
         }
     }
 }

@@ -1,6 +1,7 @@
 //! Indexes of an axis that numbers keep, repeat or leave for fills.
 ghost use Rattle.std.specs.Prelude.{◌≡◌, ◌<◌, ◌≤◌, if◌then◌else◌, Err, map, max, length, replicate, slice_index, take, ◌+◌, ◌&&◌, ◌++◌, true, false, IfOk, MatchOption, sum, vec_len, vec_capacity, pos};
 ghost use Rattle.std.specs.List.{list_all};
+ghost use Rattle.apl_array.specs.Array.{bit};
 ghost use Rattle.apl_array.specs.Axes.{place_number};
 ghost use Rattle.apl_pool.specs.declared.kernel.TheConstants.{MOST_PLACES};
 ghost use Rattle.apl_answer.specs.Arguments.{is_natural, is_numbers, numbers_of, rank_of, size_of};
@@ -15,8 +16,9 @@ use crate::arguments::{TURN, numbers_among};
 use crate::bits::{expanded_entries, kept_indexes, push_times};
 use crate::building::empty;
 use apl_answer::OpFault;
-use apl_array::{Array, Axis, MOST_ELEMENTS};
+use apl_array::{Array, Axis, Elements, MOST_ELEMENTS};
 use apl_pool::{Crew, Cut, Gate, Pool, Workers};
+use apl_walk::{CountedBits, count_blocks};
 use std::alloc::{AllocError, Global};
 use std::thread::Threads;
 
@@ -113,12 +115,31 @@ fn replicate_listed<W: Crew>(
     gather_along(workers, b, k, counts.len(), indexes.len(), taking)
 }
 
-/// The same. Counts that are all 0 or 1 are listed by a loop of their own.
+/// The indexes of axis `k` at which truth values are true. They are not listed, so that the workers look for them.
+fn keep_ones<W: Crew>(workers: &W, b: &Array, k: usize, truths: &[bool]) -> Result<Array, OpFault>
+    requires axis { k < max 1 (rank_of b.now) }
+    requires length { length truths.now ≡ slice_index (as_vector (length truths.now) b.now).shape k }
+    requires most { length truths.now ≤ MOST_PLACES }
+    ensures { IsAnswerOf (replicated (as_vector (length truths.now) b.now) k (map place_number (map bit truths.now))) result }
+{
+    let (before, count) = count_blocks(workers.alloc(), truths)?;
+    let counted = CountedBits {
+        bits: truths,
+        before: before.as_slice(),
+        count,
+    };
+    gather_along(workers, b, k, truths.len(), count, Taking::Ones(counted))
+}
+
+/// The same. Truth values keep elements of a vector where they are, and other counts that are all 0 or 1 are listed by a loop of their own.
 fn replicate_each<W: Crew>(workers: &W, a: &Array, b: &Array, k: usize) -> Result<Array, OpFault>
     requires axis { k < max 1 (rank_of b.now) }
     requires length { size_of a.now ≡ slice_index (as_vector (size_of a.now) b.now).shape k }
     ensures { IsAnswerOf (if is_numbers a.now && list_all is_natural (numbers_of a.now) then replicated (as_vector (size_of a.now) b.now) k (map place_number (numbers_of a.now)) else Err OpFault.Domain) result }
 {
+    if let (Elements::Truths(truths), 1) = (a.elements(), vector_rank(b)) {
+        return keep_ones(workers, b, k, truths);
+    }
     if let Some(indexes) = kept_indexes(workers.alloc(), a)? {
         let taking = Taking::Listed(indexes.as_slice());
         return gather_along(workers, b, k, a.shape().count(), indexes.len(), taking);

@@ -1,12 +1,14 @@
-use Rattle.std.proofs.Common.{◌≡◌, length, map, ap, ◌∙◌, sym, rules}
+use Rattle.std.proofs.Common.{◌≡◌, true, length, map, ap, ◌∙◌, sym, rules}
 use Rattle.std.specs.List.{list_all}
 use Rattle.std.proofs.lemmas.List.{length-map}
+use Rattle.std.proofs.lemmas.Simd.{map-map}
+use Rattle.apl_array.specs.Array.{bit, truth_array, truth_element}
 use Rattle.apl_array.specs.Axes.{place_number}
 use Rattle.apl_array.specs.Shape.{count_of}
 use Rattle.apl_answer.specs.Arguments.{is_bit, is_numbers, number_of, numbers_of, size_of}
 use Rattle.apl_struct.specs.Compressing.{as_vector}
 use Rattle.apl_struct.proofs.Takings.{axis_of_vector}
-use Rattle.apl_struct.proofs.Counts.{repeated_answer, bits_natural}
+use Rattle.apl_struct.proofs.Counts.{repeated_answer, bits_natural, truths_natural}
 use Rattle.apl_struct.proofs.Kept.{both}
 use Rattle.apl_struct.proofs.compressing.replicate_each.Goals as goal
 
@@ -30,3 +32,13 @@ returns g c =
     let numbers : numbers_of a ≡ own = c.in_ok-counts.ensures.numbers.1 ∙ sym c.as_slice-2.ensures in
     let many : length own ≡ size_of a = sym (ap length numbers) ∙ length-map a.ravel number_of ∙ c.in_ok-counts.ensures.lawful.len in
     rw (c.in_ok-counts.ensures.numbers.0, numbers) (rw many at c.replicate_listed.ensures)
+
+pub returns-in-Truths-eq1 : goal.returns-in-Truths-eq1
+returns-in-Truths-eq1 g c =
+    let a = c.args.a.now in
+    let truths = c.in-Truths-eq1.truths.now in
+    let array : a ≡ truth_array a.shape truths = c.in-Truths-eq1.ensures.elements in
+    let numbers : numbers_of a ≡ map bit truths = ap numbers_of array ∙ map-map number_of truth_element truths in
+    let all : is_numbers a ≡ true = ap is_numbers array in
+    let many : length truths ≡ size_of a = sym (length-map truths bit) ∙ sym (ap length numbers) ∙ length-map a.ravel number_of ∙ c.in-Truths-eq1.ensures.lawful.len in
+    rw (all, numbers, truths_natural truths) (rw many at c.keep_ones.ensures)
