@@ -18,32 +18,31 @@ pub struct Ones<'a> {
     ghost near: { length counted.bits.now * stride ≤ MOST_STEP },
 }
 
-/// Writes the elements at the ones from index `first` up to before `to` behind `done` others, and answers how many are written then. What
-/// is written at a zero is written over by the next, so no jump depends on a bit, which no processor can foresee.
+/// Writes the elements at the ones among `count` truth values from index `first` on behind `done` others, and answers how many are written
+/// then. What is written at a zero is written over by the next, so no jump depends on a bit, which no processor can foresee.
 #[inline(always)]
-fn write_up_to<T: Copy>(
+fn write_few<T: Copy>(
     bits: &[bool],
     line: &[T],
     stride: usize,
     first: usize,
-    to: usize,
+    count: usize,
     done: usize,
     room: &mut [T],
 ) -> usize
-    requires order { first ≤ to }
-    requires within { to ≤ length bits.now }
+    requires within { first + count ≤ length bits.now }
     requires near { (length bits.now - 1) * stride < length line.now }
-    requires room { done + (to - first) ≤ length room.old }
+    requires room { done + count ≤ length room.old }
     requires before { HasOnes bits.now line.now stride first done room.old }
-    ensures written { HasOnes bits.now line.now stride to result room.new }
-    ensures count { result + ones_before bits.now first ≡ done + ones_before bits.now to }
-    ensures most { result + first ≤ done + to }
+    ensures written { HasOnes bits.now line.now stride (first + count) result room.new }
+    ensures count { result + ones_before bits.now first ≡ done + ones_before bits.now (first + count) }
+    ensures most { result ≤ done + count }
     ensures len { length room.new ≡ length room.old }
 {
     let mut written = done;
-    for i in first..to {
-        room[written] = line[i * stride];
-        written += bits[i] as usize;
+    for k in 0..count {
+        room[written] = line[(first + k) * stride];
+        written += bits[first + k] as usize;
     }
     written
 }
@@ -71,7 +70,7 @@ fn write_turns<T: Copy>(
 {
     let (mut i, mut done) = begin;
     while room.len() - done >= turn {
-        done = write_up_to(bits, line, stride, i, i + turn, done, room);
+        done = write_few(bits, line, stride, i, turn, done, room);
         i += turn;
     }
     (i, done)
