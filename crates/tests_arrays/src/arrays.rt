@@ -1,7 +1,7 @@
 //! Shapes, places of a small array, and arrays that keep their kind.
 use crate::notation::{held_characters, held_numbers, held_truths, lengths_of};
 use apl_array::{
-    Array, Elem, Kind, Shape, ShapeError, changed_axis_has_place, elements_determine_array,
+    Array, Elem, Kind, Ravel, Shape, ShapeError, changed_axis_has_place, elements_determine_array,
     inserted_index_has_place, joined_index_has_place, place_is_sum_of_strides,
     places_match_index_lists, range_is_decided, replaced_index_has_place, reversed_index_is_lawful,
     shape_is_decided, split_index_has_place, transposed_index_has_place,
@@ -118,8 +118,10 @@ fn numbers_in_row_order(rt: HostRuntime) -> Result<(), Fail> {
         held_numbers(&table).is_some_and(|numbers| numbers.len() == 6)
             && held_truths(&table).is_none()
     );
-    let numbers = table.into_numbers();
-    assert!(rt; numbers.is_some_and(|numbers| numbers.last() == Some(&i64::MAX)));
+    let Ravel::Numbers(numbers) = table.into_ravel() else {
+        return Err(Fail::new("no numbers"));
+    };
+    assert!(rt; numbers.last() == Some(&i64::MAX));
     elements_determine_array();
     range_is_decided();
     Ok(())
@@ -138,7 +140,10 @@ fn truth_values_in_row_order(rt: HostRuntime) -> Result<(), Fail> {
     let wanted = [true, false, false, true, true, false];
     assert!(rt; held_truths(&table) == Some(wanted.as_slice()));
     assert!(rt; held_numbers(&table).is_none() && held_characters(&table).is_none());
-    assert!(rt; table.into_numbers().is_none());
+    let Ravel::Truths(truths) = table.into_ravel() else {
+        return Err(Fail::new("no truth values"));
+    };
+    assert!(rt; truths.as_slice() == wanted.as_slice());
     Ok(())
 }
 
