@@ -71,7 +71,7 @@ impl<T: ElementType, U: ElementType> EachPair<'_, T, U> {
 /// Writes what a function gives of one element and each of others into the room for them, as results are held. It ends at some other, or at
 /// the first that has a fault, and answers how many it wrote.
 #[inline(always)]
-fn write_row<T: ElementType, U: ElementType, H: Held>(
+fn write_row<T: ElementType, U: ElementType, H: HeldRuns>(
     f: ScalarFunction,
     x: T,
     others: &[U],
@@ -93,7 +93,7 @@ struct HeldPairs<'a, T, U, H> {
     held: PhantomData<H>,
 }
 
-impl<T: ElementType, U: ElementType, H: Held> Kernel for HeldPairs<'_, T, U, H> {
+impl<T: ElementType, U: ElementType, H: HeldRuns> Kernel for HeldPairs<'_, T, U, H> {
     ghost use Rattle.std.specs.Prelude.{map};
     ghost use Rattle.apl_reduce.specs.Items.{outer_number};
 

@@ -5,10 +5,10 @@ ghost use Rattle.apl_pool.specs.Runs.{AreWritten};
 ghost use Rattle.apl_scalar.specs.Scalar.{dyadic_of, monadic_of};
 
 use crate::elements::{dyadic_elements, likely_element, likely_elements, monadic_element};
-use crate::function_types::{Function, has_dyadic_runs, has_monadic_runs};
-use crate::held::{Held, as_held};
+use crate::function_types::{Function, has_dyadic_runs, has_monadic_runs, is_truth_valued};
+use crate::held::as_held;
 use crate::operands::Operand;
-use crate::runs::{Results, write_results};
+use crate::runs::{HeldRuns, Results, write_results};
 use crate::with_type;
 use apl_array::ScalarFunction;
 use apl_pool::{Fault, Kernel};
@@ -55,6 +55,11 @@ impl<A: Operand, F: Function + Copy> Results for ElementResults<A, F> {
     #[inline(always)]
     fn have_runs() -> bool {
         has_monadic_runs(F::FUNCTION)
+    }
+
+    #[inline(always)]
+    fn are_truths() -> bool {
+        is_truth_valued(F::FUNCTION)
     }
 }
 
@@ -104,6 +109,11 @@ impl<L: Operand, R: Operand, F: Function + Copy> Results for PairResults<L, R, F
     fn have_runs() -> bool {
         has_dyadic_runs(F::FUNCTION)
     }
+
+    #[inline(always)]
+    fn are_truths() -> bool {
+        is_truth_valued(F::FUNCTION)
+    }
 }
 
 /// The results of a scalar function that is chosen anew for each run of places. So a pass of the pool is compiled once for all functions, and
@@ -126,7 +136,7 @@ pub(crate) trait Chosen: Copy {
         ensures { result ≡ outcome self.now place };
 
     /// Writes a run of results, as `write_results`.
-    fn write<H: Held>(&self, from: usize, to: usize, room: &mut [H]) -> usize
+    fn write<H: HeldRuns>(&self, from: usize, to: usize, room: &mut [H]) -> usize
         requires order { from ≤ to }
         requires places { to ≤ served self.now }
         requires most { to ≤ MOST_PLACES }
@@ -151,7 +161,7 @@ fn element_at<F: Function, A: Operand>(argument: A, place: usize) -> Result<i64,
     monadic_element::<F>(argument.at(place))
 }
 
-fn write_elements<F: Function + Copy, A: Operand, H: Held>(
+fn write_elements<F: Function + Copy, A: Operand, H: HeldRuns>(
     argument: A,
     from: usize,
     to: usize,
@@ -180,7 +190,7 @@ impl<A: Operand> Chosen for OfElements<A> {
         with_type!(self.f, element_at::<F, A>(self.argument, place))
     }
 
-    fn write<H: Held>(&self, from: usize, to: usize, room: &mut [H]) -> usize {
+    fn write<H: HeldRuns>(&self, from: usize, to: usize, room: &mut [H]) -> usize {
         with_type!(
             self.f,
             write_elements::<F, A, H>(self.argument, from, to, room)
@@ -208,7 +218,7 @@ fn pair_at<F: Function, L: Operand, R: Operand>(
     dyadic_elements::<F>(left.at(place), right.at(place))
 }
 
-fn write_pairs<F: Function + Copy, L: Operand, R: Operand, H: Held>(
+fn write_pairs<F: Function + Copy, L: Operand, R: Operand, H: HeldRuns>(
     left: L,
     right: R,
     from: usize,
@@ -240,7 +250,7 @@ impl<L: Operand, R: Operand> Chosen for OfPairs<L, R> {
         with_type!(self.f, pair_at::<F, L, R>(self.left, self.right, place))
     }
 
-    fn write<H: Held>(&self, from: usize, to: usize, room: &mut [H]) -> usize {
+    fn write<H: HeldRuns>(&self, from: usize, to: usize, room: &mut [H]) -> usize {
         with_type!(
             self.f,
             write_pairs::<F, L, R, H>(self.left, self.right, from, to, room)
@@ -258,7 +268,7 @@ pub(crate) struct ResultKernel<C: Chosen, H> {
     ghost served: { count ≤ C.served results },
 }
 
-impl<C: Chosen, H: Held> Kernel for ResultKernel<C, H> {
+impl<C: Chosen, H: HeldRuns> Kernel for ResultKernel<C, H> {
     type Out = H;
 
     ghost place_count = { λ k. k.count };

@@ -29,3 +29,4 @@ pub use function_types::is_truth_valued;
 pub use held::{Held, as_held};
 pub use laws::{answers_are_in_range, answers_are_within_limits, truth_values_are_results};
 pub use rows::write_pairs;
+pub use runs::HeldRuns;

@@ -6,16 +6,15 @@ ghost use Rattle.apl_pool.specs.Runs.{AreWritten};
 ghost use Rattle.apl_scalar.specs.Scalar.{dyadic_of};
 
 use crate::function_types::Function;
-use crate::held::Held;
 use crate::kernels::PairResults;
 use crate::operands::{Value, Whole};
-use crate::runs::write_results;
+use crate::runs::{HeldRuns, write_results};
 use apl_answer::ElementType;
 
 /// Writes what the function of type `F` gives of `x` and each of others into the room for them. It ends at some other, or
 /// at the first that has a fault. It answers how many it wrote, and takes no memory.
 #[inline(always)]
-pub fn write_pairs<F: Function + Copy, T: ElementType, U: ElementType, H: Held>(
+pub fn write_pairs<F: Function + Copy, T: ElementType, U: ElementType, H: HeldRuns>(
     x: T,
     others: &[U],
     room: &mut [H],

@@ -2,6 +2,7 @@
 ghost use Rattle.std.specs.Prelude.{◌≡◌, ◌+◌, ◌≤◌, true, length};
 ghost use Rattle.apl_pool.specs.declared.kernel.TheConstants.{MOST_PLACES};
 ghost use Rattle.apl_pool.specs.Runs.{AreWritten};
+ghost use Rattle.apl_scalar.specs.Scalar.{truth_outcome};
 
 use crate::held::Held;
 use apl_pool::Fault;
@@ -10,7 +11,7 @@ use apl_pool::Fault;
 const LONGEST_RUN: usize = 1024;
 
 /// The results of a scalar function at places. They are passed by value, so that a loop that writes reads no pointer anew.
-pub(crate) trait Results: Copy {
+pub trait Results: Copy {
     ghost use Rattle.std.specs.Prelude.{◌≡◌, ◌<◌, ℕ, ℤ, Result, Ok};
     ghost use Rattle.apl_pool.specs.declared.kernel.Fault.{Fault};
 
@@ -32,6 +33,9 @@ pub(crate) trait Results: Copy {
 
     /// Whether the likely results have no branches, so that a run of them is quick.
     fn have_runs() -> bool;
+
+    /// Whether the results are truth values.
+    fn are_truths() -> bool;
 }
 
 /// Writes the likely results into the room for the places from `from` on. It answers whether all are sure.
@@ -50,6 +54,75 @@ fn write_likely<P: Results, H: Held>(results: P, from: usize, count: usize, room
         all_doubts |= doubts;
     }
     all_doubts == 0
+}
+
+/// How many truth values are a block.
+const BLOCK: usize = 16;
+
+/// Writes a block of likely results, as truth values, behind the first `done`. It answers whether all are sure. They are written beside the
+/// room first, so that no store comes between two reads, and a processor compares all of them at once.
+#[inline(always)]
+fn write_block<P: Results>(results: P, from: usize, done: usize, room: &mut [bool]) -> bool
+    requires places { from + done + BLOCK ≤ P.served results }
+    requires most { from + done + BLOCK ≤ MOST_PLACES }
+    requires room { done + BLOCK ≤ length room.old }
+    ensures values { result ≡ true → AreWritten (λ place. truth_outcome (P.outcome results place)) from (from + done) room.old
+        → AreWritten (λ place. truth_outcome (P.outcome results place)) from (from + done + BLOCK) room.new }
+    ensures len { length room.new ≡ length room.old }
+{
+    let mut block = [false; BLOCK];
+    let are_sure = write_likely(results, from + done, BLOCK, &mut block);
+    for k in 0..BLOCK {
+        room[done + k] = block[k];
+    }
+    are_sure
+}
+
+/// As `write_likely`, of truth values and block by block.
+#[inline(always)]
+fn write_blocks<P: Results>(results: P, from: usize, count: usize, room: &mut [bool]) -> bool
+    requires places { from + count ≤ P.served results }
+    requires most { from + count ≤ MOST_PLACES }
+    requires room { count ≤ length room.old }
+    ensures values { result ≡ true → AreWritten (λ place. truth_outcome (P.outcome results place)) from (from + count) room.new }
+    ensures len { length room.new ≡ length room.old }
+{
+    let blocks = count / BLOCK;
+    let mut are_sure = true;
+    for block in 0..blocks {
+        are_sure &= write_block(results, from, block * BLOCK, room);
+    }
+    let done = blocks * BLOCK;
+    are_sure & write_likely(results, from + done, count - done, &mut room[done..])
+}
+
+/// A type that results are held as, with its quick runs of these.
+pub trait HeldRuns: Held {
+    ghost use Rattle.std.specs.Prelude.{◌≡◌, ◌+◌, ◌≤◌, true, length};
+    ghost use Rattle.apl_pool.specs.declared.kernel.TheConstants.{MOST_PLACES};
+    ghost use Rattle.apl_pool.specs.Runs.{AreWritten};
+
+    /// Writes the likely results into the room for the places from `from` on. It answers whether all are sure. It takes no memory.
+    fn write_run<P: Results>(results: P, from: usize, count: usize, room: &mut [Self]) -> bool
+        requires places { from + count ≤ P.served results }
+        requires most { from + count ≤ MOST_PLACES }
+        requires room { count ≤ length room.old }
+        ensures values { result ≡ true → AreWritten (λ place. Self.held (P.outcome results place)) from (from + count) room.new }
+        ensures len { length room.new ≡ length room.old };
+}
+
+impl HeldRuns for i64 {
+    #[inline(always)]
+    fn write_run<P: Results>(results: P, from: usize, count: usize, room: &mut [i64]) -> bool {
+        write_likely(results, from, count, room)
+    }
+}
+
+impl HeldRuns for bool {
+    #[inline(always)]
+    fn write_run<P: Results>(results: P, from: usize, count: usize, room: &mut [bool]) -> bool {
+        P::are_truths() && write_blocks(results, from, count, room)
+    }
 }
 
 /// How many results are written in one turn of a loop.
@@ -114,7 +187,7 @@ fn write_before_fault<P: Results, H: Held>(
 /// fault, or where the run ends. If one of the run is not sure, the results up to `to` are written one by one. The next runs tend to be
 /// like this one. Results that have no quick runs are written one by one too.
 #[inline(always)]
-pub(crate) fn write_results<P: Results, H: Held>(
+pub(crate) fn write_results<P: Results, H: HeldRuns>(
     results: P,
     from: usize,
     to: usize,
@@ -130,7 +203,7 @@ pub(crate) fn write_results<P: Results, H: Held>(
     ensures len { length room.new ≡ length room.old }
 {
     let count = (to - from).min(LONGEST_RUN);
-    if P::have_runs() && write_likely(results, from, count, room) {
+    if P::have_runs() && H::write_run(results, from, count, room) {
         return from + count;
     }
     write_before_fault(results, from, to - from, room)
