@@ -18,7 +18,7 @@ use apl_array::{Array, ScalarFunction, Shape, joined_index_has_place, places_mat
 use apl_divisor::Divisor;
 use apl_pool::{Crew, Cut, Fault, Gate, Kernel, Pool, Workers};
 use apl_scalar::{
-    Held, as_held, is_truth_valued, truth_values_are_results, with_type, write_pairs,
+    HeldRuns, as_held, is_truth_valued, truth_values_are_results, with_type, write_pairs,
 };
 use std::alloc::Global;
 use std::marker::PhantomData;
