@@ -18,7 +18,7 @@ fn one(bit: bool) -> u8
 
 /// How many of a few neighbours from an index on are ones. The loop has no branches, and a processor adds several bytes at once.
 #[inline(always)]
-fn few_ones(bits: &[bool], first: usize, count: usize) -> u8
+pub fn few_ones(bits: &[bool], first: usize, count: usize) -> u8
     requires within { first + count ≤ length bits.now }
     requires few { count ≤ 255 }
     ensures { ones_before bits.now first + result ≡ ones_before bits.now (first + count) }
@@ -47,12 +47,13 @@ pub fn count_blocks(alloc: Global, bits: &[bool]) -> Result<(Vec<u32>, usize), A
     Ok((before, ones as usize))
 }
 
-/// A block before which there are no more ones than this: the last one, since their numbers do not fall.
+/// The last block before which there are no more ones than this. The numbers of ones do not fall from block to block.
 fn block_of(before: &[u32], ones: u32) -> usize
     requires some { 0 < length before.now }
     requires first { slice_index before.now 0 ≤ ones }
     ensures block { result < length before.now }
     ensures before { slice_index before.now result ≤ ones }
+    ensures last { result + 1 < length before.now → ones < slice_index before.now (result + 1) }
 {
     let mut low = 0;
     let mut high = before.len();

@@ -19,7 +19,7 @@ mod turned;
 mod walk;
 mod window;
 
-pub use counted::{CountedBits, count_blocks};
+pub use counted::{CountedBits, count_blocks, few_ones};
 pub use fronts::element_or;
 pub use gathered::{Gathered, gather};
 pub use lined::{ByLines, Lined};

@@ -6,6 +6,7 @@ invariant-loop-high l = record {
   order : l.low < l.high;
   within : l.high ≤ length l.before;
   low : slice_index l.before l.low ≤ l.ones;
+  high : l.high < length l.before → l.ones < slice_index l.before l.high;
 }
 
 abbrev pub decreases-loop-high : goal.decreases-loop-high
