@@ -1,5 +1,5 @@
 -- Powers whose exponents get one more bit.
-use Rattle.std.proofs.Common.{◌≡◌, ℕ, zero, suc, ◌+◌, ◌*◌, ◌%◌, ◌^◌, ◌<◌, ◌≤◌, ◌==◌, Bool, true, false, ℤ, pos, negsuc, neg_ℤ, ◌*ℤ◌, FitsSigned, of_z, w64, refl, sym, ap, ◌∙◌, arith}
+use Rattle.std.proofs.Common.{◌≡◌, ℕ, zero, suc, ◌+◌, ◌*◌, ◌%◌, ◌^◌, ◌<◌, ◌≤◌, ◌==◌, Bool, true, false, ℤ, pos, negsuc, neg_ℤ, ◌*ℤ◌, FitsSigned, of_z, w32, w64, refl, sym, ap, ◌∙◌, arith}
 use Rattle.std.specs.Prelude.{if◌then◌else◌}
 use Rattle.std.specs.Int.{int_pow, is_negative}
 use Rattle.std.proofs.lemmas.Int.{ints}
@@ -41,6 +41,16 @@ next_power (negsuc a) n (suc zero) most =
     let m = suc a ^ n in
     ap (λ z. z *ℤ neg_ℤ (pos (suc a ^ 1))) (square_of_signed (n % 2 == 0) m) ∙ times_negative (m * m) (suc a ^ 1) ∙ rw (odd_after_twice n) (ap (λ p. neg_ℤ (pos p)) (whole (suc a) n 1))
 next_power (negsuc a) n (suc (suc bit)) most = absurd (omega (arith, most))
+
+no_power : (x : ℤ) → int_pow x 0 ≡ pos 1
+no_power (pos a) = ap pos (pow-zero a)
+no_power (negsuc a) = ap pos (pow-zero (suc a))
+
+-- the power by one bit is 1 or the number itself
+pub narrow_power : (x : ℤ) (bit : ℕ) → bit ≤ 1 → FitsSigned w32 x → FitsSigned w32 (int_pow x bit)
+narrow_power x zero most fits = rw (no_power x) (omega (arith, ints))
+narrow_power x (suc zero) most fits = rw (first_power x) fits
+narrow_power x (suc (suc bit)) most fits = absurd (omega (arith, most))
 
 -- a number whose 64 bits are below 8 is not negative
 pub small_natural : (y : ℤ) (n : ℕ) → FitsSigned w64 y → n ≡ of_z w64 y → n < 8 → y ≡ pos n

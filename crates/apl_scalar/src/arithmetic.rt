@@ -82,14 +82,22 @@ fn above_least_half(x: i64) -> u64
     x.cast_unsigned().wrapping_add(1 << 31)
 }
 
+/// The product of the lower halves of `x` and `y`: their own product if both are numbers of 32 bits.
+#[inline(always)]
+fn half_product(x: i64, y: i64) -> i64
+    ensures { FitsSigned w32 x → FitsSigned w32 y → exact (x *ℤ y) ≡ Ok result }
+{
+    range_is_decided();
+    lower_half(x) * lower_half(y)
+}
+
 /// `x` times `y` and no doubts if both are numbers of 32 bits, else some number and doubts. It has no branches.
 #[inline(always)]
 pub(crate) fn likely_product(x: i64, y: i64) -> (i64, u64)
     ensures { result.1 ≡ 0 → exact (x *ℤ y) ≡ Ok result.0 }
 {
-    range_is_decided();
     let farther = above_least_half(x) | above_least_half(y);
-    (lower_half(x) * lower_half(y), farther >> 32)
+    (half_product(x, y), farther >> 32)
 }
 
 /// `x` to the power `bit`, which is 0 or 1.
@@ -101,16 +109,16 @@ fn power_of_bit(x: i64, bit: u64) -> i64
     if bit == 0 { 1 } else { x }
 }
 
-/// `root` times itself and times `x` to the power `bit`, and doubts if a factor has more than 32 bits. So the exponent of a root that is a
-/// power of `x` gets one more bit.
+/// `root` times itself and times `x` to the power `bit`, of a root and an `x` of 32 bits. Beside it is how far the square of the root is above
+/// the least number of 32 bits. So the exponent of a root that is a power of `x` gets one more bit.
 #[inline(always)]
 fn likely_next_power(x: i64, root: i64, bit: u64) -> (i64, u64)
     requires { bit ≤ 1 }
-    ensures { (n : ℕ) → root ≡ int_pow x n → result.1 ≡ 0 → exact (int_pow x (n + n + bit)) ≡ Ok result.0 }
+    ensures { (n : ℕ) → root ≡ int_pow x n → FitsSigned w32 x → FitsSigned w32 root → result.1 < 2 ^ 32 → exact (int_pow x (n + n + bit)) ≡ Ok result.0 }
 {
-    let (square, square_doubts) = likely_product(root, root);
-    let (next, doubts) = likely_product(square, power_of_bit(x, bit));
-    (next, square_doubts | doubts)
+    let square = half_product(root, root);
+    let next = half_product(square, power_of_bit(x, bit));
+    (next, above_least_half(square))
 }
 
 /// `x` to the power `y` by the three bits of an exponent below 8, and doubts if it has others or a factor has more than 32 bits. It has no
@@ -121,9 +129,10 @@ pub(crate) fn likely_power(x: i64, y: i64) -> (i64, u64)
 {
     let exponent = y.cast_unsigned();
     let first = power_of_bit(x, exponent / 4 % 2);
-    let (root, root_doubts) = likely_next_power(x, first, exponent / 2 % 2);
-    let (value, doubts) = likely_next_power(x, root, exponent % 2);
-    (value, root_doubts | doubts | exponent / 8)
+    let (root, above_first) = likely_next_power(x, first, exponent / 2 % 2);
+    let (value, above_root) = likely_next_power(x, root, exponent % 2);
+    let farther = above_least_half(x) | above_least_half(root) | above_first | above_root;
+    (value, farther >> 32 | exponent / 8)
 }
 
 /// The magnitude of `x`, and the doubts whether 64 bits hold it.

@@ -8,7 +8,7 @@ use crate::held::Held;
 use apl_pool::Fault;
 
 /// The most places of a run.
-const LONGEST_RUN: usize = 1024;
+const LONGEST_RUN: usize = 4096;
 
 /// The results of a scalar function at places. They are passed by value, so that a loop that writes reads no pointer anew.
 pub trait Results: Copy {
