@@ -40,3 +40,5 @@ pub mod TruthFolds
 pub mod ExtremeFolds
 pub mod Reordered
 pub mod Examples
+pub mod RunProducts
+pub mod Multiplying

@@ -26,19 +26,19 @@ near_sum number most (suc n) near =
 
 -- ---- the sums of pairs
 
-module _ (numbers : List ℤ) (first k : ℕ) (firsts seconds : ℤ) (sums : ArePairSums numbers first k firsts seconds) (few : k ≤ 2048) where
+module _ (numbers : List ℤ) (first k : ℕ) (firsts seconds : ℤ) (sums : ArePairSums numbers first k firsts seconds) (few : k ≤ 8192) where
   pub firsts_near : unsigned_abs firsts ≤ 2 ^ 61
   firsts_near =
-      let so_far = near_sum (λ j. slice_index_or numbers (first + 2 * j) (pos 0)) (2 ^ 50) k (λ j below. sums.near (2 * j) (omega arith)) in
-      let total : unsigned_abs firsts ≤ k * 2 ^ 50 = subst (λ z. unsigned_abs z ≤ k * 2 ^ 50) (sym sums.firsts_are) so_far in
+      let so_far = near_sum (λ j. slice_index_or numbers (first + 2 * j) (pos 0)) (2 ^ 48) k (λ j below. sums.near (2 * j) (omega arith)) in
+      let total : unsigned_abs firsts ≤ k * 2 ^ 48 = subst (λ z. unsigned_abs z ≤ k * 2 ^ 48) (sym sums.firsts_are) so_far in
       omega (arith, total)
 
   pub seconds_near : unsigned_abs seconds ≤ 2 ^ 61
   seconds_near =
       let place : (j : ℕ) → first + (2 * j + 1) ≡ first + 2 * j + 1 = λ j. omega arith in
-      let so_far = near_sum (λ j. slice_index_or numbers (first + 2 * j + 1) (pos 0)) (2 ^ 50) k
-      (λ j below. subst (λ i. unsigned_abs (slice_index_or numbers i (pos 0)) ≤ 2 ^ 50) (place j) (sums.near (2 * j + 1) (omega arith))) in
-      let total : unsigned_abs seconds ≤ k * 2 ^ 50 = subst (λ z. unsigned_abs z ≤ k * 2 ^ 50) (sym sums.seconds_are) so_far in
+      let so_far = near_sum (λ j. slice_index_or numbers (first + 2 * j + 1) (pos 0)) (2 ^ 48) k
+      (λ j below. subst (λ i. unsigned_abs (slice_index_or numbers i (pos 0)) ≤ 2 ^ 48) (place j) (sums.near (2 * j + 1) (omega arith))) in
+      let total : unsigned_abs seconds ≤ k * 2 ^ 48 = subst (λ z. unsigned_abs z ≤ k * 2 ^ 48) (sym sums.seconds_are) so_far in
       omega (arith, total)
 
   -- 64 bits hold both with a total that is near 0
@@ -95,12 +95,12 @@ module _ (decided : (z : ℤ) → (in_range z ≡ true) ↔ IsInRange z) (bits :
       seconds n = sum_of (λ k. number (first + 2 * k + 1)) n
 
       abbrev AreNear : ℕ → Type 0
-      AreNear n = (k : ℕ) → k < 2 * n → unsigned_abs (number (first + k)) ≤ 2 ^ 50
+      AreNear n = (k : ℕ) → k < 2 * n → unsigned_abs (number (first + k)) ≤ 2 ^ 48
 
-      second_near : (n : ℕ) → AreNear (suc n) → unsigned_abs (number (first + 2 * n + 1)) ≤ 2 ^ 50
-      second_near n near = let place : first + (2 * n + 1) ≡ first + 2 * n + 1 = omega arith in subst (λ i. unsigned_abs (number i) ≤ 2 ^ 50) place (near (2 * n + 1) (omega arith))
+      second_near : (n : ℕ) → AreNear (suc n) → unsigned_abs (number (first + 2 * n + 1)) ≤ 2 ^ 48
+      second_near n near = let place : first + (2 * n + 1) ≡ first + 2 * n + 1 = omega arith in subst (λ i. unsigned_abs (number i) ≤ 2 ^ 48) place (near (2 * n + 1) (omega arith))
 
-      plus_pairs : (n : ℕ) (t : ℤ) → AreNear n → unsigned_abs t + n * 2 ^ 51 < 2 ^ 63 → folded_onto Plus item first (2 * n) (Ok t) ≡ Ok (t +ℤ firsts n +ℤ seconds n)
+      plus_pairs : (n : ℕ) (t : ℤ) → AreNear n → unsigned_abs t + n * 2 ^ 49 < 2 ^ 63 → folded_onto Plus item first (2 * n) (Ok t) ≡ Ok (t +ℤ firsts n +ℤ seconds n)
       plus_pairs zero t near small = let same : t ≡ t +ℤ pos 0 +ℤ pos 0 = omega (arith, ints) in ap Ok same
       plus_pairs (suc n) t near small =
           let place = first + 2 * n in
@@ -117,7 +117,7 @@ module _ (decided : (z : ℤ) → (in_range z ≡ true) ↔ IsInRange z) (bits :
           ∙ plus_pairs n (x +ℤ (y +ℤ t)) (λ k below. near k (omega arith)) (omega (arith, left, right, own, both))
           ∙ ap Ok sum
 
-      minus_pairs : (n : ℕ) (t : ℤ) → AreNear n → unsigned_abs t + n * 2 ^ 51 < 2 ^ 63 → folded_onto Minus item first (2 * n) (Ok t) ≡ Ok (t +ℤ firsts n -ℤ seconds n)
+      minus_pairs : (n : ℕ) (t : ℤ) → AreNear n → unsigned_abs t + n * 2 ^ 49 < 2 ^ 63 → folded_onto Minus item first (2 * n) (Ok t) ≡ Ok (t +ℤ firsts n -ℤ seconds n)
       minus_pairs zero t near small = let same : t ≡ t +ℤ pos 0 -ℤ pos 0 = omega (arith, ints) in ap Ok same
       minus_pairs (suc n) t near small =
           let place = first + 2 * n in
@@ -134,7 +134,7 @@ module _ (decided : (z : ℤ) → (in_range z ≡ true) ↔ IsInRange z) (bits :
           ∙ minus_pairs n (x -ℤ (y -ℤ t)) (λ k below. near k (omega arith)) (omega (arith, left, right, own, both))
           ∙ ap Ok sum
 
-      module _ (pairs : ℕ) (total a b : ℤ) (sums : ArePairSums numbers first pairs a b) (few : pairs ≤ 2048) (near : unsigned_abs total < 2 ^ 62) where
+      module _ (pairs : ℕ) (total a b : ℤ) (sums : ArePairSums numbers first pairs a b) (few : pairs ≤ 8192) (near : unsigned_abs total < 2 ^ 62) where
         pub near_plus : folded_onto Plus item first (2 * pairs) (Ok total) ≡ Ok (total +ℤ a +ℤ b)
         near_plus = plus_pairs pairs total sums.near (omega arith) ∙ ap (λ z. Ok (total +ℤ z +ℤ seconds pairs)) (sym sums.firsts_are) ∙ ap (λ z. Ok (total +ℤ a +ℤ z)) (sym sums.seconds_are)
 

@@ -1,4 +1,4 @@
--- Sums of numbers near 0, which are added in both halves of a run at once. Each is counted from the least number that is near 0.
+-- Sums of numbers near 0, which are added in two runs at once. Each is counted from the least number that is near 0.
 use Rattle.std.proofs.Common.{◌≡◌, ℕ, zero, suc, ℤ, pos, ◌+◌, ◌*◌, ◌-◌, ◌%◌, ◌^◌, ◌<◌, ◌≤◌, ◌+ℤ◌, List, refl, sym, ap, subst, ◌∙◌, ⊎_elim, arith}
 use Rattle.std.specs.Prelude.{unsigned_abs, slice_index_or, bit_or}
 use Rattle.std.proofs.Math.IntN.{+ℤ_assoc}
@@ -6,7 +6,7 @@ use Rattle.std.proofs.Math.Nat.{mod-eq_of_lt}
 use Rattle.std.proofs.lemmas.Int.{ints}
 use Rattle.std.proofs.lemmas.Nat.{le_or_l, le_or_r}
 use Rattle.std.proofs.lemmas.Bool.{cases_lt}
-use Rattle.apl_reduce.specs.Magnitudes.{sum_of, ArePairSums}
+use Rattle.apl_reduce.specs.Magnitudes.{sum_of, ArePairSums, AreHalfSums}
 use Rattle.apl_reduce.proofs.Distances.{sum_near}
 use Rattle.apl_reduce.proofs.NearFolds.{near_sum}
 
@@ -27,17 +27,17 @@ two_sums f m (suc n) =
 -- ---- numbers counted from the least one that is near 0
 
 pub record IsAbove (above : ℕ) (x : ℤ) : Type 0 where
-  pub low : above < 2 ^ 51
-  pub is : pos above ≡ x +ℤ pos (2 ^ 50)
+  pub low : above < 2 ^ 49
+  pub is : pos above ≡ x +ℤ pos (2 ^ 48)
 
-near_from_above : (above : ℕ) (x : ℤ) → IsAbove above x → unsigned_abs x ≤ 2 ^ 50
+near_from_above : (above : ℕ) (x : ℤ) → IsAbove above x → unsigned_abs x ≤ 2 ^ 48
 near_from_above above x counted = omega (arith, ints, counted.low, counted.is)
 
-pub both_low : (m n : ℕ) → bit_or m n < 2 ^ 51 → (m < 2 ^ 51) × (n < 2 ^ 51)
+pub both_low : (m n : ℕ) → bit_or m n < 2 ^ 49 → (m < 2 ^ 49) × (n < 2 ^ 49)
 both_low m n low = (omega (arith, low, le_or_l m n), omega (arith, low, le_or_r m n))
 
 -- two more, one of each half
-module _ (sum left beyond k : ℕ) (few : k < 1024) (most : sum ≤ k * 2 ^ 52) (x y : ℤ) (left_above : IsAbove left x) (beyond_above : IsAbove beyond y) where
+module _ (sum left beyond k : ℕ) (few : k < 2048) (most : sum ≤ k * 2 ^ 50) (x y : ℤ) (left_above : IsAbove left x) (beyond_above : IsAbove beyond y) where
   abbrev next : ℕ
   next = ((sum + left) % 2 ^ 64 + beyond) % 2 ^ 64
 
@@ -47,10 +47,10 @@ module _ (sum left beyond k : ℕ) (few : k < 1024) (most : sum ≤ k * 2 ^ 52) 
       let two : sum + left + beyond < 2 ^ 64 = omega (arith, left_above.low, beyond_above.low) in
       ap (λ n. (n + beyond) % 2 ^ 64) (mod-eq_of_lt one) ∙ mod-eq_of_lt two
 
-  most_of_two_more : next ≤ (k + 1) * 2 ^ 52
+  most_of_two_more : next ≤ (k + 1) * 2 ^ 50
   most_of_two_more = rw unwrapped (omega (arith, left_above.low, beyond_above.low))
 
-  two_more : (a b c d : ℤ) → pos sum ≡ a +ℤ b +ℤ pos (2 * k * 2 ^ 50) → a +ℤ x ≡ c → b +ℤ y ≡ d → pos next ≡ c +ℤ d +ℤ pos (2 * (k + 1) * 2 ^ 50)
+  two_more : (a b c d : ℤ) → pos sum ≡ a +ℤ b +ℤ pos (2 * k * 2 ^ 48) → a +ℤ x ≡ c → b +ℤ y ≡ d → pos next ≡ c +ℤ d +ℤ pos (2 * (k + 1) * 2 ^ 48)
   two_more a b c d sum_is first_is second_is = rw unwrapped (omega (arith, ints, left_above.is, beyond_above.is))
 
 -- ---- both halves of a run
@@ -60,7 +60,7 @@ module _ (numbers : List ℤ) where
   number place = slice_index_or numbers place (pos 0)
 
   abbrev pub AreNear : (first count : ℕ) → Type 0
-  AreNear first count = (k : ℕ) → k < count → unsigned_abs (number (first + k)) ≤ 2 ^ 50
+  AreNear first count = (k : ℕ) → k < count → unsigned_abs (number (first + k)) ≤ 2 ^ 48
 
   abbrev pub firsts_of : (first pairs : ℕ) → ℤ
   firsts_of first pairs = sum_of (λ k. number (first + 2 * k)) pairs
@@ -68,9 +68,9 @@ module _ (numbers : List ℤ) where
   abbrev pub seconds_of : (first pairs : ℕ) → ℤ
   seconds_of first pairs = sum_of (λ k. number (first + 2 * k + 1)) pairs
 
-  one_pair_more : (first k : ℕ) → AreNear first (2 * k) → unsigned_abs (number (first + 2 * k)) ≤ 2 ^ 50 → unsigned_abs (number (first + 2 * k + 1)) ≤ 2 ^ 50 → AreNear first (2 * (k + 1))
+  one_pair_more : (first k : ℕ) → AreNear first (2 * k) → unsigned_abs (number (first + 2 * k)) ≤ 2 ^ 48 → unsigned_abs (number (first + 2 * k + 1)) ≤ 2 ^ 48 → AreNear first (2 * (k + 1))
   one_pair_more first k before left_near right_near = λ j below.
-      let IsNear : ℕ → Type 0 = λ i. unsigned_abs (number i) ≤ 2 ^ 50 in
+      let IsNear : ℕ → Type 0 = λ i. unsigned_abs (number i) ≤ 2 ^ 48 in
       ⊎_elim
       (λ earlier. before j earlier)
       (λ later.
@@ -86,15 +86,6 @@ module _ (numbers : List ℤ) where
   seconds_more : (first k : ℕ) → seconds_of first k +ℤ number (first + 2 * k + 1) ≡ seconds_of first (k + 1)
   seconds_more first k = let next : suc k ≡ k + 1 = omega arith in ap (seconds_of first) next
 
--- what `k` pairs of each half add up to, counted so
-pub record AreHalfSums (numbers : List ℤ) (first second k firsts seconds : ℕ) : Type 0 where
-  pub low : AreNear numbers first (2 * k)
-  pub high : AreNear numbers second (2 * k)
-  pub most_firsts : firsts ≤ k * 2 ^ 52
-  pub most_seconds : seconds ≤ k * 2 ^ 52
-  pub firsts_are : pos firsts ≡ firsts_of numbers first k +ℤ firsts_of numbers second k +ℤ pos (2 * k * 2 ^ 50)
-  pub seconds_are : pos seconds ≡ seconds_of numbers first k +ℤ seconds_of numbers second k +ℤ pos (2 * k * 2 ^ 50)
-
 pub no_halves : (numbers : List ℤ) (first second : ℕ) → AreHalfSums numbers first second 0 0 0
 no_halves numbers first second = record {
   low = λ k below. absurd (omega arith);
@@ -106,7 +97,7 @@ no_halves numbers first second = record {
 }
 
 -- a pair more of each half
-module _ (numbers : List ℤ) (first second k firsts seconds : ℕ) (few : k < 1024) (sums : AreHalfSums numbers first second k firsts seconds) (left right left_beyond right_beyond : ℕ)
+module _ (numbers : List ℤ) (first second k firsts seconds : ℕ) (few : k < 2048) (sums : AreHalfSums numbers first second k firsts seconds) (left right left_beyond right_beyond : ℕ)
     (left_above : IsAbove left (number numbers (first + 2 * k))) (right_above : IsAbove right (number numbers (first + 2 * k + 1)))
     (left_beyond_above : IsAbove left_beyond (number numbers (second + 2 * k))) (right_beyond_above : IsAbove right_beyond (number numbers (second + 2 * k + 1))) where
   pub two_pairs_more : AreHalfSums numbers first second (k + 1) (((firsts + left) % 2 ^ 64 + left_beyond) % 2 ^ 64) (((seconds + right) % 2 ^ 64 + right_beyond) % 2 ^ 64)
@@ -120,7 +111,7 @@ module _ (numbers : List ℤ) (first second k firsts seconds : ℕ) (few : k < 1
   }
 
 -- all pairs
-module _ (numbers : List ℤ) (first half firsts seconds : ℕ) (few : half ≤ 1024) (sums : AreHalfSums numbers first (first + 2 * half) half firsts seconds) where
+module _ (numbers : List ℤ) (first half firsts seconds : ℕ) (few : half ≤ 2048) (sums : AreHalfSums numbers first (first + 2 * half) half firsts seconds) where
   abbrev second : ℕ
   second = first + 2 * half
 
@@ -130,29 +121,29 @@ module _ (numbers : List ℤ) (first half firsts seconds : ℕ) (few : half ≤ 
   abbrev pub all_seconds : ℤ
   all_seconds = seconds_of numbers first half +ℤ seconds_of numbers second half
 
-  firsts_near : (place : ℕ) → AreNear numbers place (2 * half) → unsigned_abs (firsts_of numbers place half) ≤ 2 ^ 60
+  firsts_near : (place : ℕ) → AreNear numbers place (2 * half) → unsigned_abs (firsts_of numbers place half) ≤ 2 ^ 59
   firsts_near place near =
-      let so_far = near_sum (λ k. number numbers (place + 2 * k)) (2 ^ 50) half (λ k below. near (2 * k) (omega arith)) in
+      let so_far = near_sum (λ k. number numbers (place + 2 * k)) (2 ^ 48) half (λ k below. near (2 * k) (omega arith)) in
       omega (arith, so_far)
 
-  seconds_near : (place : ℕ) → AreNear numbers place (2 * half) → unsigned_abs (seconds_of numbers place half) ≤ 2 ^ 60
+  seconds_near : (place : ℕ) → AreNear numbers place (2 * half) → unsigned_abs (seconds_of numbers place half) ≤ 2 ^ 59
   seconds_near place near =
       let at : (k : ℕ) → place + (2 * k + 1) ≡ place + 2 * k + 1 = λ k. omega arith in
-      let so_far = near_sum (λ k. number numbers (place + 2 * k + 1)) (2 ^ 50) half (λ k below. subst (λ i. unsigned_abs (number numbers i) ≤ 2 ^ 50) (at k) (near (2 * k + 1) (omega arith))) in
+      let so_far = near_sum (λ k. number numbers (place + 2 * k + 1)) (2 ^ 48) half (λ k below. subst (λ i. unsigned_abs (number numbers i) ≤ 2 ^ 48) (at k) (near (2 * k + 1) (omega arith))) in
       omega (arith, so_far)
 
-  pub all_firsts_near : unsigned_abs all_firsts ≤ 2 ^ 61
+  pub all_firsts_near : unsigned_abs all_firsts ≤ 2 ^ 60
   all_firsts_near =
       omega (arith, sum_near (firsts_of numbers first half) (firsts_of numbers second half), firsts_near first sums.low, firsts_near second sums.high)
 
-  pub all_seconds_near : unsigned_abs all_seconds ≤ 2 ^ 61
+  pub all_seconds_near : unsigned_abs all_seconds ≤ 2 ^ 60
   all_seconds_near =
       omega (arith, sum_near (seconds_of numbers first half) (seconds_of numbers second half), seconds_near first sums.low, seconds_near second sums.high)
 
   pub are_pair_sums : ArePairSums numbers first (2 * half) all_firsts all_seconds
   are_pair_sums =
       let twice : half + half ≡ 2 * half = omega arith in
-      let IsNear : ℕ → Type 0 = λ i. unsigned_abs (number numbers i) ≤ 2 ^ 50 in
+      let IsNear : ℕ → Type 0 = λ i. unsigned_abs (number numbers i) ≤ 2 ^ 48 in
       let left : (k : ℕ) → first + 2 * (half + k) ≡ second + 2 * k = λ k. omega arith in
       let right : (k : ℕ) → first + 2 * (half + k) + 1 ≡ second + 2 * k + 1 = λ k. omega arith in
       record {
@@ -167,4 +158,29 @@ module _ (numbers : List ℤ) (first half firsts seconds : ℕ) (few : half ≤ 
             ∙ ap (λ z. firsts_of numbers first half +ℤ z) (same_sum _ _ half (λ k. ap (number numbers) (left k))));
         seconds_are = sym (ap (seconds_of numbers first) (sym twice) ∙ two_sums (λ k. number numbers (first + 2 * k + 1)) half half
             ∙ ap (λ z. seconds_of numbers first half +ℤ z) (same_sum _ _ half (λ k. ap (number numbers) (right k))));
+      }
+
+-- the pairs of a run and of the one after it
+module _ (numbers : List ℤ) (first pairs : ℕ) (firsts seconds more_firsts more_seconds : ℤ) (low : ArePairSums numbers first pairs firsts seconds)
+    (high : ArePairSums numbers (first + 2 * pairs) pairs more_firsts more_seconds) where
+  pub joined_sums : ArePairSums numbers first (2 * pairs) (firsts +ℤ more_firsts) (seconds +ℤ more_seconds)
+  joined_sums =
+      let twice : pairs + pairs ≡ 2 * pairs = omega arith in
+      let IsNear : ℕ → Type 0 = λ i. unsigned_abs (number numbers i) ≤ 2 ^ 48 in
+      let left : (k : ℕ) → first + 2 * (pairs + k) ≡ first + 2 * pairs + 2 * k = λ k. omega arith in
+      let right : (k : ℕ) → first + 2 * (pairs + k) + 1 ≡ first + 2 * pairs + 2 * k + 1 = λ k. omega arith in
+      record {
+        near = λ k below.
+            ⊎_elim
+            (λ early. low.near k early)
+            (λ late.
+            let place : first + 2 * pairs + (k - 2 * pairs) ≡ first + k = omega arith in
+            subst IsNear place (high.near (k - 2 * pairs) (omega arith)))
+            (cases_lt k (2 * pairs));
+        firsts_are = sym (ap (firsts_of numbers first) (sym twice) ∙ two_sums (λ k. number numbers (first + 2 * k)) pairs pairs
+            ∙ ap (λ z. firsts_of numbers first pairs +ℤ z) (same_sum _ _ pairs (λ k. ap (number numbers) (left k)))
+            ∙ ap (λ z. z +ℤ firsts_of numbers (first + 2 * pairs) pairs) (sym low.firsts_are) ∙ ap (λ z. firsts +ℤ z) (sym high.firsts_are));
+        seconds_are = sym (ap (seconds_of numbers first) (sym twice) ∙ two_sums (λ k. number numbers (first + 2 * k + 1)) pairs pairs
+            ∙ ap (λ z. seconds_of numbers first pairs +ℤ z) (same_sum _ _ pairs (λ k. ap (number numbers) (right k)))
+            ∙ ap (λ z. z +ℤ seconds_of numbers (first + 2 * pairs) pairs) (sym low.seconds_are) ∙ ap (λ z. seconds +ℤ z) (sym high.seconds_are));
       }

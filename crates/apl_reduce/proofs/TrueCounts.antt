@@ -1,6 +1,7 @@
 -- How many truth values are true, of one more and of one run after another.
-use Rattle.std.proofs.Common.{◌≡◌, ℕ, zero, suc, ◌+◌, ◌≤◌, Bool, true, false, List, refl, ap, ◌∙◌, slice_index_or, arith}
-use Rattle.apl_reduce.specs.Ones.{one_of, ones}
+use Rattle.std.proofs.Common.{◌≡◌, ℕ, zero, suc, ◌+◌, ◌≤◌, Bool, true, false, List, [], ◌∷◌, refl, ap, ◌∙◌, slice_index_or, arith}
+use Rattle.apl_walk.specs.Ones.{one_of, ones_before}
+use Rattle.apl_reduce.specs.Ones.{ones}
 
 one_most : (b : Bool) → one_of b ≤ 1
 one_most true = omega arith
@@ -34,3 +35,22 @@ module _ (truths : List Bool) where
       let more = ones_suc (first + m) n in
       let here = ap (λ p. one_of (slice_index_or truths p false)) place in
       ap (ones truths first) next ∙ ones_suc first (m + n) ∙ omega (arith, ones_of_runs first m n, more, here)
+
+-- ---- how many are true before a place
+
+before_none : (truths : List Bool) → ones_before truths 0 ≡ 0
+before_none [] = refl
+before_none (b ∷ truths) = refl
+
+before_more : (truths : List Bool) (i : ℕ) → ones_before truths (suc i) ≡ ones_before truths i + one_of (slice_index_or truths i false)
+before_more [] i = refl
+before_more (b ∷ truths) zero = omega (arith, before_none truths)
+before_more (b ∷ truths) (suc i) = omega (arith, before_more truths i)
+
+pub before_run : (truths : List Bool) (first n : ℕ) → ones_before truths (first + n) ≡ ones_before truths first + ones truths first n
+before_run truths first zero =
+    let same : first + zero ≡ first = omega arith in
+    ap (ones_before truths) same ∙ omega (arith, ones_none truths first)
+before_run truths first (suc n) =
+    let next : first + suc n ≡ suc (first + n) = omega arith in
+    ap (ones_before truths) next ∙ omega (arith, before_more truths (first + n), before_run truths first n, ones_suc truths first n)

@@ -15,7 +15,8 @@ use Rattle.apl_pool.specs.declared.kernel.Fault.{Fault}
 use Rattle.apl_scalar.specs.Scalar.{dyadic_of}
 use Rattle.apl_reduce.specs.Folded.{number_step, folded_onto}
 use Rattle.apl_reduce.specs.Items.{item_in}
-use Rattle.apl_reduce.specs.Ones.{one_of, ones}
+use Rattle.apl_walk.specs.Ones.{one_of}
+use Rattle.apl_reduce.specs.Ones.{ones}
 use Rattle.apl_reduce.specs.TruthFolds.{IsConjunction, IsDisjunction}
 use Rattle.apl_reduce.proofs.BitFolds.{is_low}
 use Rattle.apl_reduce.proofs.Folds.{two_runs}

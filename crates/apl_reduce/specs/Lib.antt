@@ -18,3 +18,4 @@ pub mod Carrying
 pub mod Items
 pub mod Layouts
 pub mod Magnitudes
+pub mod RunProducts

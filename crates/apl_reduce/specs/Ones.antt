@@ -1,9 +1,6 @@
 -- How many truth values are true. No contract of a public function cites this file.
-use Rattle.std.specs.Prelude.{ℕ, zero, suc, ◌+◌, Bool, false, List, if◌then◌else◌, slice_index_or}
-
--- 1 for true, 0 for false
-abbrev pub one_of : Bool → ℕ
-one_of b = if b then 1 else 0
+use Rattle.std.specs.Prelude.{ℕ, zero, suc, ◌+◌, Bool, false, List, slice_index_or}
+use Rattle.apl_walk.specs.Ones.{one_of}
 
 -- how many of `count` neighbours from a place on are true
 unfoldable pub ones : List Bool → (first count : ℕ) → ℕ

@@ -37,6 +37,7 @@ mod quotient;
 mod range;
 mod reducing;
 mod run_folds;
+mod run_products;
 mod shapes;
 mod sharing;
 mod sums;

@@ -13,10 +13,10 @@ returns-in-Err g c =
     let rest = c.loop-rest.rest in
     let start : Result ℤ Fault = Ok (to_z w64 (of_z w64 c.args.total)) in
     let read : to_z w64 (of_z w64 c.args.total) ≡ c.args.total = search rules in
-    let next = rest - 4 * c.min-half.result in
+    let next = rest - 8 * c.min-quarter.result in
     let kept = c.loop-rest.invariant in
     let faulty = c.in-Err.ensures
-    ∙ run_onto f item c.args.first next (2 * (2 * c.min-half.result)) rest c.args.count _ start (omega arith) kept.order kept.total in
+    ∙ run_onto f item c.args.first next (2 * (2 * (2 * c.min-quarter.result))) rest c.args.count _ start (omega arith) kept.order kept.total in
     sym (fault_stays f item c.in-Err.fault c.args.first next (c.args.count - next) c.args.count start (omega (arith, kept.order)) (sym faulty))
     ∙ ap (λ z. folded_onto f item c.args.first c.args.count (Ok z)) read
 
@@ -25,13 +25,13 @@ loop-rest-preserved g c =
     let f = g.F.Function.FUNCTION in
     let item = item_in (map Int c.args.numbers.now) in
     let rest = c.loop-rest.rest in
-    let next = rest - 4 * c.min-half.result in
+    let next = rest - 8 * c.min-quarter.result in
     let kept = c.loop-rest.invariant in
     let stored : to_z w64 (of_z w64 c.in-Ok.number) ≡ c.in-Ok.number = search rules in
     record {
       order = omega (arith, kept.order);
       total = ap (λ (z : ℤ). Ok z) stored ∙ c.in-Ok.ensures
-          ∙ run_onto f item c.args.first next (2 * (2 * c.min-half.result)) rest c.args.count _ (Ok (to_z w64 (of_z w64 c.args.total))) (omega arith) kept.order kept.total;
+          ∙ run_onto f item c.args.first next (2 * (2 * (2 * c.min-quarter.result))) rest c.args.count _ (Ok (to_z w64 (of_z w64 c.args.total))) (omega arith) kept.order kept.total;
     }
 
 pub returns : goal.returns

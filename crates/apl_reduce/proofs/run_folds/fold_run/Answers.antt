@@ -12,9 +12,9 @@ returns-in-None g c =
     let f = g.F.Function.FUNCTION in
     let items = map Int c.args.numbers.now in
     let first = c.args.first in
-    let half = c.args.half in
+    let quarter = c.args.quarter in
     let start : Result ℤ Fault = Ok (to_z w64 (of_z w64 c.args.total)) in
-    let all : 4 * half ≡ 2 * (2 * half) = omega arith in
-    c.fold_items.ensures ∙ by_places f items first (4 * half) start
+    let all : 8 * quarter ≡ 2 * (2 * (2 * quarter)) = omega arith in
+    c.fold_items.ensures ∙ by_places f items first (8 * quarter) start
     ∙ ap (λ n. folded_onto f (item_in items) first n start) all
-    ∙ ap (λ z. folded_onto f (item_in items) first (2 * (2 * half)) (Ok z)) (to_z-of_z w64 c.args.total c.ranges.total)
+    ∙ ap (λ z. folded_onto f (item_in items) first (2 * (2 * (2 * quarter))) (Ok z)) (to_z-of_z w64 c.args.total c.ranges.total)

@@ -12,7 +12,7 @@ pub overflow_add-result : goal.overflow_add-result
 overflow_add-result g c =
     let numbers = c.args.numbers.now in
     let first = c.args.first in
-    let pairs = 2 * c.args.half in
+    let pairs = 2 * (2 * c.args.quarter) in
     let total = c.args.total in
     let a = c.pair_sums-sums.result.firsts in
     let b = c.pair_sums-sums.result.seconds in
@@ -26,7 +26,7 @@ overflow_add-result g c =
     let read_b : to_z w64 (of_z w64 b) ≡ b = to_z-of_z w64 b fits_b in
     let size = simp to_z-of_z at c.unsigned_abs.ensures.value in
     let small : unsigned_abs total < 2 ^ 62 = omega (arith, size, c.if-unsigned_abs-ge-NEAR_TOTAL.false) in
-    let few : pairs ≤ 2048 = omega (arith, c.requires.few) in
+    let few : pairs ≤ 8192 = omega (arith, c.requires.few) in
     let fit = total_firsts_fit numbers first pairs a b sums few total small in
     let read_fit : to_z w64 (of_z w64 (total +ℤ a)) ≡ total +ℤ a = to_z-of_z w64 (total +ℤ a) fit in
     rw (read_total, read_a) fit
@@ -35,7 +35,7 @@ pub overflow_add-result-in-Minus : goal.overflow_add-result-in-Minus
 overflow_add-result-in-Minus g c =
     let numbers = c.args.numbers.now in
     let first = c.args.first in
-    let pairs = 2 * c.args.half in
+    let pairs = 2 * (2 * c.args.quarter) in
     let total = c.args.total in
     let a = c.pair_sums-sums.result.firsts in
     let b = c.pair_sums-sums.result.seconds in
@@ -49,7 +49,7 @@ overflow_add-result-in-Minus g c =
     let read_b : to_z w64 (of_z w64 b) ≡ b = to_z-of_z w64 b fits_b in
     let size = simp to_z-of_z at c.unsigned_abs.ensures.value in
     let small : unsigned_abs total < 2 ^ 62 = omega (arith, size, c.if-unsigned_abs-ge-NEAR_TOTAL.false) in
-    let few : pairs ≤ 2048 = omega (arith, c.requires.few) in
+    let few : pairs ≤ 8192 = omega (arith, c.requires.few) in
     let fit = total_firsts_fit numbers first pairs a b sums few total small in
     let read_fit : to_z w64 (of_z w64 (total +ℤ a)) ≡ total +ℤ a = to_z-of_z w64 (total +ℤ a) fit in
     rw (read_total, read_a) fit
@@ -58,7 +58,7 @@ pub overflow_add-result-in-Plus : goal.overflow_add-result-in-Plus
 overflow_add-result-in-Plus g c =
     let numbers = c.args.numbers.now in
     let first = c.args.first in
-    let pairs = 2 * c.args.half in
+    let pairs = 2 * (2 * c.args.quarter) in
     let total = c.args.total in
     let a = c.pair_sums-sums.result.firsts in
     let b = c.pair_sums-sums.result.seconds in
@@ -72,7 +72,7 @@ overflow_add-result-in-Plus g c =
     let read_b : to_z w64 (of_z w64 b) ≡ b = to_z-of_z w64 b fits_b in
     let size = simp to_z-of_z at c.unsigned_abs.ensures.value in
     let small : unsigned_abs total < 2 ^ 62 = omega (arith, size, c.if-unsigned_abs-ge-NEAR_TOTAL.false) in
-    let few : pairs ≤ 2048 = omega (arith, c.requires.few) in
+    let few : pairs ≤ 8192 = omega (arith, c.requires.few) in
     let fit = total_firsts_fit numbers first pairs a b sums few total small in
     let read_fit : to_z w64 (of_z w64 (total +ℤ a)) ≡ total +ℤ a = to_z-of_z w64 (total +ℤ a) fit in
     rw (read_total, read_a, read_b, read_fit) (sum_fits numbers first pairs a b sums few total small)
@@ -81,7 +81,7 @@ pub overflow_sub-result : goal.overflow_sub-result
 overflow_sub-result g c =
     let numbers = c.args.numbers.now in
     let first = c.args.first in
-    let pairs = 2 * c.args.half in
+    let pairs = 2 * (2 * c.args.quarter) in
     let total = c.args.total in
     let a = c.pair_sums-sums.result.firsts in
     let b = c.pair_sums-sums.result.seconds in
@@ -95,7 +95,7 @@ overflow_sub-result g c =
     let read_b : to_z w64 (of_z w64 b) ≡ b = to_z-of_z w64 b fits_b in
     let size = simp to_z-of_z at c.unsigned_abs.ensures.value in
     let small : unsigned_abs total < 2 ^ 62 = omega (arith, size, c.if-unsigned_abs-ge-NEAR_TOTAL.false) in
-    let few : pairs ≤ 2048 = omega (arith, c.requires.few) in
+    let few : pairs ≤ 8192 = omega (arith, c.requires.few) in
     let fit = total_firsts_fit numbers first pairs a b sums few total small in
     let read_fit : to_z w64 (of_z w64 (total +ℤ a)) ≡ total +ℤ a = to_z-of_z w64 (total +ℤ a) fit in
     rw (read_total, read_a, read_b, read_fit) (difference_fits numbers first pairs a b sums few total small)
@@ -104,7 +104,7 @@ pub returns-in-Plus : goal.returns-in-Plus
 returns-in-Plus g c =
     let numbers = c.args.numbers.now in
     let first = c.args.first in
-    let pairs = 2 * c.args.half in
+    let pairs = 2 * (2 * c.args.quarter) in
     let total = c.args.total in
     let a = c.pair_sums-sums.result.firsts in
     let b = c.pair_sums-sums.result.seconds in
@@ -118,7 +118,7 @@ returns-in-Plus g c =
     let read_b : to_z w64 (of_z w64 b) ≡ b = to_z-of_z w64 b fits_b in
     let size = simp to_z-of_z at c.unsigned_abs.ensures.value in
     let small : unsigned_abs total < 2 ^ 62 = omega (arith, size, c.if-unsigned_abs-ge-NEAR_TOTAL.false) in
-    let few : pairs ≤ 2048 = omega (arith, c.requires.few) in
+    let few : pairs ≤ 8192 = omega (arith, c.requires.few) in
     let fit = total_firsts_fit numbers first pairs a b sums few total small in
     let read_fit : to_z w64 (of_z w64 (total +ℤ a)) ≡ total +ℤ a = to_z-of_z w64 (total +ℤ a) fit in
     let read_sum = to_z-of_z w64 (total +ℤ a +ℤ b) (sum_fits numbers first pairs a b sums few total small) in
@@ -131,7 +131,7 @@ pub returns-in-Minus : goal.returns-in-Minus
 returns-in-Minus g c =
     let numbers = c.args.numbers.now in
     let first = c.args.first in
-    let pairs = 2 * c.args.half in
+    let pairs = 2 * (2 * c.args.quarter) in
     let total = c.args.total in
     let a = c.pair_sums-sums.result.firsts in
     let b = c.pair_sums-sums.result.seconds in
@@ -145,7 +145,7 @@ returns-in-Minus g c =
     let read_b : to_z w64 (of_z w64 b) ≡ b = to_z-of_z w64 b fits_b in
     let size = simp to_z-of_z at c.unsigned_abs.ensures.value in
     let small : unsigned_abs total < 2 ^ 62 = omega (arith, size, c.if-unsigned_abs-ge-NEAR_TOTAL.false) in
-    let few : pairs ≤ 2048 = omega (arith, c.requires.few) in
+    let few : pairs ≤ 8192 = omega (arith, c.requires.few) in
     let fit = total_firsts_fit numbers first pairs a b sums few total small in
     let read_fit : to_z w64 (of_z w64 (total +ℤ a)) ≡ total +ℤ a = to_z-of_z w64 (total +ℤ a) fit in
     let read_difference = to_z-of_z w64 (total +ℤ a -ℤ b) (difference_fits numbers first pairs a b sums few total small) in
