@@ -1,6 +1,6 @@
 -- The elements of an argument by their places.
-use Rattle.std.proofs.Common.{◌≡◌, get_or, pos, ℕ, zero, suc, ◌*◌, ◌/◌, ◌<◌, ◌≤◌, List, [], ◌∷◌, length, refl, ap, arith, ◌%◌, slice_index, ◌∙◌, true, ◌==◌, map, sym}
-use Rattle.std.specs.Prelude.{Some, ◌||◌, slice_index_or}
+use Rattle.std.proofs.Common.{◌≡◌, get_or, pos, ℕ, ℤ, zero, suc, to_z, of_z, w64, ◌*◌, ◌/◌, ◌<◌, ◌≤◌, List, [], ◌∷◌, length, refl, ap, arith, ◌%◌, slice_index, ◌∙◌, true, ◌==◌, map, sym}
+use Rattle.std.specs.Prelude.{Some, ◌||◌, slice_index_or, unsigned_abs}
 use Rattle.std.proofs.Math.Nat.{mul-div_left, div-one, mod-eq_of_lt, mod-lt}
 use Rattle.apl_array.specs.declared.array.Elem.TheVariants.{Int}
 use Rattle.apl_array.specs.Array.{ArrayValue, IsArray, element_at, element_in}
@@ -11,7 +11,9 @@ use Rattle.std.proofs.lemmas.Bool.Decides.{nat_tests}
 use Rattle.std.proofs.Math.ListN.{get_or-map}
 use Rattle.std.proofs.lemmas.List.{nil_from_length, get_or_default}
 use Rattle.apl_array.specs.declared.array.Elem.{Elem}
-use Rattle.apl_array.specs.Axes.{place_number}
+use Rattle.apl_array.specs.declared.axis.Origin.{Origin}
+use Rattle.apl_array.specs.declared.axis.Origin.TheVariants.{Zero, One}
+use Rattle.apl_array.specs.Axes.{origin_number, place_number}
 use Rattle.apl_struct.specs.Building.{reshape_source}
 
 -- ---- an axis of a shape that has elements: `outer` blocks of `m` times `inner` places
@@ -55,6 +57,12 @@ vector_index shape n place is inside =
     let below : place < n = omega (arith, inside, ap count_of is) in
     (below, ap (λ s. slice_index (index_at s place) 0) is ∙ ap (λ p. p % n) (div-one place) ∙ mod-eq_of_lt below)
 
+-- ---- the number of the first index as a count
+
+pub origin_cast : (origin : Origin) (number : ℤ) → number ≡ pos (origin_number origin) → unsigned_abs (to_z w64 (of_z w64 number)) ≡ origin_number origin
+origin_cast Zero number is = rw is refl
+origin_cast One number is = rw is refl
+
 -- ---- at a place
 
 -- the fill is taken at no place of an argument
@@ -75,7 +83,7 @@ own_element back a p array inside =
 pub scalar_element : (b : ArrayValue) (index other : List ℕ) → length b.shape ≡ 0 → element_at b index ≡ element_at b other
 scalar_element b index other none = rw (nil_from_length b.shape none) refl
 
-one_item : {T : Type 0} (xs : List T) (d : T) → length xs ≡ 1 → xs ≡ get_or xs 0 d ∷ []
+pub one_item : {T : Type 0} (xs : List T) (d : T) → length xs ≡ 1 → xs ≡ get_or xs 0 d ∷ []
 one_item [] d one = absurd (omega arith)
 one_item (x ∷ xs) d one = ap (λ l. x ∷ l) (nil_from_length xs (omega arith))
 

@@ -5,6 +5,7 @@ pub mod Joints
 pub mod Passing
 pub mod Rotations
 pub mod Sources
+pub mod OneSlot
 pub mod Replacement
 pub mod Taken
 pub mod Permuted

@@ -46,7 +46,7 @@ place_of_index (n ∷ ns) p some =
 -- ---- one more slot
 
 -- the number that a slot has at its part of an index list
-chosen_number : (s : ArrayValue) (rest : List ℕ) (p : ℕ) → 0 < count_of s.shape
+pub chosen_number : (s : ArrayValue) (rest : List ℕ) (p : ℕ) → 0 < count_of s.shape
     → number_of (element_at s (take (rank_of s) (index_at (s.shape ++ rest) p))) ≡ slice_index_or (numbers_of s) (p / count_of rest % count_of s.shape) (pos 0)
 chosen_number s rest p some =
     let q = p / count_of rest in

@@ -12,5 +12,6 @@ pub mod Along
 pub mod Joined
 pub mod Rotation
 pub mod Selecting
+pub mod Chosen
 pub mod Numbering
 pub mod Shaped

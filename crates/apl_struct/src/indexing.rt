@@ -1,7 +1,8 @@
 //! Elements at chosen indexes.
-ghost use Rattle.std.specs.Prelude.{◌≡◌, ◌≤◌, ◌++◌, true, length, map, option_copied, take, IfOk};
+ghost use Rattle.std.specs.Prelude.{◌≡◌, ◌≤◌, ◌++◌, ◌∷◌, [], true, length, map, option_copied, take, Some, IfOk, IfSome};
 ghost use Rattle.std.specs.List.{list_all};
 ghost use Rattle.apl_array.specs.Axes.{from_origin, is_below};
+ghost use Rattle.apl_answer.specs.Arguments.{rank_of};
 ghost use Rattle.apl_answer.specs.Pointwise.{IsShapeOf};
 ghost use Rattle.apl_answer.specs.Rows.{Answers};
 ghost use Rattle.apl_struct.specs.Indexing.{are_slots_within, selected_shape, selection_checks, select_row};
@@ -9,6 +10,7 @@ ghost use Rattle.apl_struct.specs.Selecting.{IsCheckedResult, IsSelection};
 
 use crate::arguments::TURN;
 use crate::building::empty;
+use crate::chosen::select_of_vector;
 use crate::selecting::{NumberArray, push_slots, selected_walk};
 use apl_answer::OpFault;
 use apl_array::{Array, Origin, Shape, places_match_index_lists};
@@ -141,6 +143,51 @@ pub(crate) fn selection<'a, W: Crew>(
     Ok((judged, shape))
 }
 
+/// The elements that the slots choose, along a walk.
+fn select_along<W: Crew>(
+    workers: &W,
+    a: &Array,
+    slots: &[Option<&Array>],
+    origin: Origin,
+) -> Result<Array, OpFault>
+    ensures { Answers (select_row a.now (map option_copied slots.now) origin) result }
+{
+    let (slots, shape) = selection(workers, a, slots, origin)?;
+    if shape.count() == 0 {
+        return empty(workers, shape, a);
+    }
+    places_match_index_lists();
+    // An array that was asked something is known to be lawful.
+    let _kind = a.kind();
+    let walk = selected_walk(workers.alloc(), a, slots.as_slice(), origin, &shape)?;
+    gather(workers, shape, a, walk)
+}
+
+/// The only slot of a vector, if it is not empty.
+fn slot_of_vector<'a>(a: &Array, slots: &[Option<&'a Array>]) -> Option<&'a Array>
+    ensures { IfSome result (λ slot. (rank_of a.now ≡ 1) × (map option_copied slots.now ≡ Some slot.now ∷ [])) }
+{
+    match slots {
+        [slot] if a.shape().rank() == 1 => *slot,
+        _ => None,
+    }
+}
+
+/// The elements that the slots choose: in one pass by the only slot of a vector, else along a walk.
+fn select_elements<W: Crew>(
+    workers: &W,
+    a: &Array,
+    slots: &[Option<&Array>],
+    origin: Origin,
+) -> Result<Array, OpFault>
+    ensures { Answers (select_row a.now (map option_copied slots.now) origin) result }
+{
+    match slot_of_vector(a, slots) {
+        Some(slot) => select_of_vector(workers, a, slot, origin),
+        None => select_along(workers, a, slots, origin),
+    }
+}
+
 /// `A[I;J]`, indexing: the elements that the slots choose; an empty slot chooses the whole axis.
 /// Shape: those of the slots, one after the other. Kind: that of `A`.
 /// Errors in order: RANK of the number of slots, DOMAIN of their kinds, INDEX, LIMIT.
@@ -156,13 +203,5 @@ pub fn select<R: Threads + Sync, C: Cut + Sync, G: Gate + Sync>(
     ensures { Answers (select_row a.now (map option_copied slots.now) origin) result }
 {
     let workers = Workers { rt, alloc, pool };
-    let (slots, shape) = selection(&workers, a, slots, origin)?;
-    if shape.count() == 0 {
-        return empty(&workers, shape, a);
-    }
-    places_match_index_lists();
-    // An array that was asked something is known to be lawful.
-    let _kind = a.kind();
-    let walk = selected_walk(alloc, a, slots.as_slice(), origin, &shape)?;
-    gather(&workers, shape, a, walk)
+    select_elements(&workers, a, slots, origin)
 }

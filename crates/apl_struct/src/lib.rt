@@ -11,6 +11,7 @@ mod along;
 mod arguments;
 mod bits;
 mod building;
+mod chosen;
 mod compressing;
 mod indexing;
 mod joining;

@@ -1,20 +1,13 @@
-use Rattle.std.proofs.Common.{◌≡◌, ◌+◌, ℤ, pos, to_z, of_z, w64, refl, true, [], ◌∷◌, Ok, map, slice_index, sym, ap, ◌∙◌, rules}
-use Rattle.std.specs.Prelude.{unsigned_abs}
+use Rattle.std.proofs.Common.{◌≡◌, ◌+◌, pos, true, [], ◌∷◌, Ok, map, slice_index, sym, ap, ◌∙◌, rules}
 use Rattle.std.specs.List.{list_all}
-use Rattle.apl_array.specs.declared.axis.Origin.{Origin}
-use Rattle.apl_array.specs.declared.axis.Origin.TheVariants.{Zero, One}
 use Rattle.apl_array.specs.declared.array.Elem.TheVariants.{Int}
 use Rattle.apl_array.specs.Axes.{origin_number, place_number}
 use Rattle.apl_array.specs.Shape.{is_shape}
 use Rattle.apl_answer.specs.Arguments.{has_one_element, is_list, is_natural, number_of, numbers_of, only_element, size_of}
 use Rattle.apl_struct.specs.Building.{iota_row}
-use Rattle.apl_struct.proofs.Elements.{only_number, vector_index}
+use Rattle.apl_struct.proofs.Elements.{only_number, origin_cast, vector_index}
 use Rattle.apl_struct.proofs.Passing.{answered}
 use Rattle.apl_struct.proofs.building.iota.Goals as goal
-
-origin_cast : (origin : Origin) (number : ℤ) → number ≡ pos (origin_number origin) → unsigned_abs (to_z w64 (of_z w64 number)) ≡ origin_number origin
-origin_cast Zero number is = rw is refl
-origin_cast One number is = rw is refl
 
 pub returns : goal.returns
 returns g c =

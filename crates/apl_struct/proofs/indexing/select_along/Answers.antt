@@ -4,7 +4,7 @@ use Rattle.apl_array.specs.Array.{element_at}
 use Rattle.apl_struct.specs.Indexing.{Slots, select_source, selected_shape}
 use Rattle.apl_struct.specs.Selecting.{chosen_index}
 use Rattle.apl_struct.proofs.Elements.{filled_within}
-use Rattle.apl_struct.proofs.indexing.select.Goals as goal
+use Rattle.apl_struct.proofs.indexing.select_along.Goals as goal
 
 pub returns-then-count-eq0 : goal.returns-then-count-eq0
 returns-then-count-eq0 g c =

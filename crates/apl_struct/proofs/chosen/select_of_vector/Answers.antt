@@ -1,0 +1,21 @@
+use Rattle.std.proofs.Common.{◌≡◌, pos, slice_index, slice_index_or, sym, subst, ◌∙◌, [], ◌∷◌}
+use Rattle.apl_array.specs.Axes.{from_origin}
+use Rattle.apl_answer.specs.Arguments.{numbers_of}
+use Rattle.apl_answer.specs.Pointwise.{IsAnswerAt}
+use Rattle.apl_struct.specs.Chosen.{chosen_value}
+use Rattle.apl_struct.proofs.OneSlot.{one_slot}
+use Rattle.apl_struct.proofs.Elements.{one_item}
+use Rattle.apl_struct.proofs.chosen.select_of_vector.Goals as goal
+
+pub returns : goal.returns
+returns g c =
+    let a = c.args.a.now in
+    let s = c.args.slot.now in
+    let result = c.chosen_elements.result in
+    let vector : a.shape ≡ slice_index a.shape 0 ∷ [] = one_item a.shape 0 c.requires in
+    let shape : c.in_ok-shape.shape ≡ s.shape = c.in_ok-shape.ensures.shape ∙ c.lengths.ensures.lengths ∙ c.shape.ensures.shape in
+    let numbers : numbers_of s ≡ c.as_slice.result.now = c.in_ok-numbers.ensures.numbers.1 ∙ sym c.as_slice.ensures in
+    one_slot c.args.origin a s (slice_index a.shape 0) c.kind-kind.ensures.lawful c.in_ok-numbers.ensures.lawful vector result c.in_ok-numbers.ensures.numbers.0
+    (rw shape at c.in_ok-shape.ensures.test)
+    (subst (λ lengths. IsAnswerAt lengths a.kind (λ place. chosen_value a.ravel (from_origin c.args.origin (slice_index_or (numbers_of s) place (pos 0)))) result) shape
+    (rw numbers c.chosen_elements.ensures))
