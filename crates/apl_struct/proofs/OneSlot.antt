@@ -1,5 +1,5 @@
 -- The answer of one slot at a vector, by the values at its numbers.
-use Rattle.std.proofs.Common.{◌≡◌, ◌∙◌, ℕ, ℤ, pos, negsuc, ◌+◌, ◌*◌, ◌/◌, ◌%◌, ◌<◌, true, false, List, [], ◌∷◌, ◌++◌, length, map, take, Option, Some, None, Ok, Err, slice_index_or, refl, ap, sym, subst, ⊎_elim, arith}
+use Rattle.std.proofs.Common.{◌≡◌, ◌∙◌, ℕ, ℤ, pos, negsuc, ◌+◌, ◌*◌, ◌%◌, ◌<◌, true, false, List, [], ◌∷◌, ◌++◌, length, map, take, Option, Some, None, Ok, Err, slice_index_or, refl, ap, sym, subst, ⊎_elim, arith}
 use Rattle.std.specs.Prelude.{Bool, Result, ◌==◌, ◌&&◌, option_map}
 use Rattle.std.specs.List.{list_all, range_with_len}
 use Rattle.std.proofs.Math.Nat.{div-one, mod-eq_of_lt}
@@ -12,7 +12,7 @@ use Rattle.std.proofs.lemmas.List.Sums.{AllPass-from_list_all}
 use Rattle.apl_array.specs.declared.array.Elem.{Elem}
 use Rattle.apl_array.specs.declared.array.Elem.TheVariants.{Int}
 use Rattle.apl_array.specs.declared.axis.Origin.{Origin}
-use Rattle.apl_array.specs.Axes.{from_origin, place_number, is_below}
+use Rattle.apl_array.specs.Axes.{from_origin, origin_number, place_number, is_below}
 use Rattle.apl_array.specs.Array.{ArrayValue, IsArray, element_at, element_in}
 use Rattle.apl_array.specs.Shape.{is_shape, count_of, place_of, index_at}
 use Rattle.apl_pool.specs.declared.kernel.Fault.TheVariants.{Index as IndexFault}
@@ -20,10 +20,10 @@ use Rattle.apl_answer.specs.declared.fault.OpFault.{OpFault}
 use Rattle.apl_answer.specs.declared.fault.OpFault.TheVariants.{Rank, Domain, Index, Limit}
 use Rattle.apl_answer.specs.Arguments.{is_numbers, number_of, numbers_of, rank_of}
 use Rattle.apl_answer.specs.Elements.{element_outcome}
-use Rattle.apl_answer.specs.Pointwise.{answer_of, and_first, collect_outcomes, index_lists, shaped, IsAnswerAt, IsAnswerOf}
+use Rattle.apl_answer.specs.Pointwise.{collect_outcomes, index_lists, shaped, IsAnswerAt, IsAnswerOf}
 use Rattle.apl_answer.specs.Rows.{Answers, Check, first_failure_or}
-use Rattle.apl_struct.specs.Chosen.{value_or_fault, chosen_value}
-use Rattle.apl_struct.specs.Indexing.{Slots, are_slots_within, is_slot_of_numbers, select_row, select_source, selected_shape, selection_checks}
+use Rattle.apl_struct.specs.Chosen.{value_or_fault, chosen_value, chosen_at}
+use Rattle.apl_struct.specs.Indexing.{Slots, are_slots_within, is_slot_of_numbers, select_row, select_source, selected_shape}
 use Rattle.apl_struct.proofs.Passing.{answered}
 use Rattle.apl_struct.proofs.Sources.{chosen_number}
 
@@ -106,10 +106,10 @@ module _ (origin : Origin) (a s : ArrayValue) (n : ℕ) (array : IsArray a) (slo
       ap (λ shape. are_slots_within origin shape (Some s ∷ [])) vector ∙ both (list_all (λ number. is_below n (from_origin origin number)) (numbers_of s))
 
   module _ (result : Result ArrayValue OpFault) (numbers : is_numbers s ≡ true) (lawful : is_shape s.shape ≡ true)
-      (is : IsAnswerAt s.shape a.kind (λ place. chosen_value a.ravel (from_origin origin (slice_index_or (numbers_of s) place (pos 0)))) result) where
-    given : IsAnswerAt (s.shape ++ []) a.kind (λ place. chosen_value a.ravel (from_origin origin (slice_index_or (numbers_of s) place (pos 0)))) result
+      (is : IsAnswerAt s.shape a.kind (chosen_at a.ravel (numbers_of s) (origin_number origin)) result) where
+    given : IsAnswerAt (s.shape ++ []) a.kind (chosen_at a.ravel (numbers_of s) (origin_number origin)) result
     given =
-        subst (λ shape. IsAnswerAt shape a.kind (λ place. chosen_value a.ravel (from_origin origin (slice_index_or (numbers_of s) place (pos 0)))) result)
+        subst (λ shape. IsAnswerAt shape a.kind (chosen_at a.ravel (numbers_of s) (origin_number origin)) result)
         (sym (append-nil s.shape)) is
 
     -- each number is an index

@@ -1,19 +1,19 @@
 //! The elements of a vector at the indexes of one slot. One pass judges each index and takes its element.
-ghost use Rattle.std.specs.Prelude.{◌≡◌, ℕ, ◌+◌, ◌<◌, ◌≤◌, ◌-ℤ◌, ◌∷◌, [], pos, true, Some, IfOk, length, map, slice_index_or, nat_lt};
-ghost use Rattle.apl_array.specs.Axes.{from_origin, is_below};
+ghost use Rattle.std.specs.Prelude.{◌≡◌, ℕ, ◌+◌, ◌<◌, ◌≤◌, ◌-ℤ◌, ◌∷◌, [], pos, Some, length, map, nat_lt};
+ghost use Rattle.apl_array.specs.Axes.{is_below, origin_number};
 ghost use Rattle.apl_array.specs.Shape.{count_of};
 ghost use Rattle.apl_answer.specs.Arguments.{rank_of};
 ghost use Rattle.apl_answer.specs.Pointwise.{IsAnswerAt};
 ghost use Rattle.apl_answer.specs.Rows.{Answers};
 ghost use Rattle.apl_pool.specs.declared.kernel.TheConstants.{MOST_PLACES};
 ghost use Rattle.apl_pool.specs.Runs.{AreWritten};
-ghost use Rattle.apl_struct.specs.Chosen.{chosen_value};
+ghost use Rattle.apl_struct.specs.Chosen.{chosen_at};
 ghost use Rattle.apl_struct.specs.Indexing.{select_row};
 
 use crate::arguments::{TURN, numbers_among};
 use crate::building::lawful_shape;
 use apl_answer::{ElementType, OpFault, fill_array};
-use apl_array::{Array, Elements, Origin, Shape, places_match_index_lists};
+use apl_array::{Array, Elements, Origin, Shape};
 use apl_pool::{Crew, Fault, Kernel};
 
 /// How far a number is above that of the first index, modulo 2^64. So a number below the first is farther than each index.
@@ -42,7 +42,7 @@ impl Indexes<'_> {
     fn element<T: Copy>(self, elements: &[T], place: usize) -> Result<T, Fault>
         requires place { place < length self.numbers.now }
         requires most { length elements.now ≤ MOST_PLACES }
-        ensures { result ≡ chosen_value elements.now (slice_index_or self.entry.numbers.now place (pos 0) -ℤ pos self.entry.first) }
+        ensures { result ≡ chosen_at elements.now self.entry.numbers.now self.entry.first place }
     {
         let index = above_first(self.numbers[place], self.first);
         if index < elements.len() as u64 {
@@ -67,10 +67,10 @@ impl Indexes<'_> {
         requires few { length self.numbers.now ≤ MOST_PLACES }
         requires most { length elements.now ≤ MOST_PLACES }
         requires room { done + count ≤ length room.old }
-        requires before { AreWritten (λ place. chosen_value elements.now (slice_index_or self.numbers.now place (pos 0) -ℤ pos self.first)) from (from + done) room.old }
+        requires before { AreWritten (chosen_at elements.now self.numbers.now self.first) from (from + done) room.old }
         ensures order { from ≤ result }
         ensures within { result ≤ from + done + count }
-        ensures values { AreWritten (λ place. chosen_value elements.now (slice_index_or self.entry.numbers.now place (pos 0) -ℤ pos self.entry.first)) from result room.new }
+        ensures values { AreWritten (chosen_at elements.now self.entry.numbers.now self.entry.first) from result room.new }
         ensures len { length room.new ≡ length room.old }
     {
         for offset in 0..count {
@@ -83,7 +83,7 @@ impl Indexes<'_> {
         from + done + count
     }
 
-    /// Writes elements into the room for the places from `from` on, some in a turn. It answers the place of the first number that is no
+    /// Writes elements into the room for the places from `from` on, several in a turn. It answers the place of the first number that is no
     /// index, or where the places end.
     #[inline(always)]
     fn write_before_fault<T: Copy>(
@@ -99,7 +99,7 @@ impl Indexes<'_> {
         requires room { count ≤ length room.old }
         ensures order { from ≤ result }
         ensures within { result ≤ from + count }
-        ensures values { AreWritten (λ place. chosen_value elements.now (slice_index_or self.entry.numbers.now place (pos 0) -ℤ pos self.entry.first)) from result room.new }
+        ensures values { AreWritten (chosen_at elements.now self.entry.numbers.now self.entry.first) from result room.new }
         ensures len { length room.new ≡ length room.old }
     {
         for turn in 0..count / TURN {
@@ -123,14 +123,14 @@ struct ElementsAt<'a, T> {
 }
 
 impl<T: ElementType> Kernel for ElementsAt<'_, T> {
-    ghost use Rattle.std.specs.Prelude.{◌-ℤ◌, pos, length, slice_index_or};
-    ghost use Rattle.apl_struct.specs.Chosen.{chosen_value};
+    ghost use Rattle.std.specs.Prelude.{length};
+    ghost use Rattle.apl_struct.specs.Chosen.{chosen_at};
 
     type Out = T;
 
     ghost place_count = { λ k. length k.indexes.numbers.now };
 
-    ghost outcome = { λ k place. chosen_value k.elements.now (slice_index_or k.indexes.numbers.now place (pos 0) -ℤ pos k.indexes.first) };
+    ghost outcome = { λ k. chosen_at k.elements.now k.indexes.numbers.now k.indexes.first };
 
     fn count(&self) -> usize {
         self.indexes.numbers.len()
@@ -160,7 +160,7 @@ fn gather_chosen<'a, T: ElementType + Send + Sync, W: Crew>(
     requires kind { a.now.kind ≡ T.kind }
     requires ravel { a.now.ravel ≡ map T.elem_of elements.now }
     requires count { length numbers.now ≡ count_of shape }
-    ensures { IsAnswerAt shape a.now.kind (λ place. chosen_value a.now.ravel (from_origin origin (slice_index_or numbers.now place (pos 0)))) result }
+    ensures { IsAnswerAt shape a.now.kind (chosen_at a.now.ravel numbers.now (origin_number origin)) result }
 {
     // An array or a shape that was asked something is known to be lawful.
     let _sizes = (a.shape().count(), shape.count());
@@ -179,7 +179,7 @@ fn chosen_elements<W: Crew>(
     origin: Origin,
 ) -> Result<Array, OpFault>
     requires { length numbers.now ≡ count_of shape }
-    ensures { IsAnswerAt shape a.now.kind (λ place. chosen_value a.now.ravel (from_origin origin (slice_index_or numbers.now place (pos 0)))) result }
+    ensures { IsAnswerAt shape a.now.kind (chosen_at a.now.ravel numbers.now (origin_number origin)) result }
 {
     match a.elements() {
         Elements::Numbers(elements) => {
@@ -202,7 +202,6 @@ pub(crate) fn select_of_vector<W: Crew>(
     requires { rank_of a.now ≡ 1 }
     ensures { Answers (select_row a.now (Some slot.now ∷ []) origin) result }
 {
-    places_match_index_lists();
     // An array that was asked something is known to be lawful.
     let _kind = a.kind();
     let numbers = numbers_among(workers, slot)?;

@@ -1,8 +1,8 @@
-use Rattle.std.proofs.Common.{◌≡◌, pos, slice_index, slice_index_or, sym, subst, ◌∙◌, [], ◌∷◌}
-use Rattle.apl_array.specs.Axes.{from_origin}
+use Rattle.std.proofs.Common.{◌≡◌, slice_index, sym, subst, ◌∙◌, [], ◌∷◌}
+use Rattle.apl_array.specs.Axes.{origin_number}
 use Rattle.apl_answer.specs.Arguments.{numbers_of}
 use Rattle.apl_answer.specs.Pointwise.{IsAnswerAt}
-use Rattle.apl_struct.specs.Chosen.{chosen_value}
+use Rattle.apl_struct.specs.Chosen.{chosen_at}
 use Rattle.apl_struct.proofs.OneSlot.{one_slot}
 use Rattle.apl_struct.proofs.Elements.{one_item}
 use Rattle.apl_struct.proofs.chosen.select_of_vector.Goals as goal
@@ -17,5 +17,5 @@ returns g c =
     let numbers : numbers_of s ≡ c.as_slice.result.now = c.in_ok-numbers.ensures.numbers.1 ∙ sym c.as_slice.ensures in
     one_slot c.args.origin a s (slice_index a.shape 0) c.kind-kind.ensures.lawful c.in_ok-numbers.ensures.lawful vector result c.in_ok-numbers.ensures.numbers.0
     (rw shape at c.in_ok-shape.ensures.test)
-    (subst (λ lengths. IsAnswerAt lengths a.kind (λ place. chosen_value a.ravel (from_origin c.args.origin (slice_index_or (numbers_of s) place (pos 0)))) result) shape
+    (subst (λ lengths. IsAnswerAt lengths a.kind (chosen_at a.ravel (numbers_of s) (origin_number c.args.origin)) result) shape
     (rw numbers c.chosen_elements.ensures))

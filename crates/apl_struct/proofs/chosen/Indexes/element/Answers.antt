@@ -1,4 +1,4 @@
-use Rattle.std.proofs.Common.{◌≡◌, ◌-ℤ◌, pos, false, length, nat_lt, slice_index_or, to_z, of_z, w64, sym, ◌∙◌, rules}
+use Rattle.std.proofs.Common.{◌≡◌, ◌-ℤ◌, pos, length, nat_lt, slice_index_or, to_z, of_z, w64, sym, ◌∙◌, rules}
 use Rattle.std.proofs.lemmas.Bool.{le-ltb}
 use Rattle.apl_array.specs.Axes.{is_below}
 use Rattle.apl_struct.proofs.OneSlot.{chosen_past}
