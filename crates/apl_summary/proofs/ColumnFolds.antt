@@ -58,7 +58,7 @@ column_and_next numbers first inner (suc n) =
     ap (λ p. slice_index_or numbers first (pos 0) ∷ (column numbers (first + inner) inner n ++ slice_index_or numbers p (pos 0) ∷ [])) here
     ∙ ap (λ l. slice_index_or numbers first (pos 0) ∷ l) (column_and_next numbers (first + inner) inner n)
 
-row_of : (inner row c : ℕ) → c < inner → (row * inner + c) / inner ≡ row
+pub row_of : (inner row c : ℕ) → c < inner → (row * inner + c) / inner ≡ row
 row_of inner row c inside = div-eq_of_lt-le inner (omega arith) (omega (arith, inside))
 
 first_of_column : (numbers : List ℤ) (items inner row c : ℕ) → c < inner → row % items ≡ 0 → column_before numbers items inner (row * inner + c) ≡ []
@@ -66,7 +66,7 @@ first_of_column numbers items inner row c inside first =
     ap (λ q. column numbers (row * inner + c - q % items * inner) inner (q % items)) (row_of inner row c inside)
     ∙ ap (λ r. column numbers (row * inner + c - r * inner) inner r) first
 
-next_in_block : (items row : ℕ) → 0 < items → ((row + 1) % items ≡ 0 → ⊥) → (row + 1) % items ≡ row % items + 1
+pub next_in_block : (items row : ℕ) → 0 < items → ((row + 1) % items ≡ 0 → ⊥) → (row + 1) % items ≡ row % items + 1
 next_in_block items row some inside =
     let parts = div-add-mod' row items in
     let all = div-add-mod' (row + 1) items in
@@ -80,7 +80,7 @@ next_in_block items row some inside =
     absurd (inside (omega (arith, all, ap (λ n. n * items) block, parts, last, below))))
     (cases_lt (row % items + 1) items)
 
-next_of_column : (numbers : List ℤ) (items inner row c : ℕ) → c < inner → 0 < items → ((row + 1) % items ≡ 0 → ⊥)
+pub next_of_column : (numbers : List ℤ) (items inner row c : ℕ) → c < inner → 0 < items → ((row + 1) % items ≡ 0 → ⊥)
     → column_before numbers items inner (row * inner + c) ++ slice_index_or numbers (row * inner + c) (pos 0) ∷ [] ≡ column_before numbers items inner ((row + 1) * inner + c)
 next_of_column numbers items inner row c inside some later =
     let done = row % items in

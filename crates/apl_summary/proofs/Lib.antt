@@ -15,3 +15,4 @@ pub mod FrontNumbers
 pub mod ColumnFolds
 pub mod Fronts
 pub mod BitRuns
+pub mod NearTotals

@@ -11,3 +11,4 @@ pub mod ConsecutiveSums
 pub mod Running
 pub mod Fronts
 pub mod Columns
+pub mod NearTotals

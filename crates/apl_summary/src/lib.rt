@@ -15,6 +15,7 @@ mod extreme;
 mod extremum;
 mod folded_rows;
 mod folding;
+mod near_columns;
 mod range;
 mod running;
 mod running_bits;

@@ -4,6 +4,7 @@ ghost use Rattle.apl_summary.specs.Constants.{AreConstants};
 
 use crate::bounded_sum::{BoundedSum, append_sums, put_sums_behind};
 use crate::constants::Constants;
+use crate::near_columns::append_near_columns;
 use crate::running::Running;
 use crate::running_columns::append_columns_after;
 use crate::running_sum::RunningSum;
@@ -84,6 +85,12 @@ impl<const MINUS: u8> Running for SignedSum<MINUS> {
         inner: usize,
         values: Vec<i64>,
     ) -> Result<Vec<i64>, AllocError> {
+        let near = append_near_columns::<MINUS>(numbers, items, inner, values);
+        let mut values = near.values;
+        if near.are_near {
+            return Ok(values);
+        }
+        values.clear();
         let front = BoundedSum::<MINUS>::none();
         let mut values = append_columns_after(front, alloc, numbers, items, inner, values)?;
         if values.len() == numbers.len() {
