@@ -1,5 +1,5 @@
 //! Sums and differences along columns of numbers near 0. An array has so few places that no total of them leaves the range.
-ghost use Rattle.std.specs.Prelude.{◌≡◌, ◌+◌, ◌^◌, ◌<◌, ◌≤◌, ℕ, ℤ, List, pos, ◌+ℤ◌, Bool, true, nat_eq, length, vec_len, vec_capacity};
+ghost use Rattle.std.specs.Prelude.{◌≡◌, ◌+◌, ◌*◌, ◌/◌, ◌^◌, ◌<◌, ◌≤◌, ℕ, ℤ, List, pos, ◌+ℤ◌, Bool, true, nat_eq, length, vec_len, vec_capacity};
 ghost use Rattle.apl_pool.specs.Summaries.{IsI64};
 ghost use Rattle.apl_pool.specs.declared.kernel.TheConstants.{MOST_PLACES};
 ghost use Rattle.apl_scalar.specs.Scalar.{dyadic_numbers};
@@ -128,6 +128,7 @@ pub fn append_near_columns<const MINUS: u8>(
     requires empty { vec_len values ≡ 0 }
     requires room { length numbers.now ≤ vec_capacity values }
     ensures most { vec_len result.values ≤ length numbers.now }
+    ensures all { result.are_near ≡ true → vec_len result.values ≡ length numbers.now / inner * inner }
     ensures folds { result.are_near ≡ true
         → AreColumnFolds (dyadic_numbers (signed_function (nat_eq MINUS 0)))
         numbers.now items inner (vec_len result.values) result.values.items }
