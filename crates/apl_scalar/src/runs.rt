@@ -7,8 +7,8 @@ ghost use Rattle.apl_scalar.specs.Scalar.{truth_outcome};
 use crate::held::Held;
 use apl_pool::Fault;
 
-/// The most places of a run.
-const LONGEST_RUN: usize = 4096;
+/// The most places of a run. As many are one stretch of a worker who is alone.
+const LONGEST_RUN: usize = 32_768;
 
 /// The results of a scalar function at places. They are passed by value, so that a loop that writes reads no pointer anew.
 pub trait Results: Copy {
