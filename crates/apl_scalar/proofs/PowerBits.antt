@@ -42,7 +42,7 @@ next_power (negsuc a) n (suc zero) most =
     ap (λ z. z *ℤ neg_ℤ (pos (suc a ^ 1))) (square_of_signed (n % 2 == 0) m) ∙ times_negative (m * m) (suc a ^ 1) ∙ rw (odd_after_twice n) (ap (λ p. neg_ℤ (pos p)) (whole (suc a) n 1))
 next_power (negsuc a) n (suc (suc bit)) most = absurd (omega (arith, most))
 
-no_power : (x : ℤ) → int_pow x 0 ≡ pos 1
+pub no_power : (x : ℤ) → int_pow x 0 ≡ pos 1
 no_power (pos a) = ap pos (pow-zero a)
 no_power (negsuc a) = ap pos (pow-zero (suc a))
 

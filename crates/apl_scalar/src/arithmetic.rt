@@ -121,8 +121,25 @@ fn likely_next_power(x: i64, root: i64, bit: u64) -> (i64, u64)
     (next, above_least_half(square))
 }
 
+/// As `likely_next_power`, but a square that no factor follows may have more than 32 bits. Beside it is 0 then. All are computed before one is
+/// chosen, so that there is no branch.
+#[inline(always)]
+fn likely_last_power(x: i64, root: i64, bit: u64) -> (i64, u64)
+    requires { bit ≤ 1 }
+    ensures { (n : ℕ) → root ≡ int_pow x n → FitsSigned w32 x → FitsSigned w32 root → result.1 < 2 ^ 32 → exact (int_pow x (n + n + bit)) ≡ Ok result.0 }
+{
+    let square = half_product(root, root);
+    let product = half_product(square, x);
+    let above = above_least_half(square);
+    if bit == 0 {
+        (square, 0)
+    } else {
+        (product, above)
+    }
+}
+
 /// `x` to the power `y` by the three bits of an exponent below 8, and doubts if it has others or a factor has more than 32 bits. It has no
-/// branches. Squares and cubes, the most common powers, come so up to a base of 46340.
+/// branches. So come squares of all bases of 32 bits, and cubes up to a base of 46340.
 #[inline(always)]
 pub(crate) fn likely_power(x: i64, y: i64) -> (i64, u64)
     ensures { result.1 ≡ 0 → power x y ≡ Ok result.0 }
@@ -130,7 +147,7 @@ pub(crate) fn likely_power(x: i64, y: i64) -> (i64, u64)
     let exponent = y.cast_unsigned();
     let first = power_of_bit(x, exponent / 4 % 2);
     let (root, above_first) = likely_next_power(x, first, exponent / 2 % 2);
-    let (value, above_root) = likely_next_power(x, root, exponent % 2);
+    let (value, above_root) = likely_last_power(x, root, exponent % 2);
     let farther = above_least_half(x) | above_least_half(root) | above_first | above_root;
     (value, farther >> 32 | exponent / 8)
 }

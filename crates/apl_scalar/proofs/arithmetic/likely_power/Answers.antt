@@ -13,11 +13,11 @@ returns c = λ none.
     let exponent = c.cast_unsigned-exponent.result in
     let first = c.power_of_bit-first.result in
     let root = c.likely_next_power-root.result.0 in
-    let value = c.likely_next_power-value.result.0 in
+    let value = c.likely_last_power-value.result.0 in
     let above_x = c.above_least_half.result in
     let above_root = c.above_least_half-2.result in
     let some = c.likely_next_power-root.result.1 in
-    let more = c.likely_next_power-value.result.1 in
+    let more = c.likely_last_power-value.result.1 in
     let two = bit_or above_x above_root in
     let three = bit_or two some in
     let farther = bit_or three more in
@@ -38,6 +38,6 @@ returns c = λ none.
     let first_narrow : FitsSigned w32 (to_z w64 (of_z w64 first)) = rw first_is (narrow_power (to_z w64 (of_z w64 x)) (exponent / 4 % 2) (omega arith) x_narrow) in
     let root_is = exact_is (int_pow (to_z w64 (of_z w64 x)) half) root
     (c.likely_next_power-root.ensures (exponent / 4 % 2) first_is x_narrow first_narrow (omega (arith, three_small, le_or_r two some))) in
-    let value_is = c.likely_next_power-value.ensures half (root_stored ∙ sym root_is) x_narrow root_narrow (omega (arith, all, le_or_r three more)) in
+    let value_is = c.likely_last_power-value.ensures half (root_stored ∙ sym root_is) x_narrow root_narrow (omega (arith, all, le_or_r three more)) in
     let whole : exponent ≡ half + half + exponent % 2 = omega (arith, small) in
     ap (power x) y_is ∙ natural_power x exponent ∙ ap (λ n. exact (int_pow x n)) whole ∙ ap (λ z. exact (int_pow z (half + half + exponent % 2))) (sym x_is) ∙ value_is ∙ ap Ok (sym value_stored)
