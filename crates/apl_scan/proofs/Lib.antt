@@ -11,3 +11,5 @@ pub mod RunningSums
 pub mod TruthLines
 pub mod TruthScans
 pub mod TruthSums
+pub mod ParityWords
+pub mod RunningParities

@@ -12,13 +12,14 @@ mod chunks;
 mod columns;
 mod laws;
 mod lines;
+mod parities;
 mod running;
 mod running_sums;
 mod scanning;
 mod summarized;
 mod truth_lines;
 mod truth_scans;
-mod truth_states;
+mod truth_sums;
 
 pub use laws::scanned_answers_are_within_limits;
 pub use running_sums::consecutive_sums_decide;

@@ -11,7 +11,7 @@ ghost use Rattle.apl_reduce.specs.Folding.{reduction};
 ghost use Rattle.apl_scan.specs.Scanning.{items_up_to, scanned, scan_row};
 
 use crate::lines::{AxisLines, fill_scans};
-use crate::truth_scans::{scan_to_numbers, scan_to_truths};
+use crate::truth_scans::{TruthScan, scan_lines};
 use apl_answer::{OpFault, array_from_fill, array_of_elements, constant_array, numbers_of};
 use apl_array::{
     Array, Axis, Elements, ScalarFunction, Shape, places_match_index_lists,
@@ -42,8 +42,8 @@ fn scan_numbers<W: Crew>(
     array_from_fill(shape, fill_scans(workers, f, &lines))
 }
 
-/// The scan of truth values along axis `k`, of two and more items. Along the last axis they are scanned as they are, if they can be. Else the
-/// numbers that they are are scanned.
+/// The scan of truth values along axis `k`, of two and more items. Along the last axis they are scanned as they are, if they can be. Else
+/// the numbers that they are are scanned.
 fn scan_truths<W: Crew>(
     workers: &W,
     f: ScalarFunction,
@@ -62,11 +62,14 @@ fn scan_truths<W: Crew>(
     split_index_has_place();
     if b.shape().inner(k) == 1 {
         let items = b.shape().axis(k);
-        if let Some(values) = scan_to_truths(workers, f, truths, items)? {
-            return array_from_fill(b.shape().copy(workers.alloc())?, Ok(values));
-        }
-        if let Some(values) = scan_to_numbers(workers, f, truths, items)? {
-            return array_from_fill(b.shape().copy(workers.alloc())?, Ok(values));
+        match scan_lines(workers, f, truths, items)? {
+            Some(TruthScan::Truths(values)) => {
+                return array_from_fill(b.shape().copy(workers.alloc())?, Ok(values));
+            }
+            Some(TruthScan::Numbers(values)) => {
+                return array_from_fill(b.shape().copy(workers.alloc())?, Ok(values));
+            }
+            None => {}
         }
     }
     let Some(numbers) = numbers_of(workers, b)? else {

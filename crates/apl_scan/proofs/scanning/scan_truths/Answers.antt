@@ -50,26 +50,23 @@ are_lines g c =
       whole = rw neighbours at whole;
     }
 
-pub scan_to_truths-requires-clause-lines : goal.scan_to_truths-requires-clause-lines
-scan_to_truths-requires-clause-lines g c = λ κs lives. (are_lines g c).whole
+pub scan_lines-requires-clause-lines : goal.scan_lines-requires-clause-lines
+scan_lines-requires-clause-lines g c = λ κs lives. (are_lines g c).whole
 
-pub scan_to_numbers-requires-clause-lines : goal.scan_to_numbers-requires-clause-lines
-scan_to_numbers-requires-clause-lines g c = λ κs lives. (are_lines g (goal.at.scan_to_numbers-requires-clause-lines g c).After-axis-items).whole
-
-pub returns-in-Some : goal.returns-in-Some
-returns-in-Some g c =
-    let lines = are_lines g (goal.at.returns-in-Some g c).After-axis-items in
+pub returns-in-Some-Truths : goal.returns-in-Some-Truths
+returns-in-Some-Truths g c =
+    let lines = are_lines g (goal.at.returns-in-Some-Truths g c).After-axis-items in
     let b = c.args.b.now in
     let k = c.args.k in
     let f = c.args.f in
     let truths = c.args.truths.now in
     let items = c.axis-items.result in
-    let values = c.in-Some.values in
-    let folds : AreTruthScans f truths items (map bit values.items) = rw c.in-Some.is at c.in_ok-values.ensures in
+    let values = c.in-Some-Truths.values in
+    let folds : AreTruthScans f truths items (map bit values.items) = rw c.in-Some-Truths.field-0-is at (rw c.in-Some-Truths.is at c.in_ok-values.ensures) in
     let at_place : ℕ → Result ℤ Fault = scan_at (dyadic_numbers f) (map bit truths) items 1 in
     let truth_at : ℕ → Result Bool Fault = λ place. truth_outcome (at_place place) in
     let outcome = λ (index : List ℕ). reduction f (items_up_to b k index) in
-    let shape : c.in_ok-copy.field-0 ≡ b.shape = search rules in
+    let shape : c.in_ok-copy-in-Some-Truths.field-0 ≡ b.shape = search rules in
     let ravel : b.ravel ≡ map Int (map bit truths) = c.requires.truths ∙ sym (map-map Int bit truths) in
     let outcomes = outcomes_along c.replaced_index_has_place.ensures.place c.split_index_has_place.ensures.index b (map bit truths) k c.requires.axis ravel
     f (map bit truths) items 1 refl lines.items lines.inner in
@@ -77,22 +74,22 @@ returns-in-Some g c =
     let told : HaveOutcomes truth_element truth_at b.shape outcome = λ place inside. same place (omega (arith, inside, lines.all)) ∙ outcomes place inside in
     let are = truths_are at_place (length truths) values.items folds in
     subst (λ s. IsAnswerOf (answer_of s outcome Number) c.array_from_fill.result) shape
-    (c.array_from_fill.ensures truth_at outcome (rw shape told) (rw (shape, sym lines.all) are) (search rules))
+    (c.array_from_fill.ensures truth_at outcome (rw shape told) (rw (shape, sym lines.all, c.in-Some-Truths.field-0-is) are) (search rules))
 
-pub returns-in-Some-2 : goal.returns-in-Some-2
-returns-in-Some-2 g c =
-    let lines = are_lines g (goal.at.returns-in-Some-2 g c).After-axis-items in
+pub returns-in-Some-Numbers : goal.returns-in-Some-Numbers
+returns-in-Some-Numbers g c =
+    let lines = are_lines g (goal.at.returns-in-Some-Numbers g c).After-axis-items in
     let b = c.args.b.now in
     let k = c.args.k in
     let f = c.args.f in
     let truths = c.args.truths.now in
     let items = c.axis-items.result in
-    let folds : AreTruthScans f truths items c.in-Some-2.values.items = rw c.in-Some-2.is at c.in_ok-values-2.ensures in
+    let folds : AreTruthScans f truths items c.in-Some-Numbers.values.items = rw c.in-Some-Numbers.field-0-is at (rw c.in-Some-Numbers.is at c.in_ok-values.ensures) in
     let at_place : ℕ → Result ℤ Fault = scan_at (dyadic_numbers f) (map bit truths) items 1 in
     let outcome = λ (index : List ℕ). reduction f (items_up_to b k index) in
-    let shape : c.in_ok-copy-2.field-0 ≡ b.shape = search rules in
+    let shape : c.in_ok-copy-in-Some-Numbers.field-0 ≡ b.shape = search rules in
     let ravel : b.ravel ≡ map Int (map bit truths) = c.requires.truths ∙ sym (map-map Int bit truths) in
     let outcomes = outcomes_along c.replaced_index_has_place.ensures.place c.split_index_has_place.ensures.index b (map bit truths) k c.requires.axis ravel
     f (map bit truths) items 1 refl lines.items lines.inner in
-    subst (λ s. IsAnswerOf (answer_of s outcome Number) c.array_from_fill-in-Some-2.result) shape
-    (c.array_from_fill-in-Some-2.ensures at_place outcome (rw shape outcomes) (rw (shape, sym lines.all) folds) (search rules))
+    subst (λ s. IsAnswerOf (answer_of s outcome Number) c.array_from_fill-in-Some-Numbers.result) shape
+    (c.array_from_fill-in-Some-Numbers.ensures at_place outcome (rw shape outcomes) (rw (shape, sym lines.all, c.in-Some-Numbers.field-0-is) folds) (search rules))

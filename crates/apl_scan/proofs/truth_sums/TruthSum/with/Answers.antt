@@ -2,9 +2,9 @@ use Rattle.std.proofs.Common.{◌≡◌, ℤ, nat_eq, Ok, to_z, of_z, w64, refl,
 use Rattle.apl_array.specs.Array.{bit}
 use Rattle.apl_summary.specs.Fronts.{signed_total}
 use Rattle.apl_scan.proofs.TruthSums.{sum_value, sum_next}
-use Rattle.apl_scan.proofs.truth_states.TruthSumTruthState.with.Given.{Over}
-use Rattle.apl_scan.proofs.truth_states.TruthSumTruthState.with.Goals as goal
-use Rattle.apl_scan.proofs.truth_states.TruthSumTruthState.with.Goals.{After-total_with-total}
+use Rattle.apl_scan.proofs.truth_sums.TruthSum.with.Given.{Over}
+use Rattle.apl_scan.proofs.truth_sums.TruthSum.with.Goals as goal
+use Rattle.apl_scan.proofs.truth_sums.TruthSum.with.Goals.{After-total_with-total}
 
 total_is : (g : Over) (c : After-total_with-total g) → to_z w64 (of_z w64 c.total_with-total.result) ≡ signed_total c.args.self.now.is_negated c.args.self.now.total (bit c.args.truth)
 total_is g c =
@@ -12,14 +12,14 @@ total_is g c =
     let stored : to_z w64 (of_z w64 c.total_with-total.result) ≡ c.total_with-total.result = search rules in
     stored ∙ c.total_with-total.ensures ∙ rw kept refl
 
-pub returns-clause-value : goal.returns-clause-value
-returns-clause-value g c = λ xs is few.
+pub returns-clause-total : goal.returns-clause-total
+returns-clause-total g c = λ xs is few.
     let s = c.args.self.now in
-    let total = total_is g (goal.at.returns-clause-value g c).After-total_with-total in
+    let total = total_is g (goal.at.returns-clause-total g c).After-total_with-total in
     sum_value (nat_eq g.row.MINUS 0) s.is_negated s.total c.args.truth xs is few ∙ ap (λ (z : ℤ). Ok z) (sym total)
 
-pub returns-clause-state : goal.returns-clause-state
-returns-clause-state g c = λ xs is few.
+pub returns-clause-sum : goal.returns-clause-sum
+returns-clause-sum g c = λ xs is few.
     let s = c.args.self.now in
-    let total = total_is g (goal.at.returns-clause-state g c).After-total_with-total in
+    let total = total_is g (goal.at.returns-clause-sum g c).After-total_with-total in
     rw (c.next_sign-is_negated.ensures, total) (sum_next (nat_eq g.row.MINUS 0) s.is_negated s.total c.args.truth xs is)

@@ -1,0 +1,13 @@
+use Rattle.std.proofs.Common.{◌*◌, ◌≤◌, nat_eq, map, length, vec_capacity}
+use Rattle.apl_array.specs.Array.{bit}
+use Rattle.apl_pool.specs.Pool.{AreValues}
+use Rattle.apl_scalar.specs.Scalar.{dyadic_numbers}
+use Rattle.apl_summary.specs.Constants.{signed_function}
+use Rattle.apl_scan.specs.Lines.{scan_at}
+use Rattle.apl_scan.proofs.truth_sums.add_lines.Given as goal
+
+abbrev pub invariant-loop-line : goal.invariant-loop-line
+invariant-loop-line g l = record {
+  are : AreValues (scan_at (dyadic_numbers (signed_function (nat_eq g.row.MINUS 0))) (map bit l.truths) l.items 1) (l.line * l.items) l.values.items;
+  room : length l.truths ≤ vec_capacity l.values;
+}
