@@ -18,7 +18,8 @@ pub(crate) enum TruthScan {
     Numbers(Vec<i64>),
 }
 
-/// The scan of truth values along lines of neighbours, by a function by which they are scanned as they are. Sums can't leave the range.
+/// The scan of truth values along lines of neighbours, if the function is one by which they are scanned as they are. Sums can't leave the
+/// range.
 pub(crate) fn scan_lines<W: Crew>(
     workers: &W,
     f: ScalarFunction,

@@ -116,8 +116,7 @@ fn append_line<const MINUS: u8>(truths: &[bool], values: Vec<i64>) -> Vec<i64>
     values
 }
 
-/// Lines of neighbours, each with `items` truth values, of which each is added to all before it in its line, or these are taken from one
-/// another in turn.
+/// The sums of all truth values up to each place of lines of neighbours, each with `items` of them. By minus they are the alternating sums.
 pub(crate) fn add_lines<const MINUS: u8, W: Crew>(
     workers: &W,
     truths: &[bool],
