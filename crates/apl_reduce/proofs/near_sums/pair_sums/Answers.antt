@@ -44,13 +44,21 @@ module _ (numbers : List ℤ) (first third quarter f s g t : ℕ) (few : quarter
 
   firsts_near : unsigned_abs firsts ≤ 2 ^ 61
   firsts_near =
-      omega (arith, sum_near (all_firsts numbers first quarter f s few low) (all_firsts numbers third quarter g t few high), all_firsts_near numbers first quarter f s few low,
-      all_firsts_near numbers third quarter g t few high)
+      omega (
+        arith,
+        sum_near (all_firsts numbers first quarter f s few low) (all_firsts numbers third quarter g t few high),
+        all_firsts_near numbers first quarter f s few low,
+        all_firsts_near numbers third quarter g t few high,
+      )
 
   seconds_near : unsigned_abs seconds ≤ 2 ^ 61
   seconds_near =
-      omega (arith, sum_near (all_seconds numbers first quarter f s few low) (all_seconds numbers third quarter g t few high), all_seconds_near numbers first quarter f s few low,
-      all_seconds_near numbers third quarter g t few high)
+      omega (
+        arith,
+        sum_near (all_seconds numbers first quarter f s few low) (all_seconds numbers third quarter g t few high),
+        all_seconds_near numbers first quarter f s few low,
+        all_seconds_near numbers third quarter g t few high,
+      )
 
 pub returns : goal.returns
 returns c = λ near.
