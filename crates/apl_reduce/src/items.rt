@@ -1,5 +1,5 @@
 //! Items that are computed one by one, and folded from the last to the first.
-ghost use Rattle.std.specs.Prelude.{◌≡◌, ◌+◌, ◌<◌, Ok};
+ghost use Rattle.std.specs.Prelude.{◌≡◌, ℕ, ◌+◌, ◌-◌, ◌<◌, ◌≤◌, Ok};
 ghost use Rattle.apl_reduce.specs.Items.{as_number, number_step, folded_from, first_fault, judged_items};
 
 use crate::dyadic::Dyadic;
@@ -39,6 +39,32 @@ fn with_item<X: Items, F: Dyadic>(
     function.of_numbers(item, folded)
 }
 
+/// The `count` items before item `end` and what was folded from that one on.
+#[inline(always)]
+fn with_items<X: Items, F: Dyadic>(
+    items: &X,
+    function: F,
+    end: usize,
+    count: usize,
+    folded: i64,
+) -> Result<i64, Fault>
+    requires count { count ≤ end }
+    requires end { end ≤ X.item_count items.now }
+    ensures { (last : ℕ) → end ≤ last → folded_from (X.outcome items.now) (F.function function) end (last - end) ≡ Ok folded
+        → result ≡ folded_from (X.outcome items.now) (F.function function) (end - count) (last - (end - count)) }
+{
+    let mut k = end;
+    let mut result = folded;
+    for _done in 0..count {
+        k -= 1;
+        result = with_item(items, function, k, result)?;
+    }
+    Ok(result)
+}
+
+/// How many items are folded in one turn of a loop.
+const TURN: usize = 4;
+
 /// The fold of all items up to the last one, from the right, or the fault that it meets first.
 #[inline(always)]
 fn folded<X: Items, F: Dyadic>(items: &X, function: F, last: usize) -> Result<i64, Fault>
@@ -47,11 +73,11 @@ fn folded<X: Items, F: Dyadic>(items: &X, function: F, last: usize) -> Result<i6
 {
     let mut k = last;
     let mut result = items.at(last)?;
-    while k > 0 {
-        k -= 1;
-        result = with_item(items, function, k, result)?;
+    while k >= TURN {
+        result = with_items(items, function, k, TURN, result)?;
+        k -= TURN;
     }
-    Ok(result)
+    with_items(items, function, k, k, result)
 }
 
 /// The fault of the first faulty item. It is looked for only if a fold has met a fault.

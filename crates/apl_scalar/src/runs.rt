@@ -7,7 +7,10 @@ ghost use Rattle.apl_scalar.specs.Scalar.{truth_outcome};
 use crate::held::Held;
 use apl_pool::Fault;
 
-/// The most places of a run. As many are one stretch of a worker who is alone.
+/// The most places of the first run, which tells what the next ones are like.
+const FIRST_RUN: usize = 1024;
+
+/// The most places of each run after it. As many are one stretch of a worker who is alone.
 const LONGEST_RUN: usize = 32_768;
 
 /// The results of a scalar function at places. They are passed by value, so that a loop that writes reads no pointer anew.
@@ -183,9 +186,38 @@ fn write_before_fault<P: Results, H: Held>(
     write_some(results, from, count - rest, rest, room)
 }
 
-/// Writes a run of results into the room for the places from `from` up to before `to`. It answers the place at which it stopped: that of a
-/// fault, or where the run ends. If one of the run is not sure, the results up to `to` are written one by one. The next runs tend to be
-/// like this one. Results that have no quick runs are written one by one too.
+/// Writes runs of likely results into the room for the places from `from` on, up to the first run of which one result is not sure. It answers
+/// how many results are sure.
+#[inline(always)]
+fn write_sure_runs<P: Results, H: HeldRuns>(
+    results: P,
+    from: usize,
+    count: usize,
+    room: &mut [H],
+) -> usize
+    requires places { from + count ≤ P.served results }
+    requires most { from + count ≤ MOST_PLACES }
+    requires room { count ≤ length room.old }
+    ensures within { result ≤ count }
+    ensures values { AreWritten (λ place. H.held (P.outcome results place)) from (from + result) room.new }
+    ensures len { length room.new ≡ length room.old }
+{
+    let mut done = 0;
+    let mut longest = FIRST_RUN;
+    while done < count {
+        let run = (count - done).min(longest);
+        if !H::write_run(results, from + done, run, &mut room[done..]) {
+            return done;
+        }
+        done += run;
+        longest = LONGEST_RUN;
+    }
+    done
+}
+
+/// Writes results into the room for the places from `from` up to before `to`. It answers the place at which it stopped: that of a fault, or
+/// where a run ends. If one result of the first run is not sure, the results up to `to` are written one by one, since the next runs tend to
+/// be like this one. Results that have no quick runs are written one by one too.
 #[inline(always)]
 pub(crate) fn write_results<P: Results, H: HeldRuns>(
     results: P,
@@ -202,9 +234,11 @@ pub(crate) fn write_results<P: Results, H: HeldRuns>(
     ensures values { AreWritten (λ place. H.held (P.outcome results place)) from result room.new }
     ensures len { length room.new ≡ length room.old }
 {
-    let count = (to - from).min(LONGEST_RUN);
-    if P::have_runs() && H::write_run(results, from, count, room) {
-        return from + count;
+    if P::have_runs() {
+        let done = write_sure_runs(results, from, to - from, room);
+        if done > 0 {
+            return from + done;
+        }
     }
     write_before_fault(results, from, to - from, room)
 }
