@@ -139,19 +139,8 @@ module _ (item : ℕ → Result ℤ Fault) where
       let next : suc before + more ≡ suc (before + more) = omega arith in
       rw next (ap (number_step f (item k)) (passed_on f before (k + 1) more fault (rw same at is)))
 
-  -- the fault that the fold meets is that of more items on the left, and of the whole
-  fault_on_left : (f : ScalarFunction) (j k last : ℕ) (fault : Fault) → j ≤ k → k ≤ last → folded_from item f k (last - k) ≡ Err fault → Err fault ≡ folded_from item f j (last - j)
-  fault_on_left f j k last fault order below is =
-      let place : j + (k - j) ≡ k = omega arith in
-      let all : k - j + (last - k) ≡ last - j = omega arith in
-      sym (rw all at (passed_on f (k - j) j (last - k) fault (rw place is)))
-
-  pub next_fault_on_left : (f : ScalarFunction) (j k last : ℕ) (z : ℤ) (r : Result ℤ Fault) (fault : Fault) → 0 < k → k ≤ last → j < k → folded_from item f k (last - k) ≡ Ok z
-      → r ≡ number_step f (item (k - 1)) (Ok z) → r ≡ Err fault → Err fault ≡ folded_from item f j (last - j)
-  next_fault_on_left f j k last z r fault some below order value here faulty =
-      fault_on_left f j (k - 1) last fault (omega arith) (omega arith) (next_folded f k last some below ∙ ap (number_step f (item (k - 1))) value ∙ sym here ∙ faulty)
-
-  pub fault_of_all : (f : ScalarFunction) (k last : ℕ) (fault : Fault) → k ≤ last → folded_from item f k (last - k) ≡ Err fault → Err fault ≡ folded_from item f 0 last
+  -- the fault that the fold meets is that of the whole
+  fault_of_all : (f : ScalarFunction) (k last : ℕ) (fault : Fault) → k ≤ last → folded_from item f k (last - k) ≡ Err fault → Err fault ≡ folded_from item f 0 last
   fault_of_all f k last fault below is =
       let all : k + (last - k) ≡ last = omega arith in
       let start : 0 + k ≡ k = omega arith in

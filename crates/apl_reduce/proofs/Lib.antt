@@ -26,6 +26,7 @@ pub mod Joined
 pub mod OuterPlaces
 pub mod OuterRows
 pub mod InnerPlaces
+pub mod ItemRuns
 pub mod Strides
 pub mod InnerFolds
 pub mod InnerItems

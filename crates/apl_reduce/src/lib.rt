@@ -24,6 +24,7 @@ mod folded_rows;
 mod folding;
 mod inner_products;
 mod item_rows;
+mod item_runs;
 mod items;
 mod laws;
 mod layouts;

@@ -13,23 +13,23 @@ use apl_pool::Fault;
 /// The items at one place: a function of an element of a line and one of another line.
 #[derive(Drop)]
 pub(crate) struct LineItems<'a, T, U, P: Dyadic> {
-    left: &'a [T],
-    left_start: usize,
-    left_stride: usize,
-    right: &'a [U],
-    right_start: usize,
-    right_stride: usize,
-    count: usize,
-    pairing: P,
+    pub left: &'a [T],
+    pub left_start: usize,
+    pub left_stride: usize,
+    pub right: &'a [U],
+    pub right_start: usize,
+    pub right_stride: usize,
+    pub count: usize,
+    pub pairing: P,
     ghost left_within: { (k : ℕ) → k < count → left_start + k * left_stride < length left.now },
     ghost right_within: { (k : ℕ) → k < count → right_start + k * right_stride < length right.now },
 }
 
 impl<T: ElementType, U: ElementType, P: Dyadic> Items for LineItems<'_, T, U, P> {
-    ghost use Rattle.std.specs.Prelude.{◌+◌, ◌*◌, map};
-    ghost use Rattle.apl_reduce.specs.Items.{placed_number};
+    ghost use Rattle.std.specs.Prelude.{map};
+    ghost use Rattle.apl_reduce.specs.Items.{meeting_number};
 
-    ghost outcome = { λ x k. placed_number (P.function x.pairing) (map T.elem_of x.left.now) (x.left_start + k * x.left_stride) (map U.elem_of x.right.now) (x.right_start + k * x.right_stride) };
+    ghost outcome = { λ x. meeting_number (P.function x.pairing) (map T.elem_of x.left.now) x.left_start x.left_stride (map U.elem_of x.right.now) x.right_start x.right_stride };
 
     ghost item_count = { λ x. x.count };
 

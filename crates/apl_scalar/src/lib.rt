@@ -28,5 +28,6 @@ pub use elements::{apply1, apply2, dyadic_elements, identity};
 pub use function_types::is_truth_valued;
 pub use held::{Held, as_held};
 pub use laws::{answers_are_in_range, answers_are_within_limits, truth_values_are_results};
-pub use rows::write_pairs;
+pub use operands::Spaced;
+pub use rows::{write_items, write_pairs};
 pub use runs::HeldRuns;

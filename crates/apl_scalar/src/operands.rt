@@ -1,6 +1,6 @@
 //! The arguments of a dyadic function in row order. An argument of one element that is extended is
 //! that element, and no list is read for it.
-ghost use Rattle.std.specs.Prelude.{◌≡◌, ℕ, ◌<◌, ◌≤◌, true, false, Ok, map, length};
+ghost use Rattle.std.specs.Prelude.{◌≡◌, ℕ, ◌+◌, ◌*◌, ◌<◌, ◌≤◌, true, false, Ok, map, length};
 ghost use Rattle.apl_pool.specs.declared.kernel.TheConstants.{MOST_PLACES};
 ghost use Rattle.apl_array.specs.Shape.{count_of};
 ghost use Rattle.apl_scalar.specs.Extension.{extended_shape};
@@ -8,6 +8,7 @@ ghost use Rattle.apl_scalar.specs.Operands.{ServesFor};
 
 use apl_answer::ElementType;
 use apl_array::{Array, Elem, Shape, places_match_index_lists};
+use std::alloc::AllocError;
 
 /// An argument at each place.
 pub(crate) trait Operand: Copy {
@@ -54,6 +55,56 @@ impl<T: ElementType> Operand for Value<T> {
     #[inline(always)]
     fn at(&self, _place: usize) -> Elem {
         self.0.elem()
+    }
+}
+
+/// Elements that are `stride` apart, from place `first` on.
+pub struct Spaced<'a, T> {
+    pub elements: &'a [T],
+    pub first: usize,
+    pub stride: usize,
+    pub count: usize,
+    ghost within: { (k : ℕ) → k < count → first + k * stride < length elements.now },
+}
+
+impl<T> Clone for Spaced<'_, T> {
+    fn clone(&self) -> Result<Self, AllocError> {
+        Ok(*self)
+    }
+}
+
+impl<T> Copy for Spaced<'_, T> {}
+
+impl<'a, T> Spaced<'a, T> {
+    /// The same elements, of which a loop is told that they are neighbours.
+    #[inline(always)]
+    pub(crate) fn as_neighbours(self) -> Spaced<'a, T>
+        requires { self.stride ≡ 1 }
+        ensures elements { result.elements.now ≡ self.entry.elements.now }
+        ensures first { result.first ≡ self.entry.first }
+        ensures stride { result.stride ≡ self.entry.stride }
+        ensures count { result.count ≡ self.entry.count }
+    {
+        Spaced {
+            elements: self.elements,
+            first: self.first,
+            stride: 1,
+            count: self.count,
+        }
+    }
+}
+
+impl<T: ElementType> Operand for Spaced<'_, T> {
+    ghost use Rattle.std.specs.Prelude.{◌+◌, ◌*◌, map, pos, slice_index_or};
+    ghost use Rattle.apl_array.specs.declared.array.Elem.TheVariants.{Int};
+
+    ghost element = { λ s place. slice_index_or (map T.elem_of s.elements.now) (s.first + place * s.stride) (Int (pos 0)) };
+
+    ghost served = { λ s. s.count };
+
+    #[inline(always)]
+    fn at(&self, place: usize) -> Elem {
+        self.elements[self.first + place * self.stride].elem()
     }
 }
 

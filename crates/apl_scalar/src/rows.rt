@@ -1,5 +1,5 @@
-//! One element with each of others, as in a row of an outer product.
-ghost use Rattle.std.specs.Prelude.{◌≡◌, ◌≤◌, pos, length, map, slice_index_or};
+//! One element with each of others, as in a row of an outer product, and the elements of two lists that meet, as in an inner product.
+ghost use Rattle.std.specs.Prelude.{◌≡◌, ◌≤◌, ◌+◌, ◌*◌, pos, length, map, slice_index_or};
 ghost use Rattle.apl_array.specs.declared.array.Elem.TheVariants.{Int};
 ghost use Rattle.apl_pool.specs.declared.kernel.TheConstants.{MOST_PLACES};
 ghost use Rattle.apl_pool.specs.Runs.{AreWritten};
@@ -7,7 +7,7 @@ ghost use Rattle.apl_scalar.specs.Scalar.{dyadic_of};
 
 use crate::function_types::Function;
 use crate::kernels::PairResults;
-use crate::operands::{Value, Whole};
+use crate::operands::{Spaced, Value, Whole};
 use crate::runs::{HeldRuns, write_results};
 use apl_answer::ElementType;
 
@@ -27,4 +27,45 @@ pub fn write_pairs<F: Function + Copy, T: ElementType, U: ElementType, H: HeldRu
 {
     let results = PairResults::<Value<T>, Whole<U>, F>::new(Value(x), Whole(others));
     write_results(results, 0, others.len(), room)
+}
+
+/// Writes what the function of type `F` gives of the elements of two lists that meet at each place into the room for them. It ends at some
+/// place, or at the first that has a fault. It answers how many it wrote, and takes no memory.
+#[inline(always)]
+fn write_spaced<F: Function + Copy, T: ElementType, U: ElementType>(
+    left: Spaced<T>,
+    right: Spaced<U>,
+    room: &mut [i64],
+) -> usize
+    requires same { right.count ≡ left.count }
+    requires most { left.count ≤ MOST_PLACES }
+    requires room { left.count ≤ length room.old }
+    ensures within { result ≤ left.entry.count }
+    ensures values { AreWritten (λ k. dyadic_of F.FUNCTION (slice_index_or (map T.elem_of left.entry.elements.now) (left.entry.first + k * left.entry.stride) (Int (pos 0)))
+        (slice_index_or (map U.elem_of right.entry.elements.now) (right.entry.first + k * right.entry.stride) (Int (pos 0)))) 0 result room.new }
+    ensures len { length room.new ≡ length room.old }
+{
+    let results = PairResults::<Spaced<T>, Spaced<U>, F>::new(left, right);
+    write_results(results, 0, left.count, room)
+}
+
+/// Writes what the function of type `F` gives of the elements of two lists that meet at each place into the room for them. It ends at some
+/// place, or at the first that has a fault. It answers how many it wrote, and takes no memory. A loop over neighbours has no strides.
+pub fn write_items<F: Function + Copy, T: ElementType, U: ElementType>(
+    left: Spaced<T>,
+    right: Spaced<U>,
+    room: &mut [i64],
+) -> usize
+    requires same { right.count ≡ left.count }
+    requires most { left.count ≤ MOST_PLACES }
+    requires room { left.count ≤ length room.old }
+    ensures within { result ≤ left.entry.count }
+    ensures values { AreWritten (λ k. dyadic_of F.FUNCTION (slice_index_or (map T.elem_of left.entry.elements.now) (left.entry.first + k * left.entry.stride) (Int (pos 0)))
+        (slice_index_or (map U.elem_of right.entry.elements.now) (right.entry.first + k * right.entry.stride) (Int (pos 0)))) 0 result room.new }
+    ensures len { length room.new ≡ length room.old }
+{
+    if left.stride == 1 && right.stride == 1 {
+        return write_spaced::<F, T, U>(left.as_neighbours(), right.as_neighbours(), room);
+    }
+    write_spaced::<F, T, U>(left, right, room)
 }
