@@ -109,47 +109,29 @@ fn power_of_bit(x: i64, bit: u64) -> i64
     if bit == 0 { 1 } else { x }
 }
 
-/// `root` times itself and times `x` to the power `bit`, of a root and an `x` of 32 bits. Beside it is how far the square of the root is above
-/// the least number of 32 bits. So the exponent of a root that is a power of `x` gets one more bit.
+/// `root` times `x` to the power `bit`, of a root and an `x` of 32 bits.
 #[inline(always)]
-fn likely_next_power(x: i64, root: i64, bit: u64) -> (i64, u64)
+fn times_power_of_bit(root: i64, x: i64, bit: u64) -> i64
     requires { bit ≤ 1 }
-    ensures { (n : ℕ) → root ≡ int_pow x n → FitsSigned w32 x → FitsSigned w32 root → result.1 < 2 ^ 32 → exact (int_pow x (n + n + bit)) ≡ Ok result.0 }
+    ensures { FitsSigned w32 x → FitsSigned w32 root → exact (root *ℤ int_pow x bit) ≡ Ok result }
 {
-    let square = half_product(root, root);
-    let next = half_product(square, power_of_bit(x, bit));
-    (next, above_least_half(square))
+    half_product(root, power_of_bit(x, bit))
 }
 
-/// As `likely_next_power`, but a square that no factor follows may have more than 32 bits. Beside it is 0 then. All are computed before one is
-/// chosen, so that there is no branch.
-#[inline(always)]
-fn likely_last_power(x: i64, root: i64, bit: u64) -> (i64, u64)
-    requires { bit ≤ 1 }
-    ensures { (n : ℕ) → root ≡ int_pow x n → FitsSigned w32 x → FitsSigned w32 root → result.1 < 2 ^ 32 → exact (int_pow x (n + n + bit)) ≡ Ok result.0 }
-{
-    let square = half_product(root, root);
-    let product = half_product(square, x);
-    let above = above_least_half(square);
-    if bit == 0 {
-        (square, 0)
-    } else {
-        (product, above)
-    }
-}
-
-/// `x` to the power `y` by the three bits of an exponent below 8, and doubts if it has others or a factor has more than 32 bits. It has no
-/// branches. So come squares of all bases of 32 bits, and cubes up to a base of 46340.
+/// `x` to the power `y` as the product of two powers with half of its exponent, of which the second has the bit that is left over. The exponent
+/// has three bits; doubts come if it has others, or if a factor has more than 32 bits. It has no branches. So come squares of all bases of 32
+/// bits, and cubes up to a base of 46340.
 #[inline(always)]
 pub(crate) fn likely_power(x: i64, y: i64) -> (i64, u64)
     ensures { result.1 ≡ 0 → power x y ≡ Ok result.0 }
 {
     let exponent = y.cast_unsigned();
-    let first = power_of_bit(x, exponent / 4 % 2);
-    let (root, above_first) = likely_next_power(x, first, exponent / 2 % 2);
-    let (value, above_root) = likely_last_power(x, root, exponent % 2);
-    let farther = above_least_half(x) | above_least_half(root) | above_first | above_root;
-    (value, farther >> 32 | exponent / 8)
+    let square = power_of_bit(half_product(x, x), exponent / 4 % 2);
+    let first = times_power_of_bit(square, x, exponent / 2 % 2);
+    let second = times_power_of_bit(first, x, exponent % 2);
+    let above_base = above_least_half(x) | above_least_half(square);
+    let farther = above_base | above_least_half(first) | above_least_half(second);
+    (half_product(first, second), farther >> 32 | exponent / 8)
 }
 
 /// The magnitude of `x`, and the doubts whether 64 bits hold it.
