@@ -118,6 +118,17 @@ fn times_power_of_bit(root: i64, x: i64, bit: u64) -> i64
     half_product(root, power_of_bit(x, bit))
 }
 
+/// As `times_power_of_bit`, but the product is chosen, and no factor. So a loop with one exponent for all bases has no product by 1.
+#[inline(always)]
+fn chosen_product(root: i64, x: i64, bit: u64) -> i64
+    requires { bit ≤ 1 }
+    ensures { FitsSigned w32 x → FitsSigned w32 root → exact (root *ℤ int_pow x bit) ≡ Ok result }
+{
+    range_is_decided();
+    let product = half_product(root, x);
+    if bit == 0 { root } else { product }
+}
+
 /// `x` to the power `y` as the product of two powers with half of its exponent, of which the second has the bit that is left over. The exponent
 /// has three bits; doubts come if it has others, or if a factor has more than 32 bits. It has no branches. So come squares of all bases of 32
 /// bits, and cubes up to a base of 46340.
@@ -127,7 +138,7 @@ pub(crate) fn likely_power(x: i64, y: i64) -> (i64, u64)
 {
     let exponent = y.cast_unsigned();
     let square = power_of_bit(half_product(x, x), exponent / 4 % 2);
-    let first = times_power_of_bit(square, x, exponent / 2 % 2);
+    let first = chosen_product(square, x, exponent / 2 % 2);
     let second = times_power_of_bit(first, x, exponent % 2);
     let above_base = above_least_half(x) | above_least_half(square);
     let farther = above_base | above_least_half(first) | above_least_half(second);

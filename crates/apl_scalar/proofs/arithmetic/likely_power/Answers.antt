@@ -12,7 +12,7 @@ returns c = λ none.
     let exponent = c.cast_unsigned-exponent.result in
     let squared = c.half_product.result in
     let square = c.power_of_bit-square.result in
-    let first = c.times_power_of_bit-first.result in
+    let first = c.chosen_product-first.result in
     let second = c.times_power_of_bit-second.result in
     let value = c.half_product-2.result in
     let above_x = c.above_least_half.result in
@@ -46,7 +46,7 @@ returns c = λ none.
     square_stored ∙ c.power_of_bit-square.ensures ∙ ap (λ z. int_pow z high) (squared_stored ∙ sym squared_is) ∙ power_of_square base high (omega arith) in
     let first_is : int_pow base half ≡ to_z w64 (of_z w64 first) =
     sym (power_sum base (high + high) middle) ∙ ap (λ z. z *ℤ int_pow base middle) (sym square_is)
-    ∙ exact_is (to_z w64 (of_z w64 square) *ℤ int_pow base middle) first (c.times_power_of_bit-first.ensures x_narrow square_narrow) ∙ sym first_stored in
+    ∙ exact_is (to_z w64 (of_z w64 square) *ℤ int_pow base middle) first (c.chosen_product-first.ensures x_narrow square_narrow) ∙ sym first_stored in
     let second_is : int_pow base (half + low) ≡ to_z w64 (of_z w64 second) =
     sym (power_sum base half low) ∙ ap (λ z. z *ℤ int_pow base low) first_is
     ∙ exact_is (to_z w64 (of_z w64 first) *ℤ int_pow base low) second (c.times_power_of_bit-second.ensures x_narrow first_narrow) ∙ sym second_stored in
