@@ -1,7 +1,7 @@
 //! The first places of a list's numbers in a table, where the numbers span little.
-ghost use Rattle.std.specs.Prelude.{◌≡◌, ℕ, ℤ, pos, ◌+◌, ◌<◌, ◌≤◌, ◌^◌, ◌+ℤ◌, ◌-ℤ◌, ◌≤ℤ◌, ◌<ℤ◌, List, All, length, map, IfOk, IfSome, slice_index_or};
+ghost use Rattle.std.specs.Prelude.{◌≡◌, ℕ, ℤ, pos, ◌+◌, ◌-◌, ◌<◌, ◌≤◌, ◌^◌, ◌+ℤ◌, ◌-ℤ◌, ◌≤ℤ◌, ◌<ℤ◌, List, All, length, map, IfOk, IfSome, slice_index_or};
 ghost use Rattle.apl_pool.specs.declared.kernel.TheConstants.{MOST_PLACES};
-ghost use Rattle.apl_search.specs.Tables.{place_of, IsNumberWithin, IsTable};
+ghost use Rattle.apl_search.specs.Tables.{place_of, IsNumberWithin, IsTable, ArePlacesFrom};
 
 use crate::sorting::{Keyed, Upwards, ends};
 use apl_pool::MOST_PLACES;
@@ -24,6 +24,33 @@ fn distance(least: i64, number: i64) -> u64
     number.cast_unsigned().wrapping_sub(least.cast_unsigned())
 }
 
+/// How many places are written in a turn.
+const TURN: usize = 4;
+
+/// Writes the places of the `count` numbers before `end` at their entries, the last one first.
+#[inline(always)]
+fn write_places_before<T: Keyed>(
+    least: i64,
+    values: &[T],
+    end: usize,
+    count: usize,
+    places: &mut [u32],
+)
+    requires most { length values.now ≤ MOST_PLACES }
+    requires end { end ≤ length values.now }
+    requires count { count ≤ end }
+    requires within { All (IsNumberWithin least (length places.old)) (map T.key values.now) }
+    requires later { ArePlacesFrom (map T.key values.now) least end places.old }
+    ensures from { ArePlacesFrom (map T.key values.now) least (end - count) places.new }
+    ensures len { length places.new ≡ length places.old }
+{
+    for k in 0..count {
+        let place = end - 1 - k;
+        let entry = distance(least, values[place].key()) as usize;
+        places[entry] = place as u32;
+    }
+}
+
 /// Writes the place of each number at its entry, from the last place to the first. So the first place of equal ones remains.
 fn write_places<T: Keyed>(least: i64, values: &[T], places: &mut [u32])
     requires count { length values.now ≤ MOST_PLACES }
@@ -32,9 +59,9 @@ fn write_places<T: Keyed>(least: i64, values: &[T], places: &mut [u32])
     ensures each { (k d : ℕ) → k < length places.new → slice_index_or places.new k d ≡ place_of (map T.key values.now) (least +ℤ pos k) }
     ensures len { length places.new ≡ length places.old }
 {
-    for place in (0..values.len()).rev() {
-        let entry = distance(least, values[place].key()) as usize;
-        places[entry] = place as u32;
+    write_places_before(least, values, values.len(), values.len() % TURN, places);
+    for turn in (0..values.len() / TURN).rev() {
+        write_places_before(least, values, turn * TURN + TURN, TURN, places);
     }
 }
 
