@@ -1,5 +1,5 @@
 //! The loops that write the front of a room.
-ghost use Rattle.std.specs.Prelude.{◌≡◌, ℕ, ◌+◌, ◌-◌, ◌*◌, ◌^◌, ◌<◌, ◌≤◌, length, slice_index_or};
+ghost use Rattle.std.specs.Prelude.{◌≡◌, ℕ, ◌+◌, ◌-◌, ◌*◌, ◌/◌, ◌^◌, ◌<◌, ◌≤◌, length, slice_index_or};
 ghost use Rattle.apl_walk.specs.Steps.{BeginsWith};
 ghost use Rattle.apl_walk.specs.declared.fronts.TheConstants.{FEW};
 
@@ -43,6 +43,66 @@ pub(crate) fn write_stretch<T: Copy>(elements: &[T], stride: usize, count: usize
     for k in 0..count {
         room[k] = elements[k * stride];
     }
+}
+
+/// An element at both places of a pair.
+#[inline(always)]
+fn write_pair<T: Copy>(element: T, pair: usize, room: &mut [T])
+    requires { 2 * pair + 2 ≤ length room.old }
+    ensures pair { (k : ℕ) (d : T) → 2 * pair ≤ k → k < 2 * pair + 2 → slice_index_or room.new k d ≡ element }
+    ensures before { (k : ℕ) (d : T) → k < 2 * pair → slice_index_or room.new k d ≡ slice_index_or room.old k d }
+    ensures len { length room.new ≡ length room.old }
+{
+    room[2 * pair] = element;
+    room[2 * pair + 1] = element;
+}
+
+/// Each of four neighbours twice. All are read before one is written, so that a processor moves two at once.
+#[inline(always)]
+fn write_four_pairs<T: Copy>(elements: &[T], from: usize, room: &mut [T])
+    requires near { from + 4 ≤ length elements.now }
+    requires room { 2 * (from + 4) ≤ length room.old }
+    requires before { (k : ℕ) (d : T) → k < 2 * from → slice_index_or room.old k d ≡ slice_index_or elements.now (k / 2) d }
+    ensures each { (k : ℕ) (d : T) → k < 2 * (from + 4) → slice_index_or room.new k d ≡ slice_index_or elements.now (k / 2) d }
+    ensures len { length room.new ≡ length room.old }
+{
+    let first = elements[from];
+    let second = elements[from + 1];
+    let third = elements[from + 2];
+    let fourth = elements[from + 3];
+    write_pair(first, from, room);
+    write_pair(second, from + 1, room);
+    write_pair(third, from + 2, room);
+    write_pair(fourth, from + 3, room);
+}
+
+/// The same of those from `from` up to before `to`, one by one.
+#[inline(always)]
+fn write_last_pairs<T: Copy>(elements: &[T], from: usize, to: usize, room: &mut [T])
+    requires order { from ≤ to }
+    requires near { to ≤ length elements.now }
+    requires room { 2 * to ≤ length room.old }
+    requires before { (k : ℕ) (d : T) → k < 2 * from → slice_index_or room.old k d ≡ slice_index_or elements.now (k / 2) d }
+    ensures each { (k : ℕ) (d : T) → k < 2 * to → slice_index_or room.new k d ≡ slice_index_or elements.now (k / 2) d }
+    ensures len { length room.new ≡ length room.old }
+{
+    for pair in from..to {
+        write_pair(elements[pair], pair, room);
+    }
+}
+
+/// Neighbours, each twice.
+pub(crate) fn write_pairs<T: Copy>(elements: &[T], count: usize, room: &mut [T])
+    requires near { count ≤ length elements.now }
+    requires room { 2 * count ≤ length room.old }
+    ensures each { (k : ℕ) (d : T) → k < 2 * count → slice_index_or room.new k d ≡ slice_index_or elements.now (k / 2) d }
+    ensures len { length room.new ≡ length room.old }
+{
+    let turns = count / 4;
+    for turn in 0..turns {
+        write_four_pairs(elements, 4 * turn, room);
+    }
+    write_last_pairs(elements, 4 * turns, count, room);
 }
 
 /// So few elements are written one by one: a loop over many takes longer to begin.
