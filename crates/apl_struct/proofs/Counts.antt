@@ -1,9 +1,10 @@
 -- Indexes that counts repeat, and lists of numbers as counts.
-use Rattle.std.proofs.Common.{◌≡◌, ℕ, zero, suc, add-one, ◌+◌, ◌-◌, ◌*◌, ◌/◌, ◌<◌, List, [], ◌∷◌, ◌++◌, take, length, replicate, slice_index, refl, ap, sym, ◌∙◌, ⊎_elim, arith, ℤ, pos, negsuc, true, false, int_eq, map, slice_index_or, inl, inr, int_lt, nat_abs, to_z, of_z, w64, nat_le, slice_set, Result, Err}
+use Rattle.std.proofs.Common.{◌≡◌, ℕ, zero, suc, add-one, ◌+◌, ◌-◌, ◌*◌, ◌/◌, ◌<◌, List, [], ◌∷◌, ◌++◌, take, length, replicate, slice_index, refl, ap, sym, ◌∙◌, ⊎_elim, arith, ℤ, pos, negsuc, true, false, int_eq, map, slice_index_or, inl, inr, int_lt, nat_abs, to_z, of_z, w64, nat_le, slice_set, Result, Err, FitsSigned}
 use Rattle.std.specs.Prelude.{Bool, Some, ◌≤◌, All, sum, flat_map, ◌^◌, ◌==◌, ◌⊎◌}
 use Rattle.std.specs.List.{range_with_len, list_all}
 use Rattle.std.proofs.Math.Nat.{div-eq_of_lt, add-div_right}
 use Rattle.std.proofs.lemmas.Bool.{or_cases, cases_lt, true≢false, cases_Bool, eqb-true, le-ltb}
+use Rattle.std.proofs.lemmas.Int.{ints}
 use Rattle.std.proofs.lemmas.List.{append-nil, append_assoc, length-append, length-replicate, get_or_append_left, get_or-append_right, get_or-replicate, length-map, length-set, get_or-set_same}
 use Rattle.std.proofs.lemmas.List.Elements.{All-nil, All-append, All-replicate, All-get_or}
 use Rattle.std.proofs.Math.Bool.{and-true, and-false}
@@ -172,6 +173,15 @@ natural_is (negsuc n) turned least = absurd (true≢false (sym (ap (λ z. int_lt
 pub cast_is : (z : ℤ) → is_natural z ≡ true → to_z w64 (of_z w64 z) ≡ z → nat_abs (to_z w64 (of_z w64 z)) ≡ place_number z
 cast_is (pos n) natural turned = ap nat_abs turned
 cast_is (negsuc n) natural turned = absurd (true≢false (sym natural))
+
+-- and so is its bits as a number from 0 up, where those of a count below 0 are far up
+pub bits_natural_count : (z : ℤ) (n : ℕ) → n ≡ of_z w64 z → is_natural z ≡ true → n ≡ place_number z
+bits_natural_count (pos m) n is natural = is
+bits_natural_count (negsuc m) n is natural = absurd (true≢false (sym natural))
+
+pub low_bits_natural : (z : ℤ) (n : ℕ) → FitsSigned w64 z → n ≡ of_z w64 z → n < 2 ^ 63 → is_natural z ≡ true
+low_bits_natural (pos m) n fits is low = refl
+low_bits_natural (negsuc m) n fits is low = absurd (omega (arith, ints, fits, is, low))
 
 pub natural_sum : (numbers : List ℤ) (i : ℕ) → i < length numbers → sum (take (i + 1) (map place_number numbers)) ≡ sum (take i (map place_number numbers)) + place_number (slice_index_or numbers i (pos 0))
 natural_sum numbers i inside =

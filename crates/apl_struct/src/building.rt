@@ -122,7 +122,7 @@ pub(crate) fn repeat<W: Crew>(workers: &W, shape: Shape, b: &Array) -> Result<Ar
 }
 
 /// Whether all numbers are 0 and above.
-fn are_natural(numbers: &[i64]) -> bool
+pub(crate) fn are_natural(numbers: &[i64]) -> bool
     ensures { result ≡ list_all is_natural numbers.now }
 {
     numbers.iter().all(|number| *number >= 0)

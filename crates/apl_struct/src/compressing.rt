@@ -14,7 +14,7 @@ ghost use Rattle.std.specs.Ordering.{int_eq};
 use crate::along::{Taking, gather_along, shape_with_axis, vector_length, vector_rank};
 use crate::arguments::{TURN, numbers_among};
 use crate::bits::{expanded_entries, kept_indexes, push_times};
-use crate::building::empty;
+use crate::building::{are_natural, empty};
 use apl_answer::OpFault;
 use apl_array::{Array, Axis, Elements, MOST_ELEMENTS};
 use apl_pool::{Crew, Cut, Gate, Pool, Workers};
@@ -25,21 +25,26 @@ use std::thread::Threads;
 /// How many times an index is put into a table at once, whatever its count is.
 const SPARE: usize = 4;
 
+/// More than the most elements. Each larger count is summed as this one, and so is one below 0. So no sum passes 64 bits.
+const PAST: u64 = MOST_ELEMENTS as u64 + 1;
+
 /// The sum of counts. A count below 0 is refused first (`Domain`), and then a sum past the most elements (`Limit`).
 fn sum_of_counts(counts: &[i64]) -> Result<usize, OpFault>
+    requires { length counts.now ≤ MOST_PLACES }
     ensures { IsSumOf counts.now result }
 {
-    let mut all: usize = 0;
+    let mut all: u64 = 0;
     for count in counts {
-        if *count < 0 {
-            return Err(OpFault::Domain);
-        }
-        all = all.saturating_add(*count as usize);
+        all += count.cast_unsigned().min(PAST);
     }
-    if all > MOST_ELEMENTS {
-        return Err(OpFault::Limit);
+    if all < PAST {
+        return Ok(all as usize);
     }
-    Ok(all)
+    if are_natural(counts) {
+        Err(OpFault::Limit)
+    } else {
+        Err(OpFault::Domain)
+    }
 }
 
 /// Puts an index as often behind others as its count says. It is put there `SPARE` times in any case, and what is past its count is

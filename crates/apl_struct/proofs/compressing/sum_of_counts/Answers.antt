@@ -1,9 +1,11 @@
-use Rattle.std.proofs.Common.{◌≡◌, pos, true, to_z, of_z, to_z-of_z, w64, nat_abs, slice_index_or, ap, ◌∙◌, arith}
-use Rattle.std.specs.Prelude.{◌&&◌}
+use Rattle.std.proofs.Common.{◌≡◌, pos, of_z, to_z-of_z, w64, FitsSigned, slice_index_or, take, ap, sym, ◌∙◌, arith, rules}
+use Rattle.std.specs.Prelude.{◌&&◌, min}
+use Rattle.std.specs.List.{list_all}
 use Rattle.std.proofs.lemmas.List.Folds.{list_all_more}
-use Rattle.apl_array.specs.Axes.{place_number}
 use Rattle.apl_answer.specs.Arguments.{is_natural}
-use Rattle.apl_struct.proofs.Counts.{natural_is, cast_is, natural_sum}
+use Rattle.apl_struct.specs.declared.compressing.TheConstants.{PAST}
+use Rattle.apl_struct.proofs.Counts.{bits_natural_count, low_bits_natural, natural_sum}
+use Rattle.apl_struct.proofs.Kept.{both}
 use Rattle.apl_struct.proofs.compressing.sum_of_counts.Goals as goal
 
 pub loop-count-preserved : goal.loop-count-preserved
@@ -13,10 +15,15 @@ loop-count-preserved c =
     let kept = c.loop-count.invariant in
     let inside = c.loop-count-test.true in
     let z = slice_index_or counts i (pos 0) in
-    let turned : to_z w64 (of_z w64 z) ≡ z = grind (arith, to_z-of_z) in
-    let natural : is_natural z ≡ true = natural_is z turned c.if-count-lt0.false in
-    let held : nat_abs (to_z w64 (of_z w64 z)) ≡ place_number z = cast_is z natural turned in
+    let n = c.cast_unsigned.result in
+    let fits : FitsSigned w64 z = search rules in
+    let is : n ≡ of_z w64 z = c.cast_unsigned.ensures ∙ ap (of_z w64) (to_z-of_z fits) in
+    let least : c.min-all.result ≡ min n PAST = search rules in
+    let more = list_all_more is_natural counts i (pos 0) inside in
     record {
-      natural = list_all_more is_natural counts i (pos 0) inside ∙ ap (λ b. b && is_natural z) kept.natural ∙ natural;
-      all = omega (arith, c.saturating_add-all.ensures, kept.all, held, natural_sum counts i inside);
+      most = omega (arith, kept.most, least);
+      natural = λ few. more ∙ ap (λ b. b && is_natural z) (kept.natural (omega (arith, few))) ∙ low_bits_natural z n fits is (omega (arith, few, least));
+      all = λ natural.
+          let parts = both (list_all is_natural (take i counts)) (is_natural z) (sym more ∙ natural) in
+          omega (arith, least, kept.all parts.0, bits_natural_count z n is parts.1, natural_sum counts i inside);
     }
