@@ -1,4 +1,4 @@
--- The greatest and the least of four quarters of neighbours and a total, one number more on the right of each.
+-- The greatest and the least of neighbours and a total, and of four runs of them.
 use Rattle.std.proofs.Common.{◌≡◌, ℕ, zero, suc, ℤ, pos, ◌+◌, ◌*◌, List, map, Result, Ok, refl, sym, ap, ◌∙◌, slice_index_or, arith}
 use Rattle.std.specs.Int.{int_min, int_max}
 use Rattle.std.proofs.Math.ListN.{get_or-map}
@@ -13,9 +13,9 @@ use Rattle.apl_reduce.specs.Folded.{number_step, folded_onto}
 use Rattle.apl_reduce.specs.Items.{item_in}
 use Rattle.apl_reduce.proofs.Folds.{two_runs, two_halves}
 
--- a function that is defined for all numbers, and does not mind their order
+-- a function that is defined for all numbers, and minds neither their order nor how often one comes
 module _ (f : ScalarFunction) (two : ℤ → ℤ → ℤ) (is : (x y : ℤ) → dyadic_of f (Int x) (Int y) ≡ Ok (two x y)) (exchanged : (x y z : ℤ) → two x (two y z) ≡ two y (two x z))
-    (grouped : (x y z : ℤ) → two x (two y z) ≡ two (two x y) z) (numbers : List ℤ) where
+    (grouped : (x y z : ℤ) → two x (two y z) ≡ two (two x y) z) (turned : (x y : ℤ) → two x y ≡ two y x) (alone : (x : ℤ) → two x x ≡ x) (numbers : List ℤ) where
   abbrev item : ℕ → Elem
   item = item_in (map Int numbers)
 
@@ -48,71 +48,93 @@ module _ (f : ScalarFunction) (two : ℤ → ℤ → ℤ) (is : (x y : ℤ) → 
       ∙ folds_to first k (two (number (first + k)) total)
       ∙ ap (λ z. Ok z) (first_or_last first k (number (first + k)) total ∙ ap (two (number (first + k))) same)
 
-  two_numbers_more : (first second k : ℕ) (total so_far : ℤ) → folded_onto f item first k (folded_onto f item second k (Ok total)) ≡ Ok so_far
-      → folded_onto f item first (k + 1) (folded_onto f item second (k + 1) (Ok total)) ≡ Ok (two (two (number (first + k)) (number (second + k))) so_far)
-  two_numbers_more first second k total so_far before =
-      let x = number (first + k) in
-      let y = number (second + k) in
-      let beyond = all_onto second k total in
-      let onto : Ok (all_onto first k beyond) ≡ Ok so_far = sym (folds_to first k beyond) ∙ sym (ap (folded_onto f item first k) (folds_to second k total)) ∙ before in
-      let same : all_onto first k beyond ≡ so_far = cc in
-      let with_one : folded_onto f item first k (Ok (two y beyond)) ≡ Ok (two y so_far) =
-      folds_to first k (two y beyond) ∙ ap (λ z. Ok z) (first_or_last first k y beyond ∙ ap (two y) same) in
-      ap (folded_onto f item first (k + 1)) (one_number_more second k total beyond (folds_to second k total))
-      ∙ one_number_more first k (two y beyond) (two y so_far) with_one
-      ∙ ap (λ z. Ok z) (grouped x y so_far)
+  absorbed : (k n : ℕ) (total : ℤ) → two (all_onto k n total) total ≡ all_onto k n total
+  absorbed k zero total = alone total
+  absorbed k (suc n) total = sym (grouped (number k) (all_onto (suc k) n total) total) ∙ ap (two (number k)) (absorbed (suc k) n total)
 
-  -- onto what two other runs gave, each with a number more too
-  four_numbers_more : (a b c d k : ℕ) (total so_far : ℤ) → folded_onto f item a k (folded_onto f item b k (folded_onto f item c k (folded_onto f item d k (Ok total)))) ≡ Ok so_far
-      → folded_onto f item a (k + 1) (folded_onto f item b (k + 1) (folded_onto f item c (k + 1) (folded_onto f item d (k + 1) (Ok total))))
-      ≡ Ok (two (two (two (number (a + k)) (number (b + k))) (two (number (c + k)) (number (d + k)))) so_far)
-  four_numbers_more a b c d k total so_far before =
-      let low = two (number (a + k)) (number (b + k)) in
-      let high = two (number (c + k)) (number (d + k)) in
-      let beyond = all_onto c k (all_onto d k total) in
-      let inner : folded_onto f item c k (folded_onto f item d k (Ok total)) ≡ Ok beyond = ap (folded_onto f item c k) (folds_to d k total) ∙ folds_to c k (all_onto d k total) in
-      let fold_outer = λ (t : Result ℤ Fault). folded_onto f item a k (folded_onto f item b k t) in
-      let outer : (t : ℤ) → fold_outer (Ok t) ≡ Ok (all_onto a k (all_onto b k t)) = λ t. ap (folded_onto f item a k) (folds_to b k t) ∙ folds_to a k (all_onto b k t) in
-      let onto : Ok (all_onto a k (all_onto b k beyond)) ≡ Ok so_far = sym (outer beyond) ∙ sym (ap fold_outer inner) ∙ before in
-      let same : all_onto a k (all_onto b k beyond) ≡ so_far = cc in
-      let with_high : fold_outer (Ok (two high beyond)) ≡ Ok (two high so_far) =
-      outer (two high beyond) ∙ ap (λ z. Ok z) (ap (all_onto a k) (first_or_last b k high beyond) ∙ first_or_last a k high (all_onto b k beyond) ∙ ap (two high) same) in
-      ap (λ t. folded_onto f item a (k + 1) (folded_onto f item b (k + 1) t)) (two_numbers_more c d k total beyond inner)
-      ∙ two_numbers_more a b k (two high beyond) (two high so_far) with_high
-      ∙ ap (λ z. Ok z) (grouped low high so_far)
+  is_onto : (k n : ℕ) (total all : ℤ) → folded_onto f item k n (Ok total) ≡ Ok all → all_onto k n total ≡ all
+  is_onto k n total all folded = let same : Ok (all_onto k n total) ≡ Ok all = sym (folds_to k n total) ∙ folded in cc
+
+  -- onto what another run gave of the same total
+  beyond : (j k n : ℕ) (total other : ℤ) → all_onto j n total ≡ other → all_onto k n other ≡ two other (all_onto k n total)
+  beyond j k n total other is_other =
+      let both : two other total ≡ other = ap (λ i. two i total) (sym is_other) ∙ absorbed j n total ∙ is_other in
+      ap (all_onto k n) (sym both) ∙ first_or_last k n other total
+
+  -- what four runs give together of a total, by what each gives of it
+  four_joined : (a b c d n : ℕ) (total w x y z : ℤ) → folded_onto f item a n (Ok total) ≡ Ok w → folded_onto f item b n (Ok total) ≡ Ok x
+      → folded_onto f item c n (Ok total) ≡ Ok y → folded_onto f item d n (Ok total) ≡ Ok z
+      → folded_onto f item a n (folded_onto f item b n (folded_onto f item c n (folded_onto f item d n (Ok total)))) ≡ Ok (two (two w x) (two y z))
+  four_joined a b c d n total w x y z at_a at_b at_c at_d =
+      let is_w = is_onto a n total w at_a in
+      let is_x = is_onto b n total x at_b in
+      let is_y = is_onto c n total y at_c in
+      let is_z = is_onto d n total z at_d in
+      let three : all_onto c n z ≡ two z y = beyond d c n total z is_z ∙ ap (two z) is_y in
+      let two_too : all_onto b n (two z y) ≡ two z (two y x) = first_or_last b n z y ∙ ap (two z) (beyond c b n total y is_y ∙ ap (two y) is_x) in
+      let all : all_onto a n (two z (two y x)) ≡ two z (two y (two x w)) =
+      first_or_last a n z (two y x) ∙ ap (two z) (first_or_last a n y x ∙ ap (two y) (beyond b a n total x is_x ∙ ap (two x) is_w)) in
+      ap (λ t. folded_onto f item a n (folded_onto f item b n (folded_onto f item c n t))) at_d
+      ∙ ap (λ t. folded_onto f item a n (folded_onto f item b n t)) (folds_to c n z ∙ ap (λ (i : ℤ). Ok i) three)
+      ∙ ap (folded_onto f item a n) (folds_to b n (two z y) ∙ ap (λ (i : ℤ). Ok i) two_too)
+      ∙ folds_to a n (two z (two y x))
+      ∙ ap (λ (i : ℤ). Ok i) (all ∙ exchanged z y (two x w) ∙ grouped y z (two x w) ∙ turned (two y z) (two x w) ∙ ap (λ i. two i (two y z)) (turned x w))
 
 exchanged_greater : (x y z : ℤ) → int_max x (int_max y z) ≡ int_max y (int_max x z)
 exchanged_greater x y z = omega (arith, ints, clamps)
 
-exchanged_lesser : (x y z : ℤ) → int_min x (int_min y z) ≡ int_min y (int_min x z)
-exchanged_lesser x y z = omega (arith, ints, clamps)
-
 grouped_greater : (x y z : ℤ) → int_max x (int_max y z) ≡ int_max (int_max x y) z
 grouped_greater x y z = omega (arith, ints, clamps)
+
+turned_greater : (x y : ℤ) → int_max x y ≡ int_max y x
+turned_greater x y = omega (arith, ints, clamps)
+
+alone_greater : (x : ℤ) → int_max x x ≡ x
+alone_greater x = omega (arith, ints, clamps)
+
+exchanged_lesser : (x y z : ℤ) → int_min x (int_min y z) ≡ int_min y (int_min x z)
+exchanged_lesser x y z = omega (arith, ints, clamps)
 
 grouped_lesser : (x y z : ℤ) → int_min x (int_min y z) ≡ int_min (int_min x y) z
 grouped_lesser x y z = omega (arith, ints, clamps)
 
--- four quarters onto a total
-abbrev pub four : ScalarFunction → List ℤ → (a b c d : ℕ) → (total : ℤ) → (k : ℕ) → Result ℤ Fault
-four f numbers a b c d total k =
-    let item = item_in (map Int numbers) in
-    folded_onto f item a k (folded_onto f item b k (folded_onto f item c k (folded_onto f item d k (Ok total))))
+turned_lesser : (x y : ℤ) → int_min x y ≡ int_min y x
+turned_lesser x y = omega (arith, ints, clamps)
 
-pub four_quarters : (f : ScalarFunction) (numbers : List ℤ) (first n : ℕ) (total : ℤ)
-    → folded_onto f (item_in (map Int numbers)) first (2 * (2 * n)) (Ok total) ≡ four f numbers first (first + n) (first + 2 * n) (first + 2 * n + n) total n
+alone_lesser : (x : ℤ) → int_min x x ≡ x
+alone_lesser x = omega (arith, ints, clamps)
+
+four_quarters : (f : ScalarFunction) (numbers : List ℤ) (first n : ℕ) (total : Result ℤ Fault)
+    → folded_onto f (item_in (map Int numbers)) first (2 * (2 * n)) total ≡ folded_onto f (item_in (map Int numbers)) first n (folded_onto f (item_in (map Int numbers)) (first + n) n
+    (folded_onto f (item_in (map Int numbers)) (first + 2 * n) n (folded_onto f (item_in (map Int numbers)) (first + 2 * n + n) n total)))
 four_quarters f numbers first n total =
     let item = item_in (map Int numbers) in
-    two_halves f item first (2 * n) (Ok total)
-    ∙ two_halves f item first n (folded_onto f item (first + 2 * n) (2 * n) (Ok total))
-    ∙ ap (λ t. folded_onto f item first n (folded_onto f item (first + n) n t)) (two_halves f item (first + 2 * n) n (Ok total))
+    two_halves f item first (2 * n) total
+    ∙ two_halves f item first n (folded_onto f item (first + 2 * n) (2 * n) total)
+    ∙ ap (λ t. folded_onto f item first n (folded_onto f item (first + n) n t)) (two_halves f item (first + 2 * n) n total)
 
-module _ (numbers : List ℤ) (a b c d k : ℕ) (total so_far : ℤ) where
-  abbrev at : ℕ → ℤ
-  at i = slice_index_or numbers (i + k) (pos 0)
+module _ (numbers : List ℤ) (first k : ℕ) (total : ℤ) where
+  abbrev item_there : ℕ → Elem
+  item_there = item_in (map Int numbers)
 
-  pub four_more_greatest : four Ceiling numbers a b c d total k ≡ Ok so_far → four Ceiling numbers a b c d total (k + 1) ≡ Ok (int_max (int_max (int_max (at a) (at b)) (int_max (at c) (at d))) so_far)
-  four_more_greatest = four_numbers_more Ceiling int_max (λ x y. refl) exchanged_greater grouped_greater numbers a b c d k total so_far
+  pub one_greater : (so_far : ℤ) → folded_onto Ceiling item_there first k (Ok total) ≡ Ok so_far
+      → folded_onto Ceiling item_there first (k + 1) (Ok total) ≡ Ok (int_max (slice_index_or numbers (first + k) (pos 0)) so_far)
+  one_greater = one_number_more Ceiling int_max (λ x y. refl) exchanged_greater grouped_greater turned_greater alone_greater numbers first k total
 
-  pub four_more_least : four Floor numbers a b c d total k ≡ Ok so_far → four Floor numbers a b c d total (k + 1) ≡ Ok (int_min (int_min (int_min (at a) (at b)) (int_min (at c) (at d))) so_far)
-  four_more_least = four_numbers_more Floor int_min (λ x y. refl) exchanged_lesser grouped_lesser numbers a b c d k total so_far
+  pub greatest_of_quarters : (w x y z : ℤ) → folded_onto Ceiling item_there first k (Ok total) ≡ Ok w → folded_onto Ceiling item_there (first + k) k (Ok total) ≡ Ok x
+      → folded_onto Ceiling item_there (first + 2 * k) k (Ok total) ≡ Ok y → folded_onto Ceiling item_there (first + 2 * k + k) k (Ok total) ≡ Ok z
+      → folded_onto Ceiling item_there first (2 * (2 * k)) (Ok total) ≡ Ok (int_max (int_max w x) (int_max y z))
+  greatest_of_quarters w x y z at_a at_b at_c at_d =
+      four_quarters Ceiling numbers first k (Ok total)
+      ∙ four_joined Ceiling int_max (λ x y. refl) exchanged_greater grouped_greater turned_greater alone_greater numbers first (first + k) (first + 2 * k) (first + 2 * k + k) k total w x y z at_a at_b at_c at_d
+
+  pub one_lesser : (so_far : ℤ) → folded_onto Floor item_there first k (Ok total) ≡ Ok so_far
+      → folded_onto Floor item_there first (k + 1) (Ok total) ≡ Ok (int_min (slice_index_or numbers (first + k) (pos 0)) so_far)
+  one_lesser = one_number_more Floor int_min (λ x y. refl) exchanged_lesser grouped_lesser turned_lesser alone_lesser numbers first k total
+
+  pub least_of_quarters : (w x y z : ℤ) → folded_onto Floor item_there first k (Ok total) ≡ Ok w → folded_onto Floor item_there (first + k) k (Ok total) ≡ Ok x
+      → folded_onto Floor item_there (first + 2 * k) k (Ok total) ≡ Ok y → folded_onto Floor item_there (first + 2 * k + k) k (Ok total) ≡ Ok z
+      → folded_onto Floor item_there first (2 * (2 * k)) (Ok total) ≡ Ok (int_min (int_min w x) (int_min y z))
+  least_of_quarters w x y z at_a at_b at_c at_d =
+      four_quarters Floor numbers first k (Ok total)
+      ∙ four_joined Floor int_min (λ x y. refl) exchanged_lesser grouped_lesser turned_lesser alone_lesser numbers first (first + k) (first + 2 * k) (first + 2 * k + k) k total w x y z at_a at_b at_c at_d

@@ -1,5 +1,5 @@
 -- Right folds, from the right one item more.
-use Rattle.std.proofs.Common.{◌≡◌, ℕ, zero, suc, ℤ, pos, ◌+◌, ◌-◌, ◌*◌, ◌≤◌, List, Result, Err, slice_index_or, refl, ap, sym, ◌∙◌, arith}
+use Rattle.std.proofs.Common.{◌≡◌, ℕ, zero, suc, ℤ, pos, ◌+◌, ◌-◌, ◌*◌, ◌≤◌, List, Result, Ok, Err, slice_index_or, refl, ap, sym, ◌∙◌, arith}
 use Rattle.apl_array.specs.declared.array.Elem.{Elem}
 use Rattle.apl_array.specs.declared.array.Elem.TheVariants.{Int}
 use Rattle.apl_array.specs.declared.function.ScalarFunction.{ScalarFunction}
@@ -80,6 +80,24 @@ module _ (f : ScalarFunction) where
       let right : j + suc i ≡ suc j + i = omega arith in
       ap item left ∙ each (suc i) ∙ ap other right))
 
+  -- two and more of the same items
+  pub same_folded : (item other : ℕ → Elem) (k j more : ℕ) → ((i : ℕ) → item (k + i) ≡ other (j + i)) → folded f item k more ≡ folded f other j more
+  same_folded item other k j zero each =
+      let first : k ≡ k + 0 = omega arith in
+      let same : j + 0 ≡ j = omega arith in
+      let second : suc k ≡ k + 1 = omega arith in
+      let same_second : j + 1 ≡ suc j = omega arith in
+      ap (λ x. dyadic_of f x (item (suc k))) (ap item first ∙ each 0 ∙ ap other same)
+      ∙ ap (dyadic_of f (other j)) (ap item second ∙ each 1 ∙ ap other same_second)
+  same_folded item other k j (suc more) each =
+      let first : k ≡ k + 0 = omega arith in
+      let same : j + 0 ≡ j = omega arith in
+      ap (λ x. number_step f x (folded f item (suc k) more)) (ap item first ∙ each 0 ∙ ap other same)
+      ∙ ap (number_step f (other j)) (same_folded item other (suc k) (suc j) more (λ i.
+      let left : suc k + i ≡ k + suc i = omega arith in
+      let right : j + suc i ≡ suc j + i = omega arith in
+      ap item left ∙ each (suc i) ∙ ap other right))
+
   -- all items, the last two first
   pub last_two_first : (item : ℕ → Elem) (k more : ℕ) → folded f item k more ≡ folded_onto f item k more (dyadic_of f (item (k + more)) (item (suc (k + more))))
   last_two_first item k zero = let here : k ≡ k + zero = omega arith in ap (λ i. dyadic_of f (item i) (item (suc i))) here
@@ -101,3 +119,19 @@ module _ (f : ScalarFunction) where
   by_places elements first n start =
       same_items (element_along elements first 1) (item_in elements) 0 first n start
       (λ i. let place : first + (0 + i) * 1 ≡ first + i = omega arith in ap (item_in elements) place)
+
+  -- a line of neighbours, the last of which are folded first
+  pub line_folded : (elements : List Elem) (start done count : ℕ) (last all : ℤ) → done + 2 ≤ count → folded f (element_along elements (start + done) 1) 0 (count - done - 2) ≡ Ok last
+      → folded_onto f (item_in elements) start done (Ok last) ≡ Ok all → folded f (element_along elements (start + 0) 1) 0 (count - 2) ≡ Ok all
+  line_folded elements start done count last all within last_is all_is =
+      let item = element_along elements (start + 0) 1 in
+      let more = count - done - 2 in
+      let split : count - 2 ≡ done + more = omega (arith, within) in
+      let place : (i : ℕ) → start + 0 + (0 + done + i) * 1 ≡ start + done + (0 + i) * 1 = λ i. omega arith in
+      let here : start + 0 ≡ start = omega arith in
+      ap (folded f item 0) split
+      ∙ folded_by_runs item 0 done more
+      ∙ ap (folded_onto f item 0 done) (same_folded item (element_along elements (start + done) 1) (0 + done) 0 more (λ i. ap (item_in elements) (place i)) ∙ last_is)
+      ∙ by_places elements (start + 0) done (Ok last)
+      ∙ ap (λ i. folded_onto f (item_in elements) i done (Ok last)) here
+      ∙ all_is

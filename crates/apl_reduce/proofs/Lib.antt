@@ -39,6 +39,7 @@ pub mod BitFolds
 pub mod TrueCounts
 pub mod TruthFolds
 pub mod ExtremeFolds
+pub mod FourPlaces
 pub mod Reordered
 pub mod Examples
 pub mod RunProducts

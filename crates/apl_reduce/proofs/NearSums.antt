@@ -1,4 +1,4 @@
--- Sums of numbers near 0, which are added in two runs at once. Each is counted from the least number that is near 0.
+-- Sums of pairs of numbers near 0. Each is counted from the least number that is near 0.
 use Rattle.std.proofs.Common.{◌≡◌, ℕ, zero, suc, ℤ, pos, ◌+◌, ◌*◌, ◌-◌, ◌%◌, ◌^◌, ◌<◌, ◌≤◌, ◌+ℤ◌, List, refl, sym, ap, subst, ◌∙◌, ⊎_elim, arith}
 use Rattle.std.specs.Prelude.{unsigned_abs, slice_index_or, bit_or}
 use Rattle.std.proofs.Math.IntN.{+ℤ_assoc}
@@ -6,8 +6,7 @@ use Rattle.std.proofs.Math.Nat.{mod-eq_of_lt}
 use Rattle.std.proofs.lemmas.Int.{ints}
 use Rattle.std.proofs.lemmas.Nat.{le_or_l, le_or_r}
 use Rattle.std.proofs.lemmas.Bool.{cases_lt}
-use Rattle.apl_reduce.specs.Magnitudes.{sum_of, ArePairSums, AreHalfSums}
-use Rattle.apl_reduce.proofs.Distances.{sum_near}
+use Rattle.apl_reduce.specs.Magnitudes.{sum_of, ArePairSums, ArePairsAbove}
 use Rattle.apl_reduce.proofs.NearFolds.{near_sum}
 
 add_none : (z : ℤ) → z ≡ z +ℤ pos 0
@@ -36,24 +35,18 @@ near_from_above above x counted = omega (arith, ints, counted.low, counted.is)
 pub both_low : (m n : ℕ) → bit_or m n < 2 ^ 49 → (m < 2 ^ 49) × (n < 2 ^ 49)
 both_low m n low = (omega (arith, low, le_or_l m n), omega (arith, low, le_or_r m n))
 
--- two more, one of each half
-module _ (sum left beyond k : ℕ) (few : k < 2048) (most : sum ≤ k * 2 ^ 50) (x y : ℤ) (left_above : IsAbove left x) (beyond_above : IsAbove beyond y) where
-  abbrev next : ℕ
-  next = ((sum + left) % 2 ^ 64 + beyond) % 2 ^ 64
+-- one more
+module _ (sum above k : ℕ) (few : k < 8192) (most : sum ≤ k * 2 ^ 49) (x : ℤ) (counted : IsAbove above x) where
+  unwrapped : (sum + above) % 2 ^ 64 ≡ sum + above
+  unwrapped = mod-eq_of_lt (omega (arith, counted.low))
 
-  unwrapped : next ≡ sum + left + beyond
-  unwrapped =
-      let one : sum + left < 2 ^ 64 = omega (arith, left_above.low) in
-      let two : sum + left + beyond < 2 ^ 64 = omega (arith, left_above.low, beyond_above.low) in
-      ap (λ n. (n + beyond) % 2 ^ 64) (mod-eq_of_lt one) ∙ mod-eq_of_lt two
+  most_of_one_more : (sum + above) % 2 ^ 64 ≤ (k + 1) * 2 ^ 49
+  most_of_one_more = rw unwrapped (omega (arith, counted.low))
 
-  most_of_two_more : next ≤ (k + 1) * 2 ^ 50
-  most_of_two_more = rw unwrapped (omega (arith, left_above.low, beyond_above.low))
+  one_more : (a b : ℤ) → pos sum ≡ a +ℤ pos (k * 2 ^ 48) → a +ℤ x ≡ b → pos ((sum + above) % 2 ^ 64) ≡ b +ℤ pos ((k + 1) * 2 ^ 48)
+  one_more a b sum_is next_is = rw unwrapped (omega (arith, ints, counted.is))
 
-  two_more : (a b c d : ℤ) → pos sum ≡ a +ℤ b +ℤ pos (2 * k * 2 ^ 48) → a +ℤ x ≡ c → b +ℤ y ≡ d → pos next ≡ c +ℤ d +ℤ pos (2 * (k + 1) * 2 ^ 48)
-  two_more a b c d sum_is first_is second_is = rw unwrapped (omega (arith, ints, left_above.is, beyond_above.is))
-
--- ---- both halves of a run
+-- ---- pairs
 
 module _ (numbers : List ℤ) where
   abbrev pub number : ℕ → ℤ
@@ -86,101 +79,74 @@ module _ (numbers : List ℤ) where
   seconds_more : (first k : ℕ) → seconds_of first k +ℤ number (first + 2 * k + 1) ≡ seconds_of first (k + 1)
   seconds_more first k = let next : suc k ≡ k + 1 = omega arith in ap (seconds_of first) next
 
-pub no_halves : (numbers : List ℤ) (first second : ℕ) → AreHalfSums numbers first second 0 0 0
-no_halves numbers first second = record {
-  low = λ k below. absurd (omega arith);
-  high = λ k below. absurd (omega arith);
+pub no_pairs : (numbers : List ℤ) (first : ℕ) → ArePairsAbove numbers first 0 0 0
+no_pairs numbers first = record {
+  near = λ k below. absurd (omega arith);
   most_firsts = omega arith;
   most_seconds = omega arith;
   firsts_are = refl;
   seconds_are = refl;
 }
 
--- a pair more of each half
-module _ (numbers : List ℤ) (first second k firsts seconds : ℕ) (few : k < 2048) (sums : AreHalfSums numbers first second k firsts seconds) (left right left_beyond right_beyond : ℕ)
-    (left_above : IsAbove left (number numbers (first + 2 * k))) (right_above : IsAbove right (number numbers (first + 2 * k + 1)))
-    (left_beyond_above : IsAbove left_beyond (number numbers (second + 2 * k))) (right_beyond_above : IsAbove right_beyond (number numbers (second + 2 * k + 1))) where
-  pub two_pairs_more : AreHalfSums numbers first second (k + 1) (((firsts + left) % 2 ^ 64 + left_beyond) % 2 ^ 64) (((seconds + right) % 2 ^ 64 + right_beyond) % 2 ^ 64)
-  two_pairs_more = record {
-    low = one_pair_more numbers first k sums.low (near_from_above left _ left_above) (near_from_above right _ right_above);
-    high = one_pair_more numbers second k sums.high (near_from_above left_beyond _ left_beyond_above) (near_from_above right_beyond _ right_beyond_above);
-    most_firsts = most_of_two_more firsts left left_beyond k few sums.most_firsts _ _ left_above left_beyond_above;
-    most_seconds = most_of_two_more seconds right right_beyond k few sums.most_seconds _ _ right_above right_beyond_above;
-    firsts_are = two_more firsts left left_beyond k few sums.most_firsts _ _ left_above left_beyond_above _ _ _ _ sums.firsts_are (firsts_more numbers first k) (firsts_more numbers second k);
-    seconds_are = two_more seconds right right_beyond k few sums.most_seconds _ _ right_above right_beyond_above _ _ _ _ sums.seconds_are (seconds_more numbers first k) (seconds_more numbers second k);
+-- a pair more
+module _ (numbers : List ℤ) (first k firsts seconds : ℕ) (few : k < 8192) (sums : ArePairsAbove numbers first k firsts seconds) (left right : ℕ)
+    (left_above : IsAbove left (number numbers (first + 2 * k))) (right_above : IsAbove right (number numbers (first + 2 * k + 1))) where
+  pub with_one_pair : ArePairsAbove numbers first (k + 1) ((firsts + left) % 2 ^ 64) ((seconds + right) % 2 ^ 64)
+  with_one_pair = record {
+    near = one_pair_more numbers first k sums.near (near_from_above left _ left_above) (near_from_above right _ right_above);
+    most_firsts = most_of_one_more firsts left k few sums.most_firsts _ left_above;
+    most_seconds = most_of_one_more seconds right k few sums.most_seconds _ right_above;
+    firsts_are = one_more firsts left k few sums.most_firsts _ left_above _ _ sums.firsts_are (firsts_more numbers first k);
+    seconds_are = one_more seconds right k few sums.most_seconds _ right_above _ _ sums.seconds_are (seconds_more numbers first k);
   }
 
--- all pairs
-module _ (numbers : List ℤ) (first half firsts seconds : ℕ) (few : half ≤ 2048) (sums : AreHalfSums numbers first (first + 2 * half) half firsts seconds) where
-  abbrev second : ℕ
-  second = first + 2 * half
-
-  abbrev pub all_firsts : ℤ
-  all_firsts = firsts_of numbers first half +ℤ firsts_of numbers second half
-
-  abbrev pub all_seconds : ℤ
-  all_seconds = seconds_of numbers first half +ℤ seconds_of numbers second half
-
-  firsts_near : (place : ℕ) → AreNear numbers place (2 * half) → unsigned_abs (firsts_of numbers place half) ≤ 2 ^ 59
-  firsts_near place near =
-      let so_far = near_sum (λ k. number numbers (place + 2 * k)) (2 ^ 48) half (λ k below. near (2 * k) (omega arith)) in
-      omega (arith, so_far)
-
-  seconds_near : (place : ℕ) → AreNear numbers place (2 * half) → unsigned_abs (seconds_of numbers place half) ≤ 2 ^ 59
-  seconds_near place near =
-      let at : (k : ℕ) → place + (2 * k + 1) ≡ place + 2 * k + 1 = λ k. omega arith in
-      let so_far = near_sum (λ k. number numbers (place + 2 * k + 1)) (2 ^ 48) half (λ k below. subst (λ i. unsigned_abs (number numbers i) ≤ 2 ^ 48) (at k) (near (2 * k + 1) (omega arith))) in
-      omega (arith, so_far)
-
-  pub all_firsts_near : unsigned_abs all_firsts ≤ 2 ^ 60
-  all_firsts_near =
-      omega (arith, sum_near (firsts_of numbers first half) (firsts_of numbers second half), firsts_near first sums.low, firsts_near second sums.high)
-
-  pub all_seconds_near : unsigned_abs all_seconds ≤ 2 ^ 60
-  all_seconds_near =
-      omega (arith, sum_near (seconds_of numbers first half) (seconds_of numbers second half), seconds_near first sums.low, seconds_near second sums.high)
-
-  pub are_pair_sums : ArePairSums numbers first (2 * half) all_firsts all_seconds
-  are_pair_sums =
-      let twice : half + half ≡ 2 * half = omega arith in
-      let IsNear : ℕ → Type 0 = λ i. unsigned_abs (number numbers i) ≤ 2 ^ 48 in
-      let left : (k : ℕ) → first + 2 * (half + k) ≡ second + 2 * k = λ k. omega arith in
-      let right : (k : ℕ) → first + 2 * (half + k) + 1 ≡ second + 2 * k + 1 = λ k. omega arith in
-      record {
-        near = λ k below.
-            ⊎_elim
-            (λ early. sums.low k early)
-            (λ late.
-            let place : second + (k - 2 * half) ≡ first + k = omega arith in
-            subst IsNear place (sums.high (k - 2 * half) (omega arith)))
-            (cases_lt k (2 * half));
-        firsts_are = sym (ap (firsts_of numbers first) (sym twice) ∙ two_sums (λ k. number numbers (first + 2 * k)) half half
-            ∙ ap (λ z. firsts_of numbers first half +ℤ z) (same_sum _ _ half (λ k. ap (number numbers) (left k))));
-        seconds_are = sym (ap (seconds_of numbers first) (sym twice) ∙ two_sums (λ k. number numbers (first + 2 * k + 1)) half half
-            ∙ ap (λ z. seconds_of numbers first half +ℤ z) (same_sum _ _ half (λ k. ap (number numbers) (right k))));
-      }
-
 -- the pairs of a run and of the one after it
-module _ (numbers : List ℤ) (first pairs : ℕ) (firsts seconds more_firsts more_seconds : ℤ) (low : ArePairSums numbers first pairs firsts seconds)
-    (high : ArePairSums numbers (first + 2 * pairs) pairs more_firsts more_seconds) where
-  pub joined_sums : ArePairSums numbers first (2 * pairs) (firsts +ℤ more_firsts) (seconds +ℤ more_seconds)
-  joined_sums =
-      let twice : pairs + pairs ≡ 2 * pairs = omega arith in
-      let IsNear : ℕ → Type 0 = λ i. unsigned_abs (number numbers i) ≤ 2 ^ 48 in
-      let left : (k : ℕ) → first + 2 * (pairs + k) ≡ first + 2 * pairs + 2 * k = λ k. omega arith in
-      let right : (k : ℕ) → first + 2 * (pairs + k) + 1 ≡ first + 2 * pairs + 2 * k + 1 = λ k. omega arith in
-      record {
-        near = λ k below.
-            ⊎_elim
-            (λ early. low.near k early)
-            (λ late.
-            let place : first + 2 * pairs + (k - 2 * pairs) ≡ first + k = omega arith in
-            subst IsNear place (high.near (k - 2 * pairs) (omega arith)))
-            (cases_lt k (2 * pairs));
-        firsts_are = sym (ap (firsts_of numbers first) (sym twice) ∙ two_sums (λ k. number numbers (first + 2 * k)) pairs pairs
-            ∙ ap (λ z. firsts_of numbers first pairs +ℤ z) (same_sum _ _ pairs (λ k. ap (number numbers) (left k)))
-            ∙ ap (λ z. z +ℤ firsts_of numbers (first + 2 * pairs) pairs) (sym low.firsts_are) ∙ ap (λ z. firsts +ℤ z) (sym high.firsts_are));
-        seconds_are = sym (ap (seconds_of numbers first) (sym twice) ∙ two_sums (λ k. number numbers (first + 2 * k + 1)) pairs pairs
-            ∙ ap (λ z. seconds_of numbers first pairs +ℤ z) (same_sum _ _ pairs (λ k. ap (number numbers) (right k)))
-            ∙ ap (λ z. z +ℤ seconds_of numbers (first + 2 * pairs) pairs) (sym low.seconds_are) ∙ ap (λ z. seconds +ℤ z) (sym high.seconds_are));
-      }
+module _ (numbers : List ℤ) (first pairs firsts seconds more_firsts more_seconds : ℕ) (few : pairs < 8192) (low : ArePairsAbove numbers first pairs firsts seconds)
+    (high : ArePairsAbove numbers (first + 2 * pairs) pairs more_firsts more_seconds) where
+  both_firsts : firsts_of numbers first (2 * pairs) ≡ firsts_of numbers first pairs +ℤ firsts_of numbers (first + 2 * pairs) pairs
+  both_firsts =
+      let twice : 2 * pairs ≡ pairs + pairs = omega arith in
+      let place : (k : ℕ) → first + 2 * (pairs + k) ≡ first + 2 * pairs + 2 * k = λ k. omega arith in
+      ap (firsts_of numbers first) twice ∙ two_sums (λ k. number numbers (first + 2 * k)) pairs pairs
+      ∙ ap (λ z. firsts_of numbers first pairs +ℤ z) (same_sum _ _ pairs (λ k. ap (number numbers) (place k)))
+
+  both_seconds : seconds_of numbers first (2 * pairs) ≡ seconds_of numbers first pairs +ℤ seconds_of numbers (first + 2 * pairs) pairs
+  both_seconds =
+      let twice : 2 * pairs ≡ pairs + pairs = omega arith in
+      let place : (k : ℕ) → first + 2 * (pairs + k) + 1 ≡ first + 2 * pairs + 2 * k + 1 = λ k. omega arith in
+      ap (seconds_of numbers first) twice ∙ two_sums (λ k. number numbers (first + 2 * k + 1)) pairs pairs
+      ∙ ap (λ z. seconds_of numbers first pairs +ℤ z) (same_sum _ _ pairs (λ k. ap (number numbers) (place k)))
+
+  unwrapped_firsts : (firsts + more_firsts) % 2 ^ 64 ≡ firsts + more_firsts
+  unwrapped_firsts = mod-eq_of_lt (omega (arith, low.most_firsts, high.most_firsts))
+
+  unwrapped_seconds : (seconds + more_seconds) % 2 ^ 64 ≡ seconds + more_seconds
+  unwrapped_seconds = mod-eq_of_lt (omega (arith, low.most_seconds, high.most_seconds))
+
+  pub joined_pairs : ArePairsAbove numbers first (2 * pairs) ((firsts + more_firsts) % 2 ^ 64) ((seconds + more_seconds) % 2 ^ 64)
+  joined_pairs = record {
+    near = λ k below.
+        ⊎_elim
+        (λ early. low.near k early)
+        (λ late.
+        let place : first + 2 * pairs + (k - 2 * pairs) ≡ first + k = omega arith in
+        subst (λ i. unsigned_abs (number numbers i) ≤ 2 ^ 48) place (high.near (k - 2 * pairs) (omega arith)))
+        (cases_lt k (2 * pairs));
+    most_firsts = rw unwrapped_firsts (omega (arith, low.most_firsts, high.most_firsts));
+    most_seconds = rw unwrapped_seconds (omega (arith, low.most_seconds, high.most_seconds));
+    firsts_are = rw unwrapped_firsts (omega (arith, ints, low.firsts_are, high.firsts_are, both_firsts));
+    seconds_are = rw unwrapped_seconds (omega (arith, ints, low.seconds_are, high.seconds_are, both_seconds));
+  }
+
+-- 64 bits hold the sums
+module _ (numbers : List ℤ) (first pairs firsts seconds : ℕ) (few : pairs ≤ 8192) (sums : ArePairsAbove numbers first pairs firsts seconds) where
+  pub firsts_near : unsigned_abs (firsts_of numbers first pairs) ≤ 2 ^ 61
+  firsts_near =
+      let so_far = near_sum (λ k. number numbers (first + 2 * k)) (2 ^ 48) pairs (λ k below. sums.near (2 * k) (omega arith)) in
+      omega (arith, so_far)
+
+  pub seconds_near : unsigned_abs (seconds_of numbers first pairs) ≤ 2 ^ 61
+  seconds_near =
+      let at : (k : ℕ) → first + (2 * k + 1) ≡ first + 2 * k + 1 = λ k. omega arith in
+      let so_far = near_sum (λ k. number numbers (first + 2 * k + 1)) (2 ^ 48) pairs (λ k below. subst (λ i. unsigned_abs (number numbers i) ≤ 2 ^ 48) (at k) (sums.near (2 * k + 1) (omega arith))) in
+      omega (arith, so_far)

@@ -13,6 +13,7 @@ pub mod BitFolds
 pub mod Ones
 pub mod TruthFolds
 pub mod RowFolds
+pub mod FourFolds
 pub mod Fronts
 pub mod Carrying
 pub mod Items

@@ -1,5 +1,6 @@
 -- How far numbers are from 0, and sums of them. No contract of a public function cites this file.
 use Rattle.std.specs.Prelude.{◌≡◌, ℕ, zero, suc, ℤ, pos, ◌+◌, ◌*◌, ◌^◌, ◌<◌, ◌≤◌, ◌+ℤ◌, List, [], ◌∷◌, unsigned_abs, max, slice_index_or}
+use Rattle.apl_reduce.specs.declared.near_sums.AboveSums.{AboveSums}
 
 -- the greatest distance from 0 among numbers, and 0 among none
 abbrev pub magnitude : List ℤ → ℕ
@@ -18,13 +19,14 @@ pub record ArePairSums (numbers : List ℤ) (first pairs : ℕ) (firsts seconds 
   pub firsts_are : firsts ≡ sum_of (λ k. slice_index_or numbers (first + 2 * k) (pos 0)) pairs
   pub seconds_are : seconds ≡ sum_of (λ k. slice_index_or numbers (first + 2 * k + 1) (pos 0)) pairs
 
--- what `k` pairs of each of two runs add up to, if each number is counted from the least one that is near 0
-pub record AreHalfSums (numbers : List ℤ) (first second k firsts seconds : ℕ) : Type 0 where
-  pub low : (j : ℕ) → j < 2 * k → unsigned_abs (slice_index_or numbers (first + j) (pos 0)) ≤ 2 ^ 48
-  pub high : (j : ℕ) → j < 2 * k → unsigned_abs (slice_index_or numbers (second + j) (pos 0)) ≤ 2 ^ 48
-  pub most_firsts : firsts ≤ k * 2 ^ 50
-  pub most_seconds : seconds ≤ k * 2 ^ 50
-  pub firsts_are : pos firsts ≡ sum_of (λ j. slice_index_or numbers (first + 2 * j) (pos 0)) k
-      +ℤ sum_of (λ j. slice_index_or numbers (second + 2 * j) (pos 0)) k +ℤ pos (2 * k * 2 ^ 48)
-  pub seconds_are : pos seconds ≡ sum_of (λ j. slice_index_or numbers (first + 2 * j + 1) (pos 0)) k
-      +ℤ sum_of (λ j. slice_index_or numbers (second + 2 * j + 1) (pos 0)) k +ℤ pos (2 * k * 2 ^ 48)
+-- what these pairs add up to, if each number is counted from the least one that is near 0
+pub record ArePairsAbove (numbers : List ℤ) (first pairs firsts seconds : ℕ) : Type 0 where
+  pub near : (k : ℕ) → k < 2 * pairs → unsigned_abs (slice_index_or numbers (first + k) (pos 0)) ≤ 2 ^ 48
+  pub most_firsts : firsts ≤ pairs * 2 ^ 49
+  pub most_seconds : seconds ≤ pairs * 2 ^ 49
+  pub firsts_are : pos firsts ≡ sum_of (λ k. slice_index_or numbers (first + 2 * k) (pos 0)) pairs +ℤ pos (pairs * 2 ^ 48)
+  pub seconds_are : pos seconds ≡ sum_of (λ k. slice_index_or numbers (first + 2 * k + 1) (pos 0)) pairs +ℤ pos (pairs * 2 ^ 48)
+
+-- they are that, if no bit of any number so counted says that one is far from 0
+abbrev pub AreAboveSums : List ℤ → (first pairs : ℕ) → AboveSums → Type 0
+AreAboveSums numbers first pairs sums = sums.bits < 2 ^ 49 → ArePairsAbove numbers first pairs sums.firsts sums.seconds

@@ -10,8 +10,9 @@ ghost use Rattle.apl_reduce.specs.Folded.{fold_at};
 
 use crate::foldable::{Foldable, Numeric};
 use crate::folded_rows::{fold_last_rows, fold_rows, from_place};
+use crate::four::Four;
 use crate::item_rows::{ItemRows, PlacedItems};
-use crate::line_folds::fold_along;
+use crate::line_folds::{fold_along, fold_lines};
 use crate::outer_products::NARROW;
 use crate::sharing::shares_items;
 use crate::truth_folds::has_truth_runs;
@@ -87,6 +88,23 @@ impl<T> AxisItems<'_, T> {
         self.inner.quotient(place) * self.block + self.inner.remainder(place)
     }
 
+    /// Where the items at four places begin.
+    #[inline(always)]
+    fn four_lines(&self, place: usize) -> Four<usize>
+        requires { place + 4 ≤ self.now.count }
+        ensures first { result.first ≡ place / self.now.inner * self.now.block + place % self.now.inner }
+        ensures second { result.second ≡ (place + 1) / self.now.inner * self.now.block + (place + 1) % self.now.inner }
+        ensures third { result.third ≡ (place + 2) / self.now.inner * self.now.block + (place + 2) % self.now.inner }
+        ensures fourth { result.fourth ≡ (place + 3) / self.now.inner * self.now.block + (place + 3) % self.now.inner }
+    {
+        Four {
+            first: self.first_item(place),
+            second: self.first_item(place + 1),
+            third: self.first_item(place + 2),
+            fourth: self.first_item(place + 3),
+        }
+    }
+
     /// Whether too few places are side by side to be folded together.
     #[inline(always)]
     fn has_narrow_rows(&self) -> bool {
@@ -136,6 +154,9 @@ impl<T: Foldable, F: Function> Kernel for AxisFolds<'_, T, F> {
     }
 
     fn write_run(&self, from: usize, to: usize, room: &mut [i64]) -> usize {
+        if self.axis.inner.number() == 1 {
+            return self.write_lines(from, to, room);
+        }
         let len = self.axis.run_length(from, to);
         if len == 0 || !self.fold_run(from, &mut room[..len]) {
             return from;
@@ -164,6 +185,38 @@ impl<T: Foldable, F: Function> AxisFolds<'_, T, F> {
         let right = from_place(axis.elements, last + stride);
         fold_last_rows::<F, T>(left, right, totals)
             && fold_rows::<F, T>(axis.elements, first, stride, more, totals)
+    }
+
+    /// Writes the folds at four places, the items of each of which are neighbours. It answers the place after them, or `from` if it
+    /// wrote none.
+    fn write_lines(&self, from: usize, to: usize, room: &mut [i64]) -> usize
+        requires order { from ≤ to }
+        requires places { to ≤ self.now.axis.now.count }
+        requires room { from + length room.old ≡ to }
+        requires near { self.now.axis.now.inner ≡ 1 }
+        ensures order { from ≤ result }
+        ensures within { result ≤ to }
+        ensures values { let a = self.now.axis.now in
+            AreWritten (fold_at F.FUNCTION (map T.elem_of a.elements.now) a.items a.block a.inner) from result room.new }
+        ensures len { length room.new ≡ length room.old }
+    {
+        if to - from < 4 {
+            return from;
+        }
+        match fold_lines::<F, T>(
+            self.axis.elements,
+            self.axis.four_lines(from),
+            self.axis.items,
+        ) {
+            Some(folds) => {
+                room[0] = folds.first;
+                room[1] = folds.second;
+                room[2] = folds.third;
+                room[3] = folds.fourth;
+                from + 4
+            }
+            None => from,
+        }
     }
 }
 

@@ -1,29 +1,87 @@
-//! Right folds by `⌈` and `⌊`, of a run at once.
+//! Right folds by `⌈` and `⌊`, of four runs at once.
 ghost use Rattle.std.specs.Prelude.{◌≡◌, ◌+◌, ◌*◌, ◌≤◌, IfSome, Ok, length, map};
 ghost use Rattle.apl_array.specs.declared.array.Elem.TheVariants.{Int};
 ghost use Rattle.apl_array.specs.declared.function.ScalarFunction.TheVariants.{Ceiling, Floor};
 ghost use Rattle.apl_reduce.specs.Folded.{folded_onto};
+ghost use Rattle.apl_reduce.specs.FourFolds.{AreRuns, AreFourFolds};
 ghost use Rattle.apl_reduce.specs.Items.{item_in};
 
+use crate::four::{Four, quarters};
 use apl_array::ScalarFunction;
 use apl_scalar::function_types::Function;
 
-/// The greatest of a total and four quarters of neighbours from a place on. A turn takes a number of each quarter, since memory gives four
-/// streams faster than one. The loop has no branches, and a processor compares several numbers at once.
+/// The greatest of each total and of as many neighbours from its place on. A turn takes a number of each run. The loop has no branches, and
+/// a processor compares several numbers at once.
+pub(crate) fn each_greatest(
+    numbers: &[i64],
+    starts: Four<usize>,
+    count: usize,
+    totals: Four<i64>,
+) -> Four<i64>
+    requires within { AreRuns starts count (length numbers.now) }
+    ensures { AreFourFolds Ceiling (map Int numbers.now) starts count totals result }
+{
+    let mut one = totals.first;
+    let mut two = totals.second;
+    let mut three = totals.third;
+    let mut four = totals.fourth;
+    for k in 0..count {
+        one = numbers[starts.first + k].max(one);
+        two = numbers[starts.second + k].max(two);
+        three = numbers[starts.third + k].max(three);
+        four = numbers[starts.fourth + k].max(four);
+    }
+    Four {
+        first: one,
+        second: two,
+        third: three,
+        fourth: four,
+    }
+}
+
+/// The least of each total and of as many neighbours from its place on.
+pub(crate) fn each_least(
+    numbers: &[i64],
+    starts: Four<usize>,
+    count: usize,
+    totals: Four<i64>,
+) -> Four<i64>
+    requires within { AreRuns starts count (length numbers.now) }
+    ensures { AreFourFolds Floor (map Int numbers.now) starts count totals result }
+{
+    let mut one = totals.first;
+    let mut two = totals.second;
+    let mut three = totals.third;
+    let mut four = totals.fourth;
+    for k in 0..count {
+        one = numbers[starts.first + k].min(one);
+        two = numbers[starts.second + k].min(two);
+        three = numbers[starts.third + k].min(three);
+        four = numbers[starts.fourth + k].min(four);
+    }
+    Four {
+        first: one,
+        second: two,
+        third: three,
+        fourth: four,
+    }
+}
+
+/// The greatest of a total and four quarters of neighbours from a place on.
 fn greatest_onto(numbers: &[i64], first: usize, quarter: usize, total: i64) -> i64
     requires within { first + 4 * quarter ≤ length numbers.now }
     ensures { folded_onto Ceiling (item_in (map Int numbers.now)) first (2 * (2 * quarter)) (Ok total) ≡ Ok result }
 {
-    let second = first + quarter;
-    let third = first + 2 * quarter;
-    let fourth = third + quarter;
-    let mut greatest = total;
-    for k in 0..quarter {
-        let low = numbers[first + k].max(numbers[second + k]);
-        let high = numbers[third + k].max(numbers[fourth + k]);
-        greatest = low.max(high).max(greatest);
-    }
-    greatest
+    let totals = Four {
+        first: total,
+        second: total,
+        third: total,
+        fourth: total,
+    };
+    let all = each_greatest(numbers, quarters(first, quarter), quarter, totals);
+    let low = all.first.max(all.second);
+    let high = all.third.max(all.fourth);
+    low.max(high)
 }
 
 /// The least of a total and four quarters of neighbours from a place on.
@@ -31,16 +89,16 @@ fn least_onto(numbers: &[i64], first: usize, quarter: usize, total: i64) -> i64
     requires within { first + 4 * quarter ≤ length numbers.now }
     ensures { folded_onto Floor (item_in (map Int numbers.now)) first (2 * (2 * quarter)) (Ok total) ≡ Ok result }
 {
-    let second = first + quarter;
-    let third = first + 2 * quarter;
-    let fourth = third + quarter;
-    let mut least = total;
-    for k in 0..quarter {
-        let low = numbers[first + k].min(numbers[second + k]);
-        let high = numbers[third + k].min(numbers[fourth + k]);
-        least = low.min(high).min(least);
-    }
-    least
+    let totals = Four {
+        first: total,
+        second: total,
+        third: total,
+        fourth: total,
+    };
+    let all = each_least(numbers, quarters(first, quarter), quarter, totals);
+    let low = all.first.min(all.second);
+    let high = all.third.min(all.fourth);
+    low.min(high)
 }
 
 /// The fold of four quarters of neighbours onto a total by `⌈` or `⌊`, which give the same from the first number on.
@@ -57,6 +115,24 @@ pub(crate) fn extreme_fold<F: Function>(
     match F::FUNCTION {
         ScalarFunction::Ceiling => Some(greatest_onto(numbers, first, quarter, total)),
         ScalarFunction::Floor => Some(least_onto(numbers, first, quarter, total)),
+        _ => None,
+    }
+}
+
+/// The folds of four runs of neighbours onto their totals by `⌈` or `⌊`.
+#[inline(always)]
+pub(crate) fn extreme_folds<F: Function>(
+    numbers: &[i64],
+    starts: Four<usize>,
+    count: usize,
+    totals: Four<i64>,
+) -> Option<Four<i64>>
+    requires within { AreRuns starts count (length numbers.now) }
+    ensures { IfSome result (λ folds. AreFourFolds F.FUNCTION (map Int numbers.now) starts count totals folds) }
+{
+    match F::FUNCTION {
+        ScalarFunction::Ceiling => Some(each_greatest(numbers, starts, count, totals)),
+        ScalarFunction::Floor => Some(each_least(numbers, starts, count, totals)),
         _ => None,
     }
 }

@@ -4,7 +4,8 @@ ghost use Rattle.apl_array.specs.Array.{bit};
 
 use crate::folded_rows::{fold_each, fold_number_rows};
 use crate::folding::fold_many;
-use crate::run_folds::{fold_neighbours, has_quick_runs};
+use crate::four::Four;
+use crate::run_folds::{fold_neighbours, has_quick_runs, quick_folds};
 use crate::truth_folds::{fold_truths, has_truth_runs};
 use apl_answer::ElementType;
 use apl_pool::Fault;
@@ -49,9 +50,10 @@ impl Numeric for bool {
 
 /// Elements of one kind, which are folded onto what those after them gave.
 pub(crate) trait Foldable: ElementType {
-    ghost use Rattle.std.specs.Prelude.{◌≡◌, ◌+◌, ◌*◌, ◌<◌, ◌≤◌, true, Ok, length, map};
+    ghost use Rattle.std.specs.Prelude.{◌≡◌, ◌+◌, ◌*◌, ◌<◌, ◌≤◌, true, IfSome, Ok, length, map};
     ghost use Rattle.apl_pool.specs.declared.kernel.TheConstants.{MOST_PLACES};
     ghost use Rattle.apl_reduce.specs.Folded.{folded_onto, element_along};
+    ghost use Rattle.apl_reduce.specs.FourFolds.{AreRuns, AreFourFolds};
     ghost use Rattle.apl_reduce.specs.RowFolds.{AreFoldedOnto};
 
     /// The right fold of `count` elements that are `stride` apart from place `first` on, onto a total.
@@ -78,6 +80,19 @@ pub(crate) trait Foldable: ElementType {
         requires most { length elements.now ≤ MOST_PLACES }
         ensures values { result ≡ true → AreFoldedOnto F.FUNCTION (map Self.elem_of elements.now) first stride count totals.old totals.new }
         ensures len { length totals.new ≡ length totals.old };
+
+    /// The right folds of four runs of pairs of neighbours onto their totals at once, unless this is not quicker, or one is in doubt.
+    fn fold_pairs<F: Function>(
+        _elements: &[Self],
+        _starts: Four<usize>,
+        _pairs: usize,
+        _totals: Four<i64>,
+    ) -> Option<Four<i64>>
+        requires within { AreRuns _starts (2 * _pairs) (length _elements.now) }
+        ensures { IfSome result (λ folds. AreFourFolds F.FUNCTION (map Self.elem_of _elements.now) _starts (2 * _pairs) _totals folds) }
+    {
+        None
+    }
 }
 
 impl Foldable for i64 {
@@ -104,6 +119,16 @@ impl Foldable for i64 {
         totals: &mut [i64],
     ) -> bool {
         fold_number_rows::<F, i64>(elements, first, stride, count, totals)
+    }
+
+    #[inline(always)]
+    fn fold_pairs<F: Function>(
+        numbers: &[i64],
+        starts: Four<usize>,
+        pairs: usize,
+        totals: Four<i64>,
+    ) -> Option<Four<i64>> {
+        quick_folds::<F>(numbers, starts, pairs, totals)
     }
 }
 

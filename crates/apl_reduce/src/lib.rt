@@ -22,6 +22,7 @@ mod extreme_folds;
 mod foldable;
 mod folded_rows;
 mod folding;
+mod four;
 mod inner_products;
 mod item_rows;
 mod item_runs;

@@ -1,51 +1,36 @@
-use Rattle.std.proofs.Common.{◌≡◌, ℤ, pos, ◌+◌, ◌*◌, Ok, slice_index_or, FitsSigned, to_z, of_z, w64, sym, ap, ◌∙◌, arith, rules}
+use Rattle.std.proofs.Common.{◌≡◌, ℕ, ℤ, map, Ok, to_z, of_z, w64, sym, ap, subst, ◌∙◌, rules}
 use Rattle.std.specs.Int.{int_min}
 use Rattle.std.proofs.lemmas.Int.{to_z-of_z}
+use Rattle.apl_array.specs.declared.array.Elem.TheVariants.{Int}
 use Rattle.apl_array.specs.declared.function.ScalarFunction.TheVariants.{Floor}
-use Rattle.apl_reduce.proofs.ExtremeFolds.{four, four_quarters, four_more_least}
+use Rattle.apl_reduce.specs.Folded.{folded_onto}
+use Rattle.apl_reduce.specs.Items.{item_in}
+use Rattle.apl_reduce.proofs.ExtremeFolds.{least_of_quarters}
 use Rattle.apl_reduce.proofs.extreme_folds.least_onto.Goals as goal
-
-pub loop-k-preserved : goal.loop-k-preserved
-loop-k-preserved c =
-    let numbers = c.args.numbers.now in
-    let first = c.args.first in
-    let second = first + c.args.quarter in
-    let third = first + 2 * c.args.quarter in
-    let fourth = third + c.args.quarter in
-    let k = c.loop-k.k in
-    let x = slice_index_or numbers (first + k) (pos 0) in
-    let y = slice_index_or numbers (second + k) (pos 0) in
-    let z = slice_index_or numbers (third + k) (pos 0) in
-    let w = slice_index_or numbers (fourth + k) (pos 0) in
-    let so_far = to_z w64 c.loop-k.least-bits in
-    let low = c.min-low.result in
-    let high = c.min-high.result in
-    let all = c.min.result in
-    let next = c.min-least.result in
-    let fits_x : FitsSigned w64 x = search rules in
-    let fits_y : FitsSigned w64 y = search rules in
-    let fits_z : FitsSigned w64 z = search rules in
-    let fits_w : FitsSigned w64 w = search rules in
-    let kept_low : to_z w64 (of_z w64 low) ≡ low = search rules in
-    let kept_high : to_z w64 (of_z w64 high) ≡ high = search rules in
-    let kept_all : to_z w64 (of_z w64 all) ≡ all = search rules in
-    let kept : to_z w64 (of_z w64 next) ≡ next = search rules in
-    let low_is = c.min-low.ensures.value ∙ ap (λ i. int_min i (to_z w64 (of_z w64 y))) (to_z-of_z w64 x fits_x) ∙ ap (int_min x) (to_z-of_z w64 y fits_y) in
-    let high_is = c.min-high.ensures.value ∙ ap (λ i. int_min i (to_z w64 (of_z w64 w))) (to_z-of_z w64 z fits_z) ∙ ap (int_min z) (to_z-of_z w64 w fits_w) in
-    let all_is = c.min.ensures.value ∙ ap (λ i. int_min i (to_z w64 (of_z w64 high))) (kept_low ∙ low_is) ∙ ap (int_min (int_min x y)) (kept_high ∙ high_is) in
-    let next_is = kept ∙ c.min-least.ensures.value ∙ ap (λ i. int_min i so_far) (kept_all ∙ all_is) in
-    four_more_least numbers first second third fourth k _ so_far c.loop-k.invariant ∙ ap (λ (i : ℤ). Ok i) (sym next_is)
 
 pub returns : goal.returns
 returns c =
     let numbers = c.args.numbers.now in
-    let first = c.args.first in
     let quarter = c.args.quarter in
     let total = c.args.total in
-    let all : quarter ≡ c.loop-k.k = omega (arith, c.loop-k-test.false, c.loop-k.auto.k-end) in
-    let read : total ≡ to_z w64 (of_z w64 total) = sym (to_z-of_z w64 total c.ranges.total) in
-    let fold = λ (t : ℤ). four Floor numbers first (first + quarter) (first + 2 * quarter) (first + 2 * quarter + quarter) t in
-    four_quarters Floor numbers first quarter total
-    ∙ ap (fold total) all
-    ∙ ap (λ t. fold t c.loop-k.k) read
-    ∙ c.loop-k.invariant
+    let all = c.each_least-all.result in
+    let folds = c.each_least-all.ensures in
+    let FoldsTo : ℕ → ℤ → ℤ → Type 0 = λ start t z. folded_onto Floor (item_in (map Int numbers)) start quarter (Ok t) ≡ Ok z in
+    let read : to_z w64 (of_z w64 total) ≡ total = to_z-of_z w64 total c.ranges.total in
+    let stored_first : to_z w64 (of_z w64 all.first) ≡ all.first = search rules in
+    let stored_second : to_z w64 (of_z w64 all.second) ≡ all.second = search rules in
+    let stored_third : to_z w64 (of_z w64 all.third) ≡ all.third = search rules in
+    let stored_fourth : to_z w64 (of_z w64 all.fourth) ≡ all.fourth = search rules in
+    let low_is = c.min-low.ensures.value ∙ ap (λ i. int_min i (to_z w64 (of_z w64 all.second))) stored_first ∙ ap (int_min all.first) stored_second in
+    let high_is = c.min-high.ensures.value ∙ ap (λ i. int_min i (to_z w64 (of_z w64 all.fourth))) stored_third ∙ ap (int_min all.third) stored_fourth in
+    let stored_low : to_z w64 (of_z w64 c.min-low.result) ≡ c.min-low.result = search rules in
+    let stored_high : to_z w64 (of_z w64 c.min-high.result) ≡ c.min-high.result = search rules in
+    let stored : to_z w64 (of_z w64 c.min.result) ≡ c.min.result = search rules in
+    let result_is = stored ∙ c.min.ensures.value ∙ ap (λ i. int_min i (to_z w64 (of_z w64 c.min-high.result))) (stored_low ∙ low_is)
+    ∙ ap (int_min (int_min all.first all.second)) (stored_high ∙ high_is) in
+    least_of_quarters numbers c.args.first quarter total all.first all.second all.third all.fourth
+    (subst (λ i. FoldsTo i total all.first) c.quarters.ensures.first (subst (λ t. FoldsTo c.quarters.result.first t all.first) read folds.first))
+    (subst (λ i. FoldsTo i total all.second) c.quarters.ensures.second (subst (λ t. FoldsTo c.quarters.result.second t all.second) read folds.second))
+    (subst (λ i. FoldsTo i total all.third) c.quarters.ensures.third (subst (λ t. FoldsTo c.quarters.result.third t all.third) read folds.third))
+    (subst (λ i. FoldsTo i total all.fourth) c.quarters.ensures.fourth (subst (λ t. FoldsTo c.quarters.result.fourth t all.fourth) read folds.fourth))
+    ∙ ap (λ (z : ℤ). Ok z) (sym result_is)

@@ -1,5 +1,5 @@
-use Rattle.apl_reduce.proofs.NearSums.{no_halves}
+use Rattle.apl_reduce.proofs.NearSums.{no_pairs}
 use Rattle.apl_reduce.proofs.near_sums.AboveSums.none.Goals as goal
 
 pub returns : goal.returns
-returns c = λ numbers first second. no_halves numbers first second
+returns c = λ numbers first low. no_pairs numbers first
