@@ -1,15 +1,16 @@
 -- A run of items that are numbers folds as these.
-use Rattle.std.proofs.Common.{◌≡◌, ℕ, zero, suc, ℤ, pos, ◌+◌, ◌-◌, ◌*◌, ◌<◌, ◌≤◌, List, map, slice_index_or, Option, Result, Ok, Err, refl, sym, ap, ◌∙◌, arith}
+use Rattle.std.proofs.Common.{◌≡◌, ℕ, zero, suc, ℤ, pos, ◌+◌, ◌-◌, ◌*◌, ◌<◌, ◌≤◌, List, map, slice_index_or, Option, Some, None, Result, Ok, Err, refl, sym, ap, ◌∙◌, arith}
 use Rattle.std.specs.Prelude.{IfSome}
 use Rattle.std.specs.Result.{result_ok}
-use Rattle.std.proofs.lemmas.List.{get_or-map}
+use Rattle.std.proofs.Math.ListN.{get_or-map}
 use Rattle.apl_array.specs.declared.array.Elem.{Elem}
 use Rattle.apl_array.specs.declared.array.Elem.TheVariants.{Int}
 use Rattle.apl_array.specs.declared.function.ScalarFunction.{ScalarFunction}
 use Rattle.apl_pool.specs.declared.kernel.Fault.{Fault}
 use Rattle.apl_reduce.specs.Folded.{folded_onto, element_along}
 use Rattle.apl_reduce.specs.Folded
-use Rattle.apl_reduce.specs.Items.{number_step, folded_from, meeting_number}
+use Rattle.apl_reduce.specs.Items.{as_number, number_step, folded_from, judged_items, meeting_number}
+use Rattle.apl_reduce.proofs.JudgedItems.{judged_value}
 
 -- a step by the element that a number is
 step_of_number : (f : ScalarFunction) (z : ℤ) (r : Result ℤ Fault) → Folded.number_step f (Int z) r ≡ number_step f (Ok z) r
@@ -19,11 +20,7 @@ step_of_number f z (Err fault) = refl
 module _ (item : ℕ → Result ℤ Fault) (numbers : List ℤ) (f : ScalarFunction) (first count more : ℕ) (folded : ℤ)
     (each : (k : ℕ) → k < count → item (first + k) ≡ Ok (slice_index_or numbers k (pos 0)))
     (right : folded_from item f (first + count) more ≡ Ok folded) where
-  along : ℕ → Type 0
-  along j = element_along (map Int numbers) 0 1 j ≡ Int (slice_index_or numbers j (pos 0))
-
-  element : (j : ℕ) → along j
-  unfolding along
+  element : (j : ℕ) → element_along (map Int numbers) 0 1 j ≡ Int (slice_index_or numbers j (pos 0))
   element j =
       let here : 0 + j * 1 ≡ j = omega arith in
       rw here (get_or-map Int numbers j (pos 0))
@@ -35,10 +32,13 @@ module _ (item : ℕ → Result ℤ Fault) (numbers : List ℤ) (f : ScalarFunct
       rw none (sym right ∙ ap (λ k. folded_from item f k more) end)
   folds_from j (suc n) all =
       let next : first + suc j ≡ first + j + 1 = omega arith in
-      ap (λ x. Folded.number_step f x (folded_onto f (element_along (map Int numbers) 0 1) (suc j) n (Ok folded))) (element j)
-      ∙ step_of_number f (slice_index_or numbers j (pos 0)) (folded_onto f (element_along (map Int numbers) 0 1) (suc j) n (Ok folded))
+      let longer : suc n + more ≡ suc (n + more) = omega arith in
+      let rest = folded_onto f (element_along (map Int numbers) 0 1) (suc j) n (Ok folded) in
+      rw longer
+      (ap (λ x. Folded.number_step f x rest) (element j)
+      ∙ step_of_number f (slice_index_or numbers j (pos 0)) rest
       ∙ ap (number_step f (Ok (slice_index_or numbers j (pos 0)))) (folds_from (suc j) n (omega (arith, all)) ∙ ap (λ k. folded_from item f k (n + more)) next)
-      ∙ ap (λ x. number_step f x (folded_from item f (first + j + 1) (n + more))) (sym (each j (omega (arith, all))))
+      ∙ ap (λ x. number_step f x (folded_from item f (first + j + 1) (n + more))) (sym (each j (omega (arith, all)))))
 
   pub run_folds : folded_onto f (element_along (map Int numbers) 0 1) 0 count (Ok folded) ≡ folded_from item f first (count + more)
   run_folds =
@@ -64,3 +64,11 @@ item_of_run g left right start stride other gap first k =
     let here : start + first * stride + (0 + k) * stride ≡ start + (first + k) * stride = omega arith in
     let there : other + first * gap + (0 + k) * gap ≡ other + (first + k) * gap = omega arith in
     rw (here, there) refl
+
+-- the fold of all items is what they are reduced to, if it is a number
+pub number_of_fold : (item : ℕ → Result ℤ Fault) (f : ScalarFunction) (n : ℕ) (found : Option ℤ) → 0 < n → IfSome found (λ z. folded_from item f 0 (n - 1) ≡ Ok z)
+    → IfSome found (λ z. as_number (judged_items item f n) ≡ Ok z)
+number_of_fold item f n (Some z) some is =
+    let all : n ≡ suc (n - 1) = omega (arith, some) in
+    sym (judged_value item f (n - 1) (Ok z) (sym is) refl ∙ ap (λ m. as_number (judged_items item f m)) (sym all))
+number_of_fold item f n None some is = tt
