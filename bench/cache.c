@@ -10,8 +10,11 @@ enum { COUNT = 10000 };
 // Truth values take a byte each, as in the calculator.
 typedef unsigned char truth;
 
-static int64_t left[COUNT], right[COUNT], result[COUNT];
+static int64_t left[COUNT], right[COUNT];
 static truth left_truths[COUNT], right_truths[COUNT];
+
+// A line writes its result while the name still has the one before it. So the passes write into two rooms in turn.
+static int64_t results[2][COUNT];
 
 // A loop from arguments of one type to results of another. Its flag is set by any result that leaves the range, and no number is tested by
 // itself.
@@ -75,7 +78,7 @@ int main(int words, char **word) {
             struct timespec begin, end;
             long faults = 0;
             clock_gettime(CLOCK_MONOTONIC, &begin);
-            for (int pass = 0; pass < 1000; pass++) faults |= LOOPS[k].loop(x, y, result, COUNT);
+            for (int pass = 0; pass < 1000; pass++) faults |= LOOPS[k].loop(x, y, results[pass % 2], COUNT);
             clock_gettime(CLOCK_MONOTONIC, &end);
             if (faults) return 1;
             double taken = ((end.tv_sec - begin.tv_sec) * 1e9 + (end.tv_nsec - begin.tv_nsec)) / 1000 / COUNT;
