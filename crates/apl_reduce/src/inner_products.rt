@@ -1,7 +1,6 @@
 //! Inner products.
-ghost use Rattle.std.specs.Prelude.{◌≡◌, ◌+◌, ◌*◌, ◌<◌, ◌≤◌, true, Ok, IfErr, IfOk, IfSome, IsTrue, length, map};
-ghost use Rattle.apl_reduce.specs.declared.item_runs.TheConstants.{LONGEST_RUN};
-ghost use Rattle.apl_array.specs.declared.array.Elem.TheVariants.{Int};
+ghost use Rattle.std.specs.Prelude.{◌≡◌, ◌*◌, ◌≤◌, true, IfErr, IfOk, IsTrue, length, map};
+ghost use Rattle.apl_array.specs.declared.array.Elem.TheVariants.{Int, Chr};
 ghost use Rattle.apl_array.specs.declared.function.ScalarFunction.TheVariants.{Plus as PlusNamed, Times as TimesNamed};
 ghost use Rattle.apl_array.specs.Valences.{has_dyadic};
 ghost use Rattle.apl_pool.specs.Pool.{AreValues, IsStopOf};
@@ -14,8 +13,8 @@ ghost use Rattle.apl_reduce.specs.Products.{inner_row};
 use crate::columns::fill_columns;
 use crate::conformability::{common_length, layout_of, left_lengths, right_lengths};
 use crate::dyadic::{Chosen, Dyadic, Typed};
+use crate::inner_runs::fill_runs;
 use crate::item_rows::ItemRows;
-use crate::item_runs::LONGEST_RUN;
 use crate::items::reduced;
 use crate::layouts::Layout;
 use crate::magnitudes::{is_narrow, magnitude, sums_are_small};
@@ -28,7 +27,9 @@ use apl_array::{Array, ScalarFunction};
 use apl_divisor::Divisor;
 use apl_pool::{Crew, Cut, Fault, Gate, Kernel, Pool, Stop, Workers, fill};
 use apl_scalar::Prim;
-use apl_scalar::function_types::Times;
+use apl_scalar::function_types::{
+    And, Ceiling, Equal, Floor, Function, NotEqual, Or, Plus, Star, Times,
+};
 use apl_summary::fold_rows;
 use std::alloc::Global;
 use std::marker::PhantomData;
@@ -36,29 +37,12 @@ use std::thread::Threads;
 
 /// The reduction of the items at each place of an inner product.
 #[derive(Drop)]
-struct Reductions<'a, T, U> {
-    items: ProductItems<'a, T, U, Chosen>,
-    f: ScalarFunction,
+struct Reductions<'a, T, U, F: Dyadic, P: Dyadic> {
+    items: ProductItems<'a, T, U, P>,
+    function: F,
 }
 
-/// From how many items on a run of them pays.
-const SEVERAL_ITEMS: usize = 8;
-
-impl<T: ElementType, U: ElementType> Reductions<'_, T, U> {
-    /// The number at a place, if neither an item nor a step of its fold has a fault.
-    fn sure_number(&self, place: usize, run: &mut [i64]) -> Option<i64>
-        requires place { place < self.now.items.layout.now.count }
-        requires some { 0 < self.now.items.layout.now.items }
-        requires run { length run.old ≡ LONGEST_RUN + 1 }
-        ensures value { let x = self.now.items in
-            IfSome result (λ z. inner_number x.layout.now (map T.elem_of x.left.now) (map U.elem_of x.right.now) self.now.f x.pairing.0 place ≡ Ok z) }
-        ensures len { length run.new ≡ length run.old }
-    {
-        self.items.line(place).sure_fold(self.f, run)
-    }
-}
-
-impl<T: ElementType, U: ElementType> Kernel for Reductions<'_, T, U> {
+impl<T: ElementType, U: ElementType, F: Dyadic, P: Dyadic> Kernel for Reductions<'_, T, U, F, P> {
     ghost use Rattle.std.specs.Prelude.{map};
     ghost use Rattle.apl_reduce.specs.Layouts.{inner_number};
 
@@ -66,53 +50,87 @@ impl<T: ElementType, U: ElementType> Kernel for Reductions<'_, T, U> {
 
     ghost place_count = { λ k. k.items.layout.now.count };
 
-    ghost outcome = { λ k place. inner_number k.items.layout.now (map T.elem_of k.items.left.now) (map U.elem_of k.items.right.now) k.f k.items.pairing.0 place };
+    ghost outcome = { λ k place. inner_number k.items.layout.now (map T.elem_of k.items.left.now) (map U.elem_of k.items.right.now) (F.function k.function) (P.function k.items.pairing) place };
 
     fn count(&self) -> usize {
         self.items.layout.count
     }
 
+    #[inline(always)]
     fn at(&self, place: usize) -> Result<i64, Fault> {
         let items = self.items.line(place);
-        reduced(&items, self.f)
-    }
-
-    fn write_run(&self, from: usize, to: usize, room: &mut [i64]) -> usize {
-        if self.items.layout.items < SEVERAL_ITEMS {
-            return from;
-        }
-        let mut run = [0; LONGEST_RUN + 1];
-        for place in from..to {
-            match self.sure_number(place, &mut run) {
-                Some(number) => room[place - from] = number,
-                None => return place,
-            }
-        }
-        to
+        reduced(&items, self.function)
     }
 }
 
 /// The reduction of the items at each place.
-fn fill_inner<T: ElementType + Sync, U: ElementType + Sync, W: Crew>(
+fn fill_inner<
+    T: ElementType + Sync,
+    U: ElementType + Sync,
+    F: Dyadic + Sync,
+    P: Dyadic + Sync,
+    W: Crew,
+>(
     workers: &W,
     layout: &Layout,
     left: &[T],
     right: &[U],
-    f: ScalarFunction,
-    g: ScalarFunction,
+    function: F,
+    pairing: P,
 ) -> Result<Vec<i64>, Stop>
     requires { IsWithin layout.now (length left.now) (length right.now) }
-    ensures values { IfOk result (λ v. AreValues (inner_number layout.now (map T.elem_of left.now) (map U.elem_of right.now) f g) layout.now.count v.items) }
-    ensures stop { IfErr result (IsStopOf (inner_number layout.now (map T.elem_of left.now) (map U.elem_of right.now) f g) layout.now.count) }
+    ensures values { IfOk result (λ v. AreValues (inner_number layout.now (map T.elem_of left.now) (map U.elem_of right.now) (F.function function) (P.function pairing)) layout.now.count v.items) }
+    ensures stop { IfErr result (IsStopOf (inner_number layout.now (map T.elem_of left.now) (map U.elem_of right.now) (F.function function) (P.function pairing)) layout.now.count) }
 {
     let items = ProductItems {
         layout,
         columns: Divisor::new(layout.columns),
         left,
         right,
-        pairing: Chosen(g),
+        pairing,
     };
-    fill(workers, &Reductions { items, f })
+    let kernel = Reductions { items, function };
+    fill(workers, &kernel)
+}
+
+/// From how many items on a run of them pays.
+const SEVERAL_ITEMS: usize = 24;
+
+/// The reduction of the items at each place by two functions, for which the loop over a few items is compiled.
+fn typed<T: ElementType + Sync, F: Function + Copy + Sync, P: Function + Copy + Sync, W: Crew>(
+    workers: &W,
+    layout: &Layout,
+    left: &[T],
+    right: &[T],
+) -> Result<Vec<i64>, Stop>
+    requires { IsWithin layout.now (length left.now) (length right.now) }
+    ensures values { IfOk result (λ v. AreValues (inner_number layout.now (map T.elem_of left.now) (map T.elem_of right.now) F.FUNCTION P.FUNCTION) layout.now.count v.items) }
+    ensures stop { IfErr result (IsStopOf (inner_number layout.now (map T.elem_of left.now) (map T.elem_of right.now) F.FUNCTION P.FUNCTION) layout.now.count) }
+{
+    if layout.items >= SEVERAL_ITEMS {
+        return fill_runs(workers, layout, left, right, F::FUNCTION, P::FUNCTION);
+    }
+    let (function, pairing) = (Typed::<F>(PhantomData), Typed::<P>(PhantomData));
+    fill_inner(workers, layout, left, right, function, pairing)
+}
+
+/// The reduction of the items at each place by two functions, which are chosen at each of a few items.
+fn chosen<T: ElementType + Sync, U: ElementType + Sync, W: Crew>(
+    workers: &W,
+    f: ScalarFunction,
+    g: ScalarFunction,
+    layout: &Layout,
+    left: &[T],
+    right: &[U],
+) -> Result<Vec<i64>, Stop>
+    requires { IsWithin layout.now (length left.now) (length right.now) }
+    ensures values { IfOk result (λ v. AreValues (inner_number layout.now (map T.elem_of left.now) (map U.elem_of right.now) f g) layout.now.count v.items) }
+    ensures stop { IfErr result (IsStopOf (inner_number layout.now (map T.elem_of left.now) (map U.elem_of right.now) f g) layout.now.count) }
+{
+    if layout.items >= SEVERAL_ITEMS {
+        return fill_runs(workers, layout, left, right, f, g);
+    }
+    fill_inner(workers, layout, left, right, Chosen(f), Chosen(g))
 }
 
 /// The sums of products, each added with no check if no sum can leave the range.
@@ -127,11 +145,11 @@ fn fill_sums<W: Crew>(
     ensures stop { IfErr result (IsStopOf (inner_number layout.now (map Int left.now) (map Int right.now) PlusNamed TimesNamed) layout.now.count) }
 {
     if !layout.is_pass_worthwhile() {
-        return fill_inner(workers, layout, left, right, Prim::Plus, Prim::Times);
+        return typed::<i64, Plus, Times, W>(workers, layout, left, right);
     }
     let (left_most, right_most) = (magnitude(left), magnitude(right));
     if !sums_are_small(left_most, right_most, layout.items) {
-        return fill_inner(workers, layout, left, right, Prim::Plus, Prim::Times);
+        return typed::<i64, Plus, Times, W>(workers, layout, left, right);
     }
     let is_near = layout.left.item == 1 && layout.right.item == 1;
     let kernel = Sums {
@@ -144,7 +162,7 @@ fn fill_sums<W: Crew>(
     fill(workers, &kernel)
 }
 
-/// An inner product of numbers.
+/// An inner product of numbers, compiled for each of the usual pairs of functions.
 fn fill_inner_numbers<W: Crew>(
     workers: &W,
     f: ScalarFunction,
@@ -159,7 +177,22 @@ fn fill_inner_numbers<W: Crew>(
 {
     match (f, g) {
         (Prim::Plus, Prim::Times) => fill_sums(workers, layout, left, right),
-        _ => fill_inner(workers, layout, left, right, f, g),
+        (Prim::Plus, Prim::And) => { typed::<i64, Plus, And, W>(workers, layout, left, right) }
+        (Prim::Plus, Prim::Equal) => { typed::<i64, Plus, Equal, W>(workers, layout, left, right) }
+        (Prim::Or, Prim::And) => typed::<i64, Or, And, W>(workers, layout, left, right),
+        (Prim::And, Prim::Equal) => { typed::<i64, And, Equal, W>(workers, layout, left, right) }
+        (Prim::Or, Prim::NotEqual) => {
+            typed::<i64, Or, NotEqual, W>(workers, layout, left, right)
+        }
+        (Prim::Floor, Prim::Plus) => { typed::<i64, Floor, Plus, W>(workers, layout, left, right) }
+        (Prim::Ceiling, Prim::Plus) => {
+            typed::<i64, Ceiling, Plus, W>(workers, layout, left, right)
+        }
+        (Prim::Ceiling, Prim::Times) => {
+            typed::<i64, Ceiling, Times, W>(workers, layout, left, right)
+        }
+        (Prim::Times, Prim::Star) => { typed::<i64, Times, Star, W>(workers, layout, left, right) }
+        _ => chosen(workers, f, g, layout, left, right),
     }
 }
 
@@ -182,6 +215,29 @@ fn fill_inner_ordered<W: Crew>(
     let columns = fill_columns(workers, layout, right)?;
     let ordered = layout.by_columns();
     fill_inner_numbers(workers, f, g, &ordered, left, columns.as_slice())
+}
+
+/// An inner product of characters, which only `=` and `≠` give items of.
+fn fill_inner_characters<W: Crew>(
+    workers: &W,
+    f: ScalarFunction,
+    g: ScalarFunction,
+    layout: &Layout,
+    left: &[char],
+    right: &[char],
+) -> Result<Vec<i64>, Stop>
+    requires { IsWithin layout.now (length left.now) (length right.now) }
+    ensures values { IfOk result (λ v. AreValues (inner_number layout.now (map Chr left.now) (map Chr right.now) f g) layout.now.count v.items) }
+    ensures stop { IfErr result (IsStopOf (inner_number layout.now (map Chr left.now) (map Chr right.now) f g) layout.now.count) }
+{
+    match (f, g) {
+        (Prim::And, Prim::Equal) => { typed::<char, And, Equal, W>(workers, layout, left, right) }
+        (Prim::Plus, Prim::Equal) => { typed::<char, Plus, Equal, W>(workers, layout, left, right) }
+        (Prim::Or, Prim::NotEqual) => {
+            typed::<char, Or, NotEqual, W>(workers, layout, left, right)
+        }
+        _ => chosen(workers, f, g, layout, left, right),
+    }
 }
 
 /// The reduction of the items at each place, which the workers share.
@@ -305,13 +361,11 @@ fn fill_inner_elements<W: Crew>(
             left.as_slice(),
             right.as_slice(),
         ),
-        (Some(left), None) => {
-            fill_inner(workers, layout, left.as_slice(), characters_of(b), f, g)
+        (Some(left), None) => { chosen(workers, f, g, layout, left.as_slice(), characters_of(b)) }
+        (None, Some(right)) => { chosen(workers, f, g, layout, characters_of(a), right.as_slice()) }
+        (None, None) => {
+            fill_inner_characters(workers, f, g, layout, characters_of(a), characters_of(b))
         }
-        (None, Some(right)) => {
-            fill_inner(workers, layout, characters_of(a), right.as_slice(), f, g)
-        }
-        (None, None) => fill_inner(workers, layout, characters_of(a), characters_of(b), f, g),
     }
 }
 

@@ -2,10 +2,8 @@
 ghost use Rattle.std.specs.Prelude.{◌≡◌, ◌+◌, ◌<◌, Ok};
 ghost use Rattle.apl_reduce.specs.Items.{as_number, number_step, folded_from, first_fault, judged_items};
 
-use crate::dyadic::of_numbers;
-use apl_array::ScalarFunction;
+use crate::dyadic::Dyadic;
 use apl_pool::Fault;
-use apl_scalar::identity;
 
 /// Numbers or faults in order, each computed when it is asked for.
 pub(crate) trait Items {
@@ -27,24 +25,31 @@ pub(crate) trait Items {
 }
 
 /// Item `k` and what was folded on its right.
-fn with_item<X: Items>(items: &X, f: ScalarFunction, k: usize, folded: i64) -> Result<i64, Fault>
+#[inline(always)]
+fn with_item<X: Items, F: Dyadic>(
+    items: &X,
+    function: F,
+    k: usize,
+    folded: i64,
+) -> Result<i64, Fault>
     requires { k < X.item_count items.now }
-    ensures { result ≡ number_step f (X.outcome items.now k) (Ok folded) }
+    ensures { result ≡ number_step (F.function function) (X.outcome items.now k) (Ok folded) }
 {
     let item = items.at(k)?;
-    of_numbers(f, item, folded)
+    function.of_numbers(item, folded)
 }
 
 /// The fold of all items up to the last one, from the right, or the fault that it meets first.
-fn folded<X: Items>(items: &X, f: ScalarFunction, last: usize) -> Result<i64, Fault>
+#[inline(always)]
+fn folded<X: Items, F: Dyadic>(items: &X, function: F, last: usize) -> Result<i64, Fault>
     requires { last + 1 ≡ X.item_count items.now }
-    ensures { result ≡ folded_from (X.outcome items.now) f 0 last }
+    ensures { result ≡ folded_from (X.outcome items.now) (F.function function) 0 last }
 {
     let mut k = last;
     let mut result = items.at(last)?;
     while k > 0 {
         k -= 1;
-        result = with_item(items, f, k, result)?;
+        result = with_item(items, function, k, result)?;
     }
     Ok(result)
 }
@@ -64,14 +69,15 @@ fn first_fault<X: Items>(items: &X) -> Option<Fault>
 
 /// The reduction of items, all of which are judged before the fold: the fault of the first faulty one,
 /// else that of the fold. Of no items it is the function's identity, or `Domain`.
-pub(crate) fn reduced<X: Items>(items: &X, f: ScalarFunction) -> Result<i64, Fault>
-    ensures { result ≡ as_number (judged_items (X.outcome items.now) f (X.item_count items.now)) }
+#[inline(always)]
+pub(crate) fn reduced<X: Items, F: Dyadic>(items: &X, function: F) -> Result<i64, Fault>
+    ensures { result ≡ as_number (judged_items (X.outcome items.now) (F.function function) (X.item_count items.now)) }
 {
     let count = items.count();
     if count == 0 {
-        return identity(f).ok_or(Fault::Domain);
+        return function.identity().ok_or(Fault::Domain);
     }
-    let folded = folded(items, f, count - 1);
+    let folded = folded(items, function, count - 1);
     if folded.is_ok() {
         return folded;
     }

@@ -24,6 +24,7 @@ mod folded_rows;
 mod folding;
 mod four;
 mod inner_products;
+mod inner_runs;
 mod item_rows;
 mod item_runs;
 mod items;

@@ -6,7 +6,7 @@ use Rattle.apl_reduce.proofs.items.folded.Goals as goal
 pub returns-in_err-result : goal.returns-in_err-result
 returns-in_err-result g c =
     let p = err_from_is_err_and c.from_residual.result c.from_residual.ensures.1 in
-    rw (p.1, p.2) (last_fault_of_all (g.X.Items.outcome c.args.items.now) c.args.f c.args.last _ _ c.at.ensures c.in_err-result.was)
+    rw (p.1, p.2) (last_fault_of_all (g.X.Items.outcome c.args.items.now) (g.F.Dyadic.function c.args.function) c.args.last _ _ c.at.ensures c.in_err-result.was)
 
 pub returns-in_err-result-2 : goal.returns-in_err-result-2
 returns-in_err-result-2 g c =

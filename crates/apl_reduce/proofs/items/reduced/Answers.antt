@@ -7,7 +7,7 @@ pub returns-then-is_ok : goal.returns-then-is_ok
 returns-then-is_ok g c =
     let long : g.X.Items.item_count c.args.items.now ≡ suc (c.count-count.result - 1) = omega (arith, c.count-count.ensures) in
     let ok : is_ok c.folded-folded.result ≡ true = search rules in
-    rw long (judged_value (g.X.Items.outcome c.args.items.now) c.args.f (c.count-count.result - 1) c.folded-folded.result c.folded-folded.ensures ok)
+    rw long (judged_value (g.X.Items.outcome c.args.items.now) (g.F.Dyadic.function c.args.function) (c.count-count.result - 1) c.folded-folded.result c.folded-folded.ensures ok)
 
 pub returns-in-Some : goal.returns-in-Some
 returns-in-Some g c =
@@ -17,5 +17,5 @@ pub returns-in-None : goal.returns-in-None
 returns-in-None g c =
     let n = g.X.Items.item_count c.args.items.now in
     let long : n ≡ suc (c.count-count.result - 1) = omega (arith, c.count-count.ensures) in
-    judged_without_fault (g.X.Items.outcome c.args.items.now) c.args.f n (c.count-count.result - 1) c.folded-folded.result _ long c.folded-folded.ensures
+    judged_without_fault (g.X.Items.outcome c.args.items.now) (g.F.Dyadic.function c.args.function) n (c.count-count.result - 1) c.folded-folded.result _ long c.folded-folded.ensures
     c.first_fault.ensures c.in-None.is

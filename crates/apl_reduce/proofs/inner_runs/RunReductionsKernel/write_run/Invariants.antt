@@ -2,7 +2,7 @@ use Rattle.std.proofs.Common.{◌≡◌, ◌+◌, map, length}
 use Rattle.apl_pool.specs.Runs.{AreWritten}
 use Rattle.apl_reduce.specs.declared.item_runs.TheConstants.{LONGEST_RUN}
 use Rattle.apl_reduce.specs.Layouts.{inner_number}
-use Rattle.apl_reduce.proofs.inner_products.ReductionsKernel.write_run.Given as goal
+use Rattle.apl_reduce.proofs.inner_runs.RunReductionsKernel.write_run.Given as goal
 
 abbrev pub invariant-loop-place : goal.invariant-loop-place
 invariant-loop-place g l =
