@@ -9,7 +9,8 @@ use Rattle.apl_array.specs.declared.function.ScalarFunction.{ScalarFunction}
 use Rattle.apl_pool.specs.declared.kernel.Fault.{Fault}
 use Rattle.apl_reduce.specs.Folded.{folded_onto, element_along}
 use Rattle.apl_reduce.specs.Folded
-use Rattle.apl_reduce.specs.Items.{as_number, number_step, folded_from, judged_items, meeting_number}
+use Rattle.apl_scalar.specs.Meeting.{meeting_number}
+use Rattle.apl_reduce.specs.Items.{as_number, number_step, folded_from, judged_items}
 use Rattle.apl_reduce.proofs.JudgedItems.{judged_value}
 
 -- a step by the element that a number is

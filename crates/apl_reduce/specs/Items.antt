@@ -1,5 +1,5 @@
 -- Items that are folded, numbers or faults, by their places. No contract of a public function cites this file.
-use Rattle.std.specs.Prelude.{◌≡◌, ℕ, zero, suc, ℤ, pos, ◌+◌, ◌*◌, ◌<◌, ◌/◌, ◌%◌, List, length, map, Option, Some, None, Result, Ok, Err, slice_index_or}
+use Rattle.std.specs.Prelude.{◌≡◌, ℕ, zero, suc, ℤ, pos, ◌+◌, ◌<◌, ◌/◌, ◌%◌, List, length, map, Option, Some, None, Result, Ok, Err, slice_index_or}
 use Rattle.std.specs.List.{range_with_len}
 use Rattle.apl_array.specs.declared.array.Elem.{Elem}
 use Rattle.apl_array.specs.declared.array.Elem.TheVariants.{Int}
@@ -24,14 +24,6 @@ pair_number f x others k = dyadic_of f x (item_in others k)
 -- from a place on, `count` places of the outer product have one left element, with others one by one
 abbrev pub IsOuterRun : List Elem → List Elem → (from count : ℕ) → Elem → List Elem → Type 0
 IsOuterRun left right from count x others = (f : ScalarFunction) (k : ℕ) → k < count → outer_number f left right (from + k) ≡ pair_number f x others k
-
--- a function of the elements at two places
-abbrev pub placed_number : ScalarFunction → List Elem → ℕ → List Elem → ℕ → Result ℤ Fault
-placed_number f left place right other = dyadic_of f (item_in left place) (item_in right other)
-
--- item k of two lists, whose elements are at equal distances
-abbrev pub meeting_number : ScalarFunction → List Elem → (first stride : ℕ) → List Elem → (other gap : ℕ) → ℕ → Result ℤ Fault
-meeting_number f left first stride right other gap k = placed_number f left (first + k * stride) right (other + k * gap)
 
 -- the number that an element is, or the fault
 abbrev pub as_number : Result Elem Fault → Result ℤ Fault

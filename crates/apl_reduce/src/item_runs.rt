@@ -5,7 +5,8 @@ ghost use Rattle.apl_pool.specs.declared.kernel.TheConstants.{MOST_PLACES};
 ghost use Rattle.apl_pool.specs.Runs.{AreWritten};
 ghost use Rattle.apl_reduce.specs.declared.item_runs.TheConstants.{LONGEST_RUN};
 ghost use Rattle.apl_reduce.specs.Folded.{folded_onto, element_along};
-ghost use Rattle.apl_reduce.specs.Items.{meeting_number, folded_from};
+ghost use Rattle.apl_reduce.specs.Items.{folded_from};
+ghost use Rattle.apl_scalar.specs.Meeting.{meeting_number};
 
 use crate::dyadic::Chosen;
 use crate::foldable::Foldable;

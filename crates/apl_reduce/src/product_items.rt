@@ -27,7 +27,7 @@ pub(crate) struct LineItems<'a, T, U, P: Dyadic> {
 
 impl<T: ElementType, U: ElementType, P: Dyadic> Items for LineItems<'_, T, U, P> {
     ghost use Rattle.std.specs.Prelude.{map};
-    ghost use Rattle.apl_reduce.specs.Items.{meeting_number};
+    ghost use Rattle.apl_scalar.specs.Meeting.{meeting_number};
 
     ghost outcome = { λ x. meeting_number (P.function x.pairing) (map T.elem_of x.left.now) x.left_start x.left_stride (map U.elem_of x.right.now) x.right_start x.right_stride };
 

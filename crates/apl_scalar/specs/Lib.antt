@@ -1,5 +1,6 @@
 pub mod Arithmetic
 pub mod Scalar
+pub mod Meeting
 pub mod Limits
 pub mod Operands
 pub mod Pairs

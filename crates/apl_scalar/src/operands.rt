@@ -95,10 +95,10 @@ impl<'a, T> Spaced<'a, T> {
 }
 
 impl<T: ElementType> Operand for Spaced<'_, T> {
-    ghost use Rattle.std.specs.Prelude.{◌+◌, ◌*◌, map, pos, slice_index_or};
-    ghost use Rattle.apl_array.specs.declared.array.Elem.TheVariants.{Int};
+    ghost use Rattle.std.specs.Prelude.{map};
+    ghost use Rattle.apl_scalar.specs.Meeting.{spaced_element};
 
-    ghost element = { λ s place. slice_index_or (map T.elem_of s.elements.now) (s.first + place * s.stride) (Int (pos 0)) };
+    ghost element = { λ s. spaced_element (map T.elem_of s.elements.now) s.first s.stride };
 
     ghost served = { λ s. s.count };
 

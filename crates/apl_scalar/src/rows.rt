@@ -1,8 +1,9 @@
 //! One element with each of others, as in a row of an outer product, and the elements of two lists that meet, as in an inner product.
-ghost use Rattle.std.specs.Prelude.{◌≡◌, ◌≤◌, ◌+◌, ◌*◌, pos, length, map, slice_index_or};
+ghost use Rattle.std.specs.Prelude.{◌≡◌, ◌≤◌, pos, length, map, slice_index_or};
 ghost use Rattle.apl_array.specs.declared.array.Elem.TheVariants.{Int};
 ghost use Rattle.apl_pool.specs.declared.kernel.TheConstants.{MOST_PLACES};
 ghost use Rattle.apl_pool.specs.Runs.{AreWritten};
+ghost use Rattle.apl_scalar.specs.Meeting.{meeting_number};
 ghost use Rattle.apl_scalar.specs.Scalar.{dyadic_of};
 
 use crate::function_types::Function;
@@ -41,8 +42,7 @@ fn write_spaced<F: Function + Copy, T: ElementType, U: ElementType>(
     requires most { left.count ≤ MOST_PLACES }
     requires room { left.count ≤ length room.old }
     ensures within { result ≤ left.entry.count }
-    ensures values { AreWritten (λ k. dyadic_of F.FUNCTION (slice_index_or (map T.elem_of left.entry.elements.now) (left.entry.first + k * left.entry.stride) (Int (pos 0)))
-        (slice_index_or (map U.elem_of right.entry.elements.now) (right.entry.first + k * right.entry.stride) (Int (pos 0)))) 0 result room.new }
+    ensures values { AreWritten (meeting_number F.FUNCTION (map T.elem_of left.entry.elements.now) left.entry.first left.entry.stride (map U.elem_of right.entry.elements.now) right.entry.first right.entry.stride) 0 result room.new }
     ensures len { length room.new ≡ length room.old }
 {
     let results = PairResults::<Spaced<T>, Spaced<U>, F>::new(left, right);
@@ -60,8 +60,7 @@ pub fn write_items<F: Function + Copy, T: ElementType, U: ElementType>(
     requires most { left.count ≤ MOST_PLACES }
     requires room { left.count ≤ length room.old }
     ensures within { result ≤ left.entry.count }
-    ensures values { AreWritten (λ k. dyadic_of F.FUNCTION (slice_index_or (map T.elem_of left.entry.elements.now) (left.entry.first + k * left.entry.stride) (Int (pos 0)))
-        (slice_index_or (map U.elem_of right.entry.elements.now) (right.entry.first + k * right.entry.stride) (Int (pos 0)))) 0 result room.new }
+    ensures values { AreWritten (meeting_number F.FUNCTION (map T.elem_of left.entry.elements.now) left.entry.first left.entry.stride (map U.elem_of right.entry.elements.now) right.entry.first right.entry.stride) 0 result room.new }
     ensures len { length room.new ≡ length room.old }
 {
     if left.stride == 1 && right.stride == 1 {

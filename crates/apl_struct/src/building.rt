@@ -198,6 +198,15 @@ impl Kernel for Consecutive {
     fn at(&self, place: usize) -> Result<i64, Fault> {
         Ok((self.first + place) as i64)
     }
+
+    #[inline(always)]
+    fn write_run(&self, from: usize, to: usize, room: &mut [i64]) -> usize {
+        let first = self.first + from;
+        for k in 0..to - from {
+            room[k] = (first + k) as i64;
+        }
+        to
+    }
 }
 
 /// `⍳N`, index generator: the numbers from the origin on.

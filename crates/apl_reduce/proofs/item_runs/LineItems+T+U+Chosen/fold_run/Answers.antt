@@ -1,6 +1,6 @@
 use Rattle.std.proofs.Common.{◌≡◌, ℕ, ℤ, pos, ◌+◌, ◌<◌, Ok, map, slice_index_or, to_z, of_z, w64, sym, ap, ◌∙◌, arith}
 use Rattle.std.proofs.lemmas.Int.{to_z-of_z}
-use Rattle.apl_reduce.specs.Items.{meeting_number}
+use Rattle.apl_scalar.specs.Meeting.{meeting_number}
 use Rattle.apl_reduce.proofs.ItemRuns.{item_of_run, run_value}
 use Rattle.apl_reduce.proofs.item_runs.LineItems+T+U+Chosen.fold_run.Goals as goal
 

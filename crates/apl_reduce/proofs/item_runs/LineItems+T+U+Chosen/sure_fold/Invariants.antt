@@ -1,6 +1,7 @@
 use Rattle.std.proofs.Common.{◌≡◌, ◌+◌, ◌-◌, ◌<◌, map, length, Ok}
 use Rattle.apl_reduce.specs.declared.item_runs.TheConstants.{LONGEST_RUN}
-use Rattle.apl_reduce.specs.Items.{meeting_number, folded_from}
+use Rattle.apl_scalar.specs.Meeting.{meeting_number}
+use Rattle.apl_reduce.specs.Items.{folded_from}
 use Rattle.apl_reduce.proofs.item_runs.LineItems+T+U+Chosen.sure_fold.Given as goal
 
 abbrev pub invariant-loop-k : goal.invariant-loop-k
