@@ -1,20 +1,20 @@
-// Loops over 10,000 numbers that stay in the first caches: what `bench/cache` compares scalar functions with.
+// Loops over numbers that stay in the first caches: what `bench/cache` compares scalar functions with.
 #include <stdint.h>
 #include <stdio.h>
 #include <stdlib.h>
 #include <string.h>
 #include <time.h>
 
-enum { COUNT = 10000 };
+enum { MOST = 10000 };
 
 // Truth values take a byte each, as in the calculator.
 typedef unsigned char truth;
 
-static int64_t left[COUNT], right[COUNT];
-static truth left_truths[COUNT], right_truths[COUNT];
+static int64_t left[MOST], right[MOST];
+static truth left_truths[MOST], right_truths[MOST];
 
 // A line writes its result while the name still has the one before it. So the passes write into two rooms in turn.
-static int64_t results[2][COUNT];
+static int64_t results[2][MOST];
 
 // A loop from arguments of one type to results of another. Its flag is set by any result that leaves the range, and no number is tested by
 // itself.
@@ -60,10 +60,12 @@ static const struct {
              {"≥", at_least}, {">", greater}, {"≠", unequal}, {"∧", and, 1}, {"∨", or, 1}, {"⍲", nand, 1}, {"⍱", nor, 1}, {"negative", negative},
              {"magnitude", magnitude}, {"signum", signum}, {"not", not, 1}, {"1=L", equal_to_one, 1}, {"1-L", one_less, 1}};
 
-// Prints the least nanoseconds a number of the named loop, over `rounds` times a thousand passes.
+// Prints the least nanoseconds a number of the named loop, over `rounds` times a thousand passes of `count` numbers.
 int main(int words, char **word) {
-    if (words != 3) return 2;
-    for (int i = 0; i < COUNT; i++) {
+    if (words != 4) return 2;
+    long count = atol(word[3]);
+    if (count < 1 || count > MOST) return 2;
+    for (int i = 0; i < MOST; i++) {
         left[i] = i % 2;
         right[i] = i / 2 % 2;
         left_truths[i] = left[i];
@@ -78,10 +80,10 @@ int main(int words, char **word) {
             struct timespec begin, end;
             long faults = 0;
             clock_gettime(CLOCK_MONOTONIC, &begin);
-            for (int pass = 0; pass < 1000; pass++) faults |= LOOPS[k].loop(x, y, results[pass % 2], COUNT);
+            for (int pass = 0; pass < 1000; pass++) faults |= LOOPS[k].loop(x, y, results[pass % 2], count);
             clock_gettime(CLOCK_MONOTONIC, &end);
             if (faults) return 1;
-            double taken = ((end.tv_sec - begin.tv_sec) * 1e9 + (end.tv_nsec - begin.tv_nsec)) / 1000 / COUNT;
+            double taken = ((end.tv_sec - begin.tv_sec) * 1e9 + (end.tv_nsec - begin.tv_nsec)) / 1000 / count;
             best = taken < best ? taken : best;
         }
         printf("%f\n", best);
