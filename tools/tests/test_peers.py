@@ -17,6 +17,12 @@ def asked(*words: str, path: str = os.environ["PATH"]) -> subprocess.CompletedPr
     return subprocess.run([sys.executable, str(PEERS), *words], capture_output=True, text=True, env=environment, timeout=120)
 
 
+def has_wide_vectors() -> bool:
+    """Whether this machine has instructions that numpy has loops for and the calculator doesn't ask for."""
+    with open("/proc/cpuinfo", encoding="utf-8") as info:
+        return " avx2" in info.read()
+
+
 class Table(unittest.TestCase):
     def test_tiny_sizes(self):
         run = asked("--size", "100", "--starts", "1", "--rounds", "1", PROGRAM)
@@ -25,6 +31,8 @@ class Table(unittest.TestCase):
         heading, *rows = run.stdout.split("\n\n")[1].splitlines()
         self.assertIn("aplcalc, 1 worker ", heading)
         self.assertIn("aplcalc, 4 workers", heading)
+        if "numpy is missing" not in run.stderr:
+            self.assertEqual("numpy, x86-64-v2" in heading, has_wide_vectors())
         self.assertEqual(len(rows), ROWS)
 
     def test_rows_by_name(self):
