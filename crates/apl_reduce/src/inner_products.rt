@@ -96,7 +96,22 @@ fn fill_inner<
 /// From how many items on a run of them pays.
 const SEVERAL_ITEMS: usize = 24;
 
-/// The reduction of the items at each place by two functions, for which the loop over a few items is compiled.
+/// The reduction of the items at each place by two functions, for which the loop over the items is compiled.
+fn compiled<T: ElementType + Sync, F: Function + Copy + Sync, P: Function + Copy + Sync, W: Crew>(
+    workers: &W,
+    layout: &Layout,
+    left: &[T],
+    right: &[T],
+) -> Result<Vec<i64>, Stop>
+    requires { IsWithin layout.now (length left.now) (length right.now) }
+    ensures values { IfOk result (λ v. AreValues (inner_number layout.now (map T.elem_of left.now) (map T.elem_of right.now) F.FUNCTION P.FUNCTION) layout.now.count v.items) }
+    ensures stop { IfErr result (IsStopOf (inner_number layout.now (map T.elem_of left.now) (map T.elem_of right.now) F.FUNCTION P.FUNCTION) layout.now.count) }
+{
+    let (function, pairing) = (Typed::<F>(PhantomData), Typed::<P>(PhantomData));
+    fill_inner(workers, layout, left, right, function, pairing)
+}
+
+/// The reduction of the items at each place by two functions: of a few items by a compiled loop, and of more by runs.
 fn typed<T: ElementType + Sync, F: Function + Copy + Sync, P: Function + Copy + Sync, W: Crew>(
     workers: &W,
     layout: &Layout,
@@ -110,8 +125,7 @@ fn typed<T: ElementType + Sync, F: Function + Copy + Sync, P: Function + Copy + 
     if layout.items >= SEVERAL_ITEMS {
         return fill_runs(workers, layout, left, right, F::FUNCTION, P::FUNCTION);
     }
-    let (function, pairing) = (Typed::<F>(PhantomData), Typed::<P>(PhantomData));
-    fill_inner(workers, layout, left, right, function, pairing)
+    compiled::<T, F, P, W>(workers, layout, left, right)
 }
 
 /// The reduction of the items at each place by two functions, which are chosen at each of a few items.
@@ -162,7 +176,8 @@ fn fill_sums<W: Crew>(
     fill(workers, &kernel)
 }
 
-/// An inner product of numbers, compiled for each of the usual pairs of functions.
+/// An inner product of numbers, compiled for each of the usual pairs of functions. Those by `∧.=` and `∨.≠` are quicker item by item than
+/// by runs.
 fn fill_inner_numbers<W: Crew>(
     workers: &W,
     f: ScalarFunction,
@@ -180,9 +195,9 @@ fn fill_inner_numbers<W: Crew>(
         (Prim::Plus, Prim::And) => { typed::<i64, Plus, And, W>(workers, layout, left, right) }
         (Prim::Plus, Prim::Equal) => { typed::<i64, Plus, Equal, W>(workers, layout, left, right) }
         (Prim::Or, Prim::And) => typed::<i64, Or, And, W>(workers, layout, left, right),
-        (Prim::And, Prim::Equal) => { typed::<i64, And, Equal, W>(workers, layout, left, right) }
+        (Prim::And, Prim::Equal) => { compiled::<i64, And, Equal, W>(workers, layout, left, right) }
         (Prim::Or, Prim::NotEqual) => {
-            typed::<i64, Or, NotEqual, W>(workers, layout, left, right)
+            compiled::<i64, Or, NotEqual, W>(workers, layout, left, right)
         }
         (Prim::Floor, Prim::Plus) => { typed::<i64, Floor, Plus, W>(workers, layout, left, right) }
         (Prim::Ceiling, Prim::Plus) => {
@@ -231,10 +246,12 @@ fn fill_inner_characters<W: Crew>(
     ensures stop { IfErr result (IsStopOf (inner_number layout.now (map Chr left.now) (map Chr right.now) f g) layout.now.count) }
 {
     match (f, g) {
-        (Prim::And, Prim::Equal) => { typed::<char, And, Equal, W>(workers, layout, left, right) }
+        (Prim::And, Prim::Equal) => {
+            compiled::<char, And, Equal, W>(workers, layout, left, right)
+        }
         (Prim::Plus, Prim::Equal) => { typed::<char, Plus, Equal, W>(workers, layout, left, right) }
         (Prim::Or, Prim::NotEqual) => {
-            typed::<char, Or, NotEqual, W>(workers, layout, left, right)
+            compiled::<char, Or, NotEqual, W>(workers, layout, left, right)
         }
         _ => chosen(workers, f, g, layout, left, right),
     }
