@@ -17,7 +17,11 @@ mod filled;
 #[cfg(test)]
 mod laws;
 #[cfg(test)]
+mod meeting;
+#[cfg(test)]
 mod notation;
+#[cfg(test)]
+mod ones;
 #[cfg(test)]
 mod printed;
 #[cfg(test)]

@@ -2,8 +2,8 @@
 //!
 //! A table has a row a line, and comments, lines that begin with `⍝`.
 //!
-//! An array is `SHAPE: ELEMENTS`, where a scalar has an empty shape. Its elements, in row order, are characters between quotes or numbers,
-//! again and again: `2 3: 'AB'`, `2 3: 1 0 ¯1`.
+//! An array is `SHAPE: ELEMENTS`, where a scalar has an empty shape. Its elements, in row order, are characters between quotes, numbers, or
+//! truth values after a word, again and again: `2 3: 'AB'`, `2 3: 1 0 ¯1`, `2 3: truths 1 0`.
 
 use apl_array::{Array, Elements, Shape};
 use apl_scalar::Prim;
@@ -53,6 +53,18 @@ fn characters_of(alloc: Global, count: usize, text: &str) -> Option<Vec<char>> {
     Some(items)
 }
 
+/// `count` truth values: those of numbers between blanks, each 0 or 1, again and again.
+fn truths_of(alloc: Global, count: usize, text: &str) -> Option<Vec<bool>> {
+    let mut items = Vec::new(alloc);
+    for number in numbers_of(alloc, count, text)? {
+        if number != 0 && number != 1 {
+            return None;
+        }
+        items.push(number == 1).ok()?;
+    }
+    Some(items)
+}
+
 /// The lengths of a shape.
 pub(crate) fn lengths_of(alloc: Global, text: &str) -> Option<Vec<usize>> {
     let mut lengths = Vec::new(alloc);
@@ -72,6 +84,13 @@ pub(crate) fn array_of(alloc: Global, text: &str) -> Option<Array> {
             return None;
         }
         return Some(Array::chars(shape, items));
+    }
+    if let Some(words) = elements.trim().strip_prefix("truths") {
+        let items = truths_of(alloc, shape.count(), words)?;
+        if items.len() != shape.count() {
+            return None;
+        }
+        return Some(Array::truths(shape, items));
     }
     let items = numbers_of(alloc, shape.count(), elements.trim())?;
     if items.len() != shape.count() {
