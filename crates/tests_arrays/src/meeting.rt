@@ -115,23 +115,26 @@ fn written_of(f: Prim, left: &Side, right: &Side, room: &mut [i64]) -> Option<us
     }
 }
 
-/// Whether what is written of a row `COUNT (LEFT) F (RIGHT) → NUMBERS` is as wanted. It ends at or before the first fault, and is all if
-/// there is none.
-fn is_wanted(alloc: Global, row: &str) -> Option<bool> {
+/// The words of a row `COUNT (LEFT) F (RIGHT) → NUMBERS`.
+fn words_of(row: &str) -> Option<(usize, &str, Prim, &str, &str)> {
     let (call, wanted) = row.split_once(" → ")?;
     let (count, sides) = call.split_once(" (")?;
     let (left, rest) = sides.split_once(") ")?;
     let (symbol, right) = rest.split_once(" (")?;
     let f = scalar_of(symbol.chars().next()?)?;
-    let (left, right) = (
-        side_of(alloc, left)?,
-        side_of(alloc, right.strip_suffix(')')?)?,
-    );
-    let wanted = array_of(alloc, wanted)?;
-    let wanted = held_numbers(&wanted)?;
-    let count = count.parse::<usize>().ok()?;
+    let right = right.strip_suffix(')')?;
+    Some((count.parse::<usize>().ok()?, left, f, right, wanted))
+}
+
+/// Whether what is written of a row is as wanted. It ends at or before the first fault, and is all if there is none.
+fn is_wanted(alloc: Global, row: &str) -> Option<bool> {
+    let (count, left, f, right, wanted) = words_of(row)?;
+    let left = side_of(alloc, left)?;
+    let right = side_of(alloc, right)?;
     let mut room = vec![in alloc; 0; count].ok()?;
     let written = written_of(f, &left, &right, room.as_mut_slice())?;
+    let wanted = array_of(alloc, wanted)?;
+    let wanted = held_numbers(&wanted)?;
     let is_whole = wanted.len() < count || written == count;
     Some(is_whole && room.as_slice().get(..written) == wanted.get(..written))
 }
