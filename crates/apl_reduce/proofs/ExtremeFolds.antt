@@ -1,21 +1,16 @@
 -- The greatest and the least of neighbours and a total, and of four runs of them.
-use Rattle.std.proofs.Common.{◌≡◌, ℕ, zero, suc, ℤ, pos, ◌+◌, ◌*◌, List, map, Result, Ok, refl, sym, ap, ◌∙◌, slice_index_or, arith}
-use Rattle.std.specs.Int.{int_min, int_max}
+use Rattle.std.proofs.Common.{◌≡◌, ℕ, zero, suc, ℤ, pos, ◌+◌, ◌*◌, List, map, Ok, refl, sym, ap, ◌∙◌, slice_index_or, arith}
 use Rattle.std.proofs.Math.ListN.{get_or-map}
-use Rattle.std.proofs.lemmas.Int.{ints, clamps}
 use Rattle.apl_array.specs.declared.array.Elem.{Elem}
 use Rattle.apl_array.specs.declared.array.Elem.TheVariants.{Int}
 use Rattle.apl_array.specs.declared.function.ScalarFunction.{ScalarFunction}
-use Rattle.apl_array.specs.declared.function.ScalarFunction.TheVariants.{Ceiling, Floor}
-use Rattle.apl_pool.specs.declared.kernel.Fault.{Fault}
 use Rattle.apl_scalar.specs.Scalar.{dyadic_of}
+use Rattle.apl_reduce.specs.ExtremeFolds.{IsExtreme}
 use Rattle.apl_reduce.specs.Folded.{number_step, folded_onto}
 use Rattle.apl_reduce.specs.Items.{item_in}
 use Rattle.apl_reduce.proofs.Folds.{two_runs, two_halves}
 
--- a function that is defined for all numbers, and minds neither their order nor how often one comes
-module _ (f : ScalarFunction) (two : ℤ → ℤ → ℤ) (is : (x y : ℤ) → dyadic_of f (Int x) (Int y) ≡ Ok (two x y)) (exchanged : (x y z : ℤ) → two x (two y z) ≡ two y (two x z))
-    (grouped : (x y z : ℤ) → two x (two y z) ≡ two (two x y) z) (turned : (x y : ℤ) → two x y ≡ two y x) (alone : (x : ℤ) → two x x ≡ x) (numbers : List ℤ) where
+module _ (f : ScalarFunction) (two : ℤ → ℤ → ℤ) (laws : IsExtreme f two) (numbers : List ℤ) where
   abbrev item : ℕ → Elem
   item = item_in (map Int numbers)
 
@@ -27,19 +22,22 @@ module _ (f : ScalarFunction) (two : ℤ → ℤ → ℤ) (is : (x y : ℤ) → 
   all_onto k (suc n) total = two (number k) (all_onto (suc k) n total)
 
   steps_to : (k : ℕ) (total : ℤ) → number_step f (item k) (Ok total) ≡ Ok (two (number k) total)
-  steps_to k total = ap (λ x. dyadic_of f x (Int total)) (get_or-map Int numbers k (pos 0)) ∙ is (number k) total
+  steps_to k total = ap (λ x. dyadic_of f x (Int total)) (get_or-map Int numbers k (pos 0)) ∙ laws.is (number k) total
 
   folds_to : (k n : ℕ) (total : ℤ) → folded_onto f item k n (Ok total) ≡ Ok (all_onto k n total)
   folds_to k zero total = refl
   folds_to k (suc n) total = ap (number_step f (item k)) (folds_to (suc k) n total) ∙ steps_to k (all_onto (suc k) n total)
 
+  exchanged : (x y z : ℤ) → two x (two y z) ≡ two y (two x z)
+  exchanged x y z = laws.grouped x y z ∙ ap (λ i. two i z) (laws.turned x y) ∙ sym (laws.grouped y x z)
+
   first_or_last : (k n : ℕ) (x total : ℤ) → all_onto k n (two x total) ≡ two x (all_onto k n total)
   first_or_last k zero x total = refl
   first_or_last k (suc n) x total = ap (two (number k)) (first_or_last (suc k) n x total) ∙ exchanged (number k) x (all_onto (suc k) n total)
 
-  one_number_more : (first k : ℕ) (total so_far : ℤ) → folded_onto f item first k (Ok total) ≡ Ok so_far
+  pub one_more : (first k : ℕ) (total so_far : ℤ) → folded_onto f item first k (Ok total) ≡ Ok so_far
       → folded_onto f item first (k + 1) (Ok total) ≡ Ok (two (number (first + k)) so_far)
-  one_number_more first k total so_far before =
+  one_more first k total so_far before =
       let more : k + 1 ≡ k + suc zero = omega arith in
       let folded : Ok (all_onto first k total) ≡ Ok so_far = sym (folds_to first k total) ∙ before in
       let same : all_onto first k total ≡ so_far = cc in
@@ -49,8 +47,8 @@ module _ (f : ScalarFunction) (two : ℤ → ℤ → ℤ) (is : (x y : ℤ) → 
       ∙ ap (λ z. Ok z) (first_or_last first k (number (first + k)) total ∙ ap (two (number (first + k))) same)
 
   absorbed : (k n : ℕ) (total : ℤ) → two (all_onto k n total) total ≡ all_onto k n total
-  absorbed k zero total = alone total
-  absorbed k (suc n) total = sym (grouped (number k) (all_onto (suc k) n total) total) ∙ ap (two (number k)) (absorbed (suc k) n total)
+  absorbed k zero total = laws.alone total
+  absorbed k (suc n) total = sym (laws.grouped (number k) (all_onto (suc k) n total) total) ∙ ap (two (number k)) (absorbed (suc k) n total)
 
   is_onto : (k n : ℕ) (total all : ℤ) → folded_onto f item k n (Ok total) ≡ Ok all → all_onto k n total ≡ all
   is_onto k n total all folded = let same : Ok (all_onto k n total) ≡ Ok all = sym (folds_to k n total) ∙ folded in cc
@@ -78,63 +76,13 @@ module _ (f : ScalarFunction) (two : ℤ → ℤ → ℤ) (is : (x y : ℤ) → 
       ∙ ap (λ t. folded_onto f item a n (folded_onto f item b n t)) (folds_to c n z ∙ ap (λ (i : ℤ). Ok i) three)
       ∙ ap (folded_onto f item a n) (folds_to b n (two z y) ∙ ap (λ (i : ℤ). Ok i) two_too)
       ∙ folds_to a n (two z (two y x))
-      ∙ ap (λ (i : ℤ). Ok i) (all ∙ exchanged z y (two x w) ∙ grouped y z (two x w) ∙ turned (two y z) (two x w) ∙ ap (λ i. two i (two y z)) (turned x w))
+      ∙ ap (λ (i : ℤ). Ok i) (all ∙ exchanged z y (two x w) ∙ laws.grouped y z (two x w) ∙ laws.turned (two y z) (two x w) ∙ ap (λ i. two i (two y z)) (laws.turned x w))
 
-exchanged_greater : (x y z : ℤ) → int_max x (int_max y z) ≡ int_max y (int_max x z)
-exchanged_greater x y z = omega (arith, ints, clamps)
-
-grouped_greater : (x y z : ℤ) → int_max x (int_max y z) ≡ int_max (int_max x y) z
-grouped_greater x y z = omega (arith, ints, clamps)
-
-turned_greater : (x y : ℤ) → int_max x y ≡ int_max y x
-turned_greater x y = omega (arith, ints, clamps)
-
-alone_greater : (x : ℤ) → int_max x x ≡ x
-alone_greater x = omega (arith, ints, clamps)
-
-exchanged_lesser : (x y z : ℤ) → int_min x (int_min y z) ≡ int_min y (int_min x z)
-exchanged_lesser x y z = omega (arith, ints, clamps)
-
-grouped_lesser : (x y z : ℤ) → int_min x (int_min y z) ≡ int_min (int_min x y) z
-grouped_lesser x y z = omega (arith, ints, clamps)
-
-turned_lesser : (x y : ℤ) → int_min x y ≡ int_min y x
-turned_lesser x y = omega (arith, ints, clamps)
-
-alone_lesser : (x : ℤ) → int_min x x ≡ x
-alone_lesser x = omega (arith, ints, clamps)
-
-four_quarters : (f : ScalarFunction) (numbers : List ℤ) (first n : ℕ) (total : Result ℤ Fault)
-    → folded_onto f (item_in (map Int numbers)) first (2 * (2 * n)) total ≡ folded_onto f (item_in (map Int numbers)) first n (folded_onto f (item_in (map Int numbers)) (first + n) n
-    (folded_onto f (item_in (map Int numbers)) (first + 2 * n) n (folded_onto f (item_in (map Int numbers)) (first + 2 * n + n) n total)))
-four_quarters f numbers first n total =
-    let item = item_in (map Int numbers) in
-    two_halves f item first (2 * n) total
-    ∙ two_halves f item first n (folded_onto f item (first + 2 * n) (2 * n) total)
-    ∙ ap (λ t. folded_onto f item first n (folded_onto f item (first + n) n t)) (two_halves f item (first + 2 * n) n total)
-
-module _ (numbers : List ℤ) (first k : ℕ) (total : ℤ) where
-  abbrev item_there : ℕ → Elem
-  item_there = item_in (map Int numbers)
-
-  pub one_greater : (so_far : ℤ) → folded_onto Ceiling item_there first k (Ok total) ≡ Ok so_far
-      → folded_onto Ceiling item_there first (k + 1) (Ok total) ≡ Ok (int_max (slice_index_or numbers (first + k) (pos 0)) so_far)
-  one_greater = one_number_more Ceiling int_max (λ x y. refl) exchanged_greater grouped_greater turned_greater alone_greater numbers first k total
-
-  pub greatest_of_quarters : (w x y z : ℤ) → folded_onto Ceiling item_there first k (Ok total) ≡ Ok w → folded_onto Ceiling item_there (first + k) k (Ok total) ≡ Ok x
-      → folded_onto Ceiling item_there (first + 2 * k) k (Ok total) ≡ Ok y → folded_onto Ceiling item_there (first + 2 * k + k) k (Ok total) ≡ Ok z
-      → folded_onto Ceiling item_there first (2 * (2 * k)) (Ok total) ≡ Ok (int_max (int_max w x) (int_max y z))
-  greatest_of_quarters w x y z at_a at_b at_c at_d =
-      four_quarters Ceiling numbers first k (Ok total)
-      ∙ four_joined Ceiling int_max (λ x y. refl) exchanged_greater grouped_greater turned_greater alone_greater numbers first (first + k) (first + 2 * k) (first + 2 * k + k) k total w x y z at_a at_b at_c at_d
-
-  pub one_lesser : (so_far : ℤ) → folded_onto Floor item_there first k (Ok total) ≡ Ok so_far
-      → folded_onto Floor item_there first (k + 1) (Ok total) ≡ Ok (int_min (slice_index_or numbers (first + k) (pos 0)) so_far)
-  one_lesser = one_number_more Floor int_min (λ x y. refl) exchanged_lesser grouped_lesser turned_lesser alone_lesser numbers first k total
-
-  pub least_of_quarters : (w x y z : ℤ) → folded_onto Floor item_there first k (Ok total) ≡ Ok w → folded_onto Floor item_there (first + k) k (Ok total) ≡ Ok x
-      → folded_onto Floor item_there (first + 2 * k) k (Ok total) ≡ Ok y → folded_onto Floor item_there (first + 2 * k + k) k (Ok total) ≡ Ok z
-      → folded_onto Floor item_there first (2 * (2 * k)) (Ok total) ≡ Ok (int_min (int_min w x) (int_min y z))
-  least_of_quarters w x y z at_a at_b at_c at_d =
-      four_quarters Floor numbers first k (Ok total)
-      ∙ four_joined Floor int_min (λ x y. refl) exchanged_lesser grouped_lesser turned_lesser alone_lesser numbers first (first + k) (first + 2 * k) (first + 2 * k + k) k total w x y z at_a at_b at_c at_d
+  pub of_quarters : (first n : ℕ) (total w x y z : ℤ) → folded_onto f item first n (Ok total) ≡ Ok w → folded_onto f item (first + n) n (Ok total) ≡ Ok x
+      → folded_onto f item (first + 2 * n) n (Ok total) ≡ Ok y → folded_onto f item (first + 2 * n + n) n (Ok total) ≡ Ok z
+      → folded_onto f item first (2 * (2 * n)) (Ok total) ≡ Ok (two (two w x) (two y z))
+  of_quarters first n total w x y z at_w at_x at_y at_z =
+      two_halves f item first (2 * n) (Ok total)
+      ∙ two_halves f item first n (folded_onto f item (first + 2 * n) (2 * n) (Ok total))
+      ∙ ap (λ t. folded_onto f item first n (folded_onto f item (first + n) n t)) (two_halves f item (first + 2 * n) n (Ok total))
+      ∙ four_joined first (first + n) (first + 2 * n) (first + 2 * n + n) n total w x y z at_w at_x at_y at_z

@@ -1,12 +1,12 @@
 -- Sums of pairs of numbers near 0. Each is counted from the least number that is near 0.
-use Rattle.std.proofs.Common.{◌≡◌, ℕ, zero, suc, ℤ, pos, ◌+◌, ◌*◌, ◌-◌, ◌%◌, ◌^◌, ◌<◌, ◌≤◌, ◌+ℤ◌, List, refl, sym, ap, subst, ◌∙◌, ⊎_elim, arith}
+use Rattle.std.proofs.Common.{◌≡◌, ℕ, zero, suc, ℤ, pos, ◌+◌, ◌*◌, ◌-◌, ◌%◌, ◌^◌, ◌<◌, ◌≤◌, ◌+ℤ◌, List, refl, ap, subst, ◌∙◌, ⊎_elim, arith}
 use Rattle.std.specs.Prelude.{unsigned_abs, slice_index_or, bit_or}
 use Rattle.std.proofs.Math.IntN.{+ℤ_assoc}
 use Rattle.std.proofs.Math.Nat.{mod-eq_of_lt}
 use Rattle.std.proofs.lemmas.Int.{ints}
 use Rattle.std.proofs.lemmas.Nat.{le_or_l, le_or_r}
 use Rattle.std.proofs.lemmas.Bool.{cases_lt}
-use Rattle.apl_reduce.specs.Magnitudes.{sum_of, ArePairSums, ArePairsAbove}
+use Rattle.apl_reduce.specs.Magnitudes.{sum_of, ArePairsAbove}
 use Rattle.apl_reduce.proofs.NearFolds.{near_sum}
 
 add_none : (z : ℤ) → z ≡ z +ℤ pos 0

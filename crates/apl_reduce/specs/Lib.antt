@@ -12,6 +12,7 @@ pub mod Folded
 pub mod BitFolds
 pub mod Ones
 pub mod TruthFolds
+pub mod ExtremeFolds
 pub mod RowFolds
 pub mod FourFolds
 pub mod Fronts

@@ -201,9 +201,8 @@ impl Kernel for Consecutive {
 
     #[inline(always)]
     fn write_run(&self, from: usize, to: usize, room: &mut [i64]) -> usize {
-        let first = self.first + from;
         for k in 0..to - from {
-            room[k] = (first + k) as i64;
+            room[k] = (self.first + (from + k)) as i64;
         }
         to
     }

@@ -1,4 +1,4 @@
-use Rattle.std.proofs.Common.{◌≡◌, ◌+◌, ◌-◌, ◌*◌, ◌/◌, ◌≤◌, map, arith}
+use Rattle.std.proofs.Common.{◌+◌, ◌-◌, ◌*◌, ◌/◌, ◌≤◌, map, arith}
 use Rattle.std.proofs.lemmas.Option.{IfSome_then}
 use Rattle.apl_reduce.proofs.Folds.{line_folded}
 use Rattle.apl_reduce.proofs.line_folds.fold_lines.Goals as goal

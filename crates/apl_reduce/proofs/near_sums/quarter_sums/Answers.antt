@@ -1,4 +1,4 @@
-use Rattle.std.proofs.Common.{◌≡◌, ◌+◌, ◌*◌, ◌<◌, subst, sym, arith}
+use Rattle.std.proofs.Common.{◌≡◌, ◌*◌, ◌<◌, subst, sym, arith}
 use Rattle.apl_reduce.specs.Magnitudes.{ArePairSums, AreAboveSums}
 use Rattle.apl_reduce.proofs.near_sums.quarter_sums.Goals as goal
 

@@ -1,4 +1,4 @@
-use Rattle.std.proofs.Common.{◌≡◌, ◌≤◌, ◌^◌, FitsSigned, w64, ◌∙◌, arith, rules}
+use Rattle.std.proofs.Common.{◌≤◌, ◌^◌, FitsSigned, w64, ◌∙◌, arith, rules}
 use Rattle.std.proofs.lemmas.Int.{to_z-of_z}
 use Rattle.std.proofs.lemmas.Bool.{ltb-true}
 use Rattle.apl_reduce.proofs.NearSums.{firsts_near, seconds_near}

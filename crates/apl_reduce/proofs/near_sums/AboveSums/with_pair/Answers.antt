@@ -1,4 +1,4 @@
-use Rattle.std.proofs.Common.{◌≡◌, ◌+◌, ◌*◌, ◌^◌, ◌<◌, ℕ, ℤ, pos, ◌+ℤ◌, List, bit_or, FitsSigned, slice_index_or, to_z, of_z, w64, ap, subst, arith, rules}
+use Rattle.std.proofs.Common.{◌≡◌, ◌+◌, ◌*◌, ◌^◌, ◌<◌, ℕ, ℤ, pos, ◌+ℤ◌, List, bit_or, FitsSigned, slice_index_or, to_z, of_z, w64, subst, arith, rules}
 use Rattle.std.proofs.lemmas.Int.{to_z-of_z}
 use Rattle.apl_reduce.proofs.NearSums.{IsAbove, both_low, with_one_pair}
 use Rattle.apl_reduce.proofs.near_sums.AboveSums.with_pair.Goals as goal
