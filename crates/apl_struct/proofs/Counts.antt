@@ -1,32 +1,32 @@
 -- Indexes that counts repeat, and lists of numbers as counts.
-use Rattle.std.proofs.Common.{◌≡◌, ℕ, zero, suc, add-one, ◌+◌, ◌-◌, ◌*◌, ◌/◌, ◌<◌, List, [], ◌∷◌, ◌++◌, take, length, replicate, slice_index, refl, ap, sym, ◌∙◌, ⊎_elim, arith, ℤ, pos, negsuc, true, false, int_eq, map, slice_index_or, inl, inr, int_lt, nat_abs, to_z, of_z, w64, nat_le, slice_set, Result, Err, FitsSigned}
-use Rattle.std.specs.Prelude.{Bool, Some, ◌≤◌, All, sum, flat_map, ◌^◌, ◌==◌, ◌⊎◌}
+use Rattle.std.proofs.Common.{◌≡◌, ℕ, zero, suc, add-one, ◌+◌, ◌-◌, ◌*◌, ◌/◌, ◌<◌, List, [], ◌∷◌, ◌++◌, take, length, replicate, slice_index, refl, ap, sym, subst, ◌∙◌, ⊎_elim, arith, ℤ, pos, negsuc, true, false, eq-eqb, map, slice_index_or, inl, inr, int_lt, nat_abs, to_z, of_z, w64, nat_le, slice_set, Result, Err, FitsSigned}
+use Rattle.std.specs.Prelude.{Bool, ◌&&◌, max, option_map, Some, ◌≤◌, All, sum, flat_map, ◌^◌, ◌==◌, ◌⊎◌}
 use Rattle.std.specs.List.{range_with_len, list_all}
 use Rattle.std.proofs.Math.Nat.{div-eq_of_lt, add-div_right}
-use Rattle.std.proofs.lemmas.Bool.{or_cases, cases_lt, true≢false, cases_Bool, eqb-true, le-ltb}
+use Rattle.std.proofs.lemmas.Bool.{cases_lt, true≢false, cases_Bool, eqb-true, eqb-false, ne_eqb}
 use Rattle.std.proofs.lemmas.Int.{ints}
 use Rattle.std.proofs.lemmas.List.{append-nil, append_assoc, length-append, length-replicate, get_or_append_left, get_or-append_right, get_or-replicate, length-map, length-set, get_or-set_same}
-use Rattle.std.proofs.lemmas.List.Elements.{All-nil, All-append, All-replicate, All-get_or}
+use Rattle.std.proofs.lemmas.List.Elements.{All-nil, All-append, All-replicate}
 use Rattle.std.proofs.Math.Bool.{and-true, and-false}
-use Rattle.std.proofs.lemmas.List.Sums.{sum_by-cons, sum_by_more, sum_by-take-le, AllPass-from_list_all, list_all-from_AllPass}
-use Rattle.apl_struct.specs.Compressing.{repeated_indexes, expanded_index}
+use Rattle.std.proofs.lemmas.List.Sums.{sum_by-cons, sum_by_more, AllPass-from_list_all, list_all-from_AllPass}
+use Rattle.apl_struct.specs.Compressing.{as_vector, repeated_indexes, expanded_index, expand_row}
 use Rattle.std.proofs.Math.ListN.{get_or-map}
-use Rattle.std.proofs.lemmas.Bool.Decides.{Decides-int_eq, nat_tests}
+use Rattle.std.proofs.lemmas.Bool.Decides.{nat_tests}
 use Rattle.std.proofs.lemmas.List.Folds.{sum_by-replicate, list_all_at}
-use Rattle.apl_array.specs.Axes.{place_number}
-use Rattle.apl_answer.specs.Arguments.{is_bit, is_natural}
-use Rattle.apl_struct.specs.Expanding.{expanded_entry}
-use Rattle.apl_struct.specs.declared.bits.TheConstants.{ABSENT}
-use Rattle.apl_struct.specs.Along.{entry_index}
+use Rattle.apl_array.specs.Axes.{place_number, has_axis, axis_of}
+use Rattle.apl_answer.specs.Arguments.{is_bit, is_list, is_scalar, is_natural, is_numbers, number_of, numbers_of, rank_of, size_of}
+use Rattle.apl_struct.specs.Expanding.{expanded}
 use Rattle.apl_struct.proofs.Taken.{pos_right}
-use Rattle.apl_struct.proofs.Takings.{entry_there}
 use Rattle.std.proofs.lemmas.Grind.{get_or-set_at}
-use Rattle.apl_array.specs.Shape.{is_shape, most_axes, most_elements}
+use Rattle.apl_array.specs.Shape.{count_of, is_shape, most_axes, most_elements}
+use Rattle.apl_array.specs.declared.array.Elem.TheVariants.{Int}
 use Rattle.apl_array.specs.Array.{ArrayValue, bit, element_at}
-use Rattle.apl_walk.specs.Ones.{one_index, ones_before}
+use Rattle.apl_walk.specs.Ones.{one_index, next_index, ones_before}
 use Rattle.apl_answer.specs.declared.fault.OpFault.{OpFault}
-use Rattle.apl_answer.specs.declared.fault.OpFault.TheVariants.{Limit, Memory}
+use Rattle.apl_answer.specs.declared.fault.OpFault.TheVariants.{Domain, Length, Limit, Memory}
 use Rattle.apl_answer.specs.Pointwise.{IsAnswerOf}
+use Rattle.apl_answer.specs.Rows.{Answers}
+use Rattle.apl_array.specs.declared.axis.Axis.{Axis}
 use Rattle.apl_struct.specs.Gathering.{element_or_fill, along_axis, along_axis_or_none}
 use Rattle.apl_struct.specs.Shaped.{IsArrayOrLimit}
 use Rattle.apl_struct.specs.Replicating.{replicated}
@@ -61,7 +61,7 @@ repeats_below start [] n most = All-nil (λ i. i < n)
 repeats_below start (c ∷ cs) n most =
     All-append (λ i. i < n) (replicate c start) (repeats (start + 1) cs) (All-replicate (λ i. i < n) c start (omega (arith, most))) (repeats_below (start + 1) cs n (omega (arith, most)))
 
-pub repeated_below : (counts : List ℕ) → All (λ i. i < length counts) (repeated_indexes counts)
+repeated_below : (counts : List ℕ) → All (λ i. i < length counts) (repeated_indexes counts)
 repeated_below counts = rw (repeated_is counts) (repeats_below 0 counts (length counts) (omega arith))
 
 repeats_length : (start : ℕ) (counts : List ℕ) → length (repeats start counts) ≡ sum counts
@@ -97,12 +97,24 @@ repeated_same n c i inside =
     let here : 0 + i / c ≡ i / c = omega arith in
     rw (repeated_is (replicate n c)) (repeats_same 0 n c i inside ∙ here)
 
+-- those that counts of all n indexes repeat are below n
+pub repeated_taken : (n : ℕ) (counts indexes : List ℕ) → length counts ≡ n → indexes ≡ repeated_indexes counts → All (λ i. i < n) indexes
+repeated_taken n counts indexes many are =
+    let below : All (λ i. i < length counts) indexes = rw are (repeated_below counts) in
+    subst (λ m. All (λ i. i < m) indexes) many below
+
 -- ---- truth values, as counts
 
 ones_sum : (truths : List Bool) → sum (map place_number (map bit truths)) ≡ ones_before truths (length truths)
 ones_sum [] = refl
 ones_sum (true ∷ truths) = sum_by-cons (λ n. n) 1 (map place_number (map bit truths)) ∙ ap (λ n. 1 + n) (ones_sum truths)
 ones_sum (false ∷ truths) = sum_by-cons (λ n. n) 0 (map place_number (map bit truths)) ∙ ap (λ n. 0 + n) (ones_sum truths)
+
+-- they are no more than there are truth values
+pub ones_most : (truths : List Bool) → ones_before truths (length truths) ≤ length truths
+ones_most [] = omega arith
+ones_most (true ∷ truths) = omega (arith, ones_most truths)
+ones_most (false ∷ truths) = omega (arith, ones_most truths)
 
 pub truths_natural : (truths : List Bool) → list_all is_natural (map bit truths) ≡ true
 truths_natural [] = refl
@@ -128,40 +140,9 @@ counts bits = map place_number bits
 pub count_at : (bits : List ℤ) (i : ℕ) → slice_index (counts bits) i ≡ place_number (slice_index_or bits i (pos 0))
 count_at bits i = get_or-map place_number bits i (pos 0)
 
--- a number is one where its count is
-pub one_test : (z : ℤ) → is_bit z ≡ true → int_eq z (pos 1) ≡ (place_number z == 1)
-one_test z bit =
-    elim (or_cases (int_eq z (pos 0)) (int_eq z (pos 1)) bit) [
-      | inl none ↦ rw ((Decides-int_eq z (pos 0)).0 none) refl
-      | inr one ↦ rw ((Decides-int_eq z (pos 1)).0 one) refl
-    ]
-
 pub bit_natural : (z : ℤ) → is_bit z ≡ true → is_natural z ≡ true
 bit_natural (pos n) bit = refl
 bit_natural (negsuc n) bit = absurd (true≢false (sym bit))
-
-pub bit_most : (z : ℤ) → is_bit z ≡ true → place_number z ≤ 1
-bit_most (pos n) bit = grind (arith, nat_tests)
-bit_most (negsuc n) bit = absurd (true≢false (sym bit))
-
--- one more value behind others
-pub push_each : (xs : List ℕ) (x : ℕ) (f : ℕ → ℕ) → ((j : ℕ) → j < length xs → slice_index xs j ≡ f j) → x ≡ f (length xs)
-    → (j : ℕ) → j < length xs + 1 → slice_index (xs ++ x ∷ []) j ≡ f j
-push_each [] x f same last zero below = last
-push_each [] x f same last (suc j) below = absurd (omega (arith, below))
-push_each (y ∷ ys) x f same last zero below = same 0 (omega arith)
-push_each (y ∷ ys) x f same last (suc j) below = push_each ys x (λ n. f (suc n)) (λ n m. same (suc n) (omega (arith, m))) last j (omega (arith, below))
-
--- an entry is below the sum of the counts where there is an index
-pub entry_is : (cs : List ℕ) (i : ℕ) → i < length cs → sum cs ≤ 2 ^ 30 → entry_index (sum cs) (expanded_entry cs i) ≡ expanded_index cs i
-entry_is cs i inside most =
-    ⊎_elim
-    (λ (one : (slice_index cs i == 1) ≡ true).
-    let more : sum (take (i + 1) cs) ≡ sum (take i cs) + 1 = omega (arith, sum_by_more (λ n. n) cs i 0 inside, eqb-true (slice_index cs i) 1 one) in
-    let all : sum (take (i + 1) cs) ≤ sum cs = sum_by-take-le (λ n. n) cs (i + 1) in
-    rw one (entry_there (sum cs) (sum (take i cs)) (omega (arith, more, all))))
-    (λ (other : (slice_index cs i == 1) ≡ false). rw other (rw (le-ltb ABSENT (sum cs) (omega (arith, most))) refl))
-    (cases_Bool (slice_index cs i == 1))
 
 -- ---- numbers from 0 up, as counts
 
@@ -217,19 +198,12 @@ shape_past shape k n axis past =
 -- ---- the row of A/B, where all but its counts was judged
 
 -- the indexes that counts repeat, where they are taken from a list
-pub repeated_answer : (c : ArrayValue) (k n extent : ℕ) (counts indexes : List ℕ) (result : Result ArrayValue OpFault) → k < length c.shape → length counts ≡ n
-    → extent ≡ length indexes → indexes ≡ repeated_indexes counts → IsArrayOrLimit (slice_set c.shape k extent) c.kind (λ index. element_or_fill c (along_axis_or_none k (λ i. entry_index n (slice_index indexes i)) index)) result
+pub repeated_answer : (c : ArrayValue) (k extent : ℕ) (counts indexes : List ℕ) (result : Result ArrayValue OpFault)
+    → extent ≡ length indexes → indexes ≡ repeated_indexes counts → IsArrayOrLimit (slice_set c.shape k extent) c.kind (λ index. element_or_fill c (along_axis_or_none k (λ i. Some (slice_index indexes i)) index)) result
     → IsAnswerOf (replicated c k counts) result
-repeated_answer c k n extent counts indexes result axis many long are given =
-    let shape = slice_set c.shape k (sum counts) in
+repeated_answer c k extent counts indexes result long are given =
     let made = rw (long ∙ ap length are ∙ repeated_length counts, are) at given in
-    made (λ index. element_at c (along_axis k (slice_index (repeated_indexes counts)) index)) (λ index inside.
-    let i = slice_index index k in
-    let extent_is : slice_index shape k ≡ sum counts = get_or-set_same c.shape k (sum counts) 0 axis in
-    let wide : k < length shape = omega (arith, axis, length-set c.shape k (sum counts)) in
-    let here : i < length (repeated_indexes counts) = omega (arith, inside.below k wide, extent_is, repeated_length counts) in
-    let below : slice_index (repeated_indexes counts) i < n = omega (arith, many, All-get_or (λ i. i < length counts) (repeated_indexes counts) i 0 here (repeated_below counts)) in
-    rw (entry_there n (slice_index (repeated_indexes counts) i) below) refl)
+    made (λ index. element_at c (along_axis k (slice_index (repeated_indexes counts)) index)) (λ index inside. refl)
 
 -- the indexes at which truth values are true, where they are not listed
 pub ones_answer : (c : ArrayValue) (k extent : ℕ) (truths : List Bool) (result : Result ArrayValue OpFault) → k < length c.shape → extent ≡ ones_before truths (length truths)
@@ -245,6 +219,83 @@ ones_answer c k extent truths result axis long given =
     let wide : k < length shape = omega (arith, axis, length-set c.shape k (sum own)) in
     let here : i < ones_before truths (length truths) = omega (arith, inside.below k wide, extent_is, ones_sum truths) in
     rw (one_repeated truths i here) refl)
+
+pub numbers_kept : (numbers : List ℤ) → map number_of (map Int numbers) ≡ numbers
+numbers_kept [] = refl
+numbers_kept (n ∷ ns) = ap (λ l. n ∷ l) (numbers_kept ns)
+
+pub truth_bit : (truths : List Bool) → list_all is_bit (map bit truths) ≡ true
+truth_bit [] = refl
+truth_bit (true ∷ truths) = truth_bit truths
+truth_bit (false ∷ truths) = truth_bit truths
+
+vector_rank : (n : ℕ) (b : ArrayValue) → rank_of (as_vector n b) ≡ max 1 (rank_of b)
+vector_rank n b =
+    elim (cases_Bool (is_scalar b)) [
+      | inl scalar ↦ let none = eqb-true (rank_of b) 0 scalar in rw (scalar, none) refl
+      | inr vector ↦ let several = eqb-false (rank_of b) 0 vector in rw vector (grind (arith, nat_tests, several))
+    ]
+
+-- ---- rows of A\B, where all but the count of the ones and the limit was judged
+
+sum_to : (truths : List Bool) (i : ℕ) → sum (take i (counts (map bit truths))) ≡ ones_before truths i
+sum_to [] zero = refl
+sum_to [] (suc i) = refl
+sum_to (b ∷ truths) zero = refl
+sum_to (true ∷ truths) (suc i) = sum_by-cons (λ n. n) 1 (take i (counts (map bit truths))) ∙ ap (λ n. 1 + n) (sum_to truths i)
+sum_to (false ∷ truths) (suc i) = sum_by-cons (λ n. n) 0 (take i (counts (map bit truths))) ∙ ap (λ n. 0 + n) (sum_to truths i)
+
+one_there : (truths : List Bool) (i : ℕ) → (slice_index (counts (map bit truths)) i == 1) ≡ slice_index_or truths i false
+one_there [] i = refl
+one_there (true ∷ truths) zero = refl
+one_there (false ∷ truths) zero = refl
+one_there (b ∷ truths) (suc i) = one_there truths i
+
+next_is : (truths : List Bool) (i : ℕ) → next_index truths i ≡ expanded_index (counts (map bit truths)) i
+next_is truths i = rw (one_there truths i, sum_to truths i) refl
+
+-- the next index at each one
+pub expanded_answer : (b : ArrayValue) (k count : ℕ) (truths : List Bool) (result : Result ArrayValue OpFault) → count ≡ ones_before truths (length truths)
+    → count ≡ slice_index (as_vector count b).shape k
+    → IsArrayOrLimit (slice_set (as_vector count b).shape k (length truths)) b.kind (λ index. element_or_fill (as_vector count b) (along_axis_or_none k (next_index truths) index)) result
+    → let bits = counts (map bit truths) in IsAnswerOf (expanded (as_vector (sum bits) b) k bits) result
+expanded_answer b k count truths result ones long given =
+    let bits = counts (map bit truths) in
+    let all : sum bits ≡ count = ones_sum truths ∙ sym ones in
+    let many : length bits ≡ length truths = length-map (map bit truths) place_number ∙ length-map truths bit in
+    let fit : (count == slice_index (as_vector count b).shape k) ≡ true = eq-eqb count (slice_index (as_vector count b).shape k) long in
+    rw (all, many, fit) (given (λ index. element_or_fill (as_vector count b) (along_axis_or_none k (expanded_index bits) index))
+    (λ index inside. ap (λ i. element_or_fill (as_vector count b) (option_map (slice_set index k) i)) (next_is truths (slice_index index k))))
+
+-- an axis of another length
+pub expanded_refused : (b : ArrayValue) (k count : ℕ) (truths : List Bool) → count ≡ ones_before truths (length truths) → (count ≡ slice_index (as_vector count b).shape k → ⊥)
+    → let bits = counts (map bit truths) in expanded (as_vector (sum bits) b) k bits ≡ Err Length
+expanded_refused b k count truths ones other =
+    let bits = counts (map bit truths) in
+    let all : sum bits ≡ count = ones_sum truths ∙ sym ones in
+    let unfit : (count == slice_index (as_vector count b).shape k) ≡ false = ne_eqb count (slice_index (as_vector count b).shape k) other in
+    rw (all, unfit) refl
+
+-- and of a row whose A is such truth values
+pub expand_answer : (a b : ArrayValue) (axis : Axis) (r j : ℕ) (truths : List Bool) (result : Result ArrayValue OpFault) → r ≡ max 1 (rank_of b)
+    → has_axis axis r ≡ true → j ≡ axis_of axis r → is_list a ≡ true → is_numbers a ≡ true → numbers_of a ≡ map bit truths → length a.ravel ≡ count_of a.shape
+    → (let own = counts (map bit truths) in IsAnswerOf (expanded (as_vector (sum own) b) j own) result) → Answers (expand_row a b axis) result
+expand_answer a b axis r j truths result rank has j_is list numbers own long given =
+    let bits = map place_number (numbers_of a) in
+    let same : r ≡ rank_of (as_vector (sum bits) b) = rank ∙ sym (vector_rank (sum bits) b) in
+    let there = rw same at has in
+    let k_is = rw same at j_is in
+    let judged : (is_numbers a && list_all is_bit (numbers_of a)) ≡ true = rw (numbers, own) (truth_bit truths) in
+    let many : length bits ≡ size_of a = length-map (numbers_of a) place_number ∙ length-map a.ravel number_of ∙ long in
+    rw (there, list, judged) (rw (← own, many, k_is) at given)
+
+-- A that is of numbers which are not all bits
+pub expand_refused : (a b : ArrayValue) (axis : Axis) (r : ℕ) → r ≡ max 1 (rank_of b) → has_axis axis r ≡ true → is_list a ≡ true
+    → (is_numbers a && list_all is_bit (numbers_of a)) ≡ false → Answers (expand_row a b axis) (Err Domain)
+expand_refused a b axis r rank has list none =
+    let same : r ≡ rank_of (as_vector (sum (map place_number (numbers_of a))) b) = rank ∙ sym (vector_rank (sum (map place_number (numbers_of a))) b) in
+    let there = rw same at has in
+    rw (there, list, none) (inl refl)
 
 -- a shape that is refused
 pub shape_refused : (c : ArrayValue) (k extent : ℕ) (counts : List ℕ) (fault : OpFault) (result : Result ArrayValue OpFault) → extent ≡ sum counts → result ≡ Err fault

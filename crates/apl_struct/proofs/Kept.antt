@@ -1,17 +1,16 @@
 -- One more bit of a list.
-use Rattle.std.proofs.Common.{◌≡◌, ℕ, zero, suc, slice_set, ℤ, pos, true, false, slice_index, ◌+◌, ◌<◌, ◌≤◌, List, [], ◌∷◌, ◌++◌, map, take, drop, length, replicate, int_eq, slice_index_or, refl, ap, sym, ◌∙◌, arith, inl, inr}
-use Rattle.std.specs.Prelude.{Bool, ◌&&◌, ◌==◌, if◌then◌else◌}
+use Rattle.std.proofs.Common.{◌≡◌, ℕ, zero, suc, slice_set, ℤ, pos, true, false, ◌+◌, ◌<◌, ◌≤◌, List, [], ◌∷◌, ◌++◌, map, take, take-suc, drop, length, replicate, int_eq, slice_index_or, refl, ap, sym, ◌∙◌, arith, inl, inr}
+use Rattle.std.specs.Prelude.{Bool, ◌&&◌}
 use Rattle.std.proofs.lemmas.Bool.{or_cases}
 use Rattle.std.proofs.lemmas.Bool.Decides.{Decides-int_eq}
-use Rattle.std.proofs.lemmas.List.{append-nil, length-append, take-append-drop, take-set, take_more_set}
+use Rattle.std.proofs.lemmas.List.{append-nil, map-append, take-append-drop, take-set, take_more_set}
 use Rattle.apl_array.specs.Axes.{place_number}
 use Rattle.apl_answer.specs.Arguments.{is_bit}
 use Rattle.std.specs.List.{list_all}
 use Rattle.std.proofs.lemmas.List.Folds.{list_all-append}
 use Rattle.apl_struct.specs.Compressing.{repeated_indexes}
-use Rattle.apl_struct.specs.Expanding.{AreEntriesUpTo, expanded_entry}
-use Rattle.apl_struct.specs.declared.bits.TheConstants.{ABSENT}
-use Rattle.apl_struct.proofs.Counts.{counts, bit_most, count_at, natural_repeats, natural_sum, one_test, push_each}
+use Rattle.apl_array.specs.Array.{bit}
+use Rattle.apl_struct.proofs.Counts.{natural_repeats}
 use mir.Val.{bool_byte}
 
 pub byte_most : (b : Bool) → bool_byte b ≤ 1
@@ -45,23 +44,21 @@ kept_more numbers i kept z places is_one inside here bit one room before =
     ∙ ap (λ y. repeated_indexes (take i (map place_number numbers)) ++ replicate y i) count
     ∙ sym (natural_repeats numbers i inside)
 
--- the entry of one more bit
-pub entries_more : (numbers : List ℤ) (i ones : ℕ) (z : ℤ) (entries new : List ℕ) (is_one : Bool) (entry : ℕ) → i < length numbers → slice_index_or numbers i (pos 0) ≡ z → is_bit z ≡ true
-    → is_one ≡ int_eq z (pos 1) → AreEntriesUpTo numbers i entries ones → entry ≡ (if is_one then ones else ABSENT) → new ≡ entries ++ entry ∷ []
-    → AreEntriesUpTo numbers (i + 1) new (ones + bool_byte is_one)
-entries_more numbers i ones z entries new is_one entry inside here bit one before entry_is is =
-    let added : bool_byte is_one ≡ place_number (slice_index_or numbers i (pos 0)) = ap bool_byte one ∙ counted z bit ∙ ap place_number (sym here) in
-    let most : place_number (slice_index_or numbers i (pos 0)) ≤ 1 = rw here (bit_most z bit) in
-    let count : slice_index (counts numbers) i ≡ place_number z = count_at numbers i ∙ ap place_number here in
-    let last : entry ≡ expanded_entry (counts numbers) (length entries) =
-    rw (before.0, count) (entry_is ∙ ap (λ b. if b then ones else ABSENT) (one ∙ one_test z bit) ∙ ap (λ n. if place_number z == 1 then n else ABSENT) before.2) in
-    let each = push_each entries entry (expanded_entry (counts numbers)) (λ j below. before.1 j (omega (arith, below, before.0))) last in
-    rw is (
-      simp length-append (omega (arith, before.0)),
-      (λ j below. each j (omega (arith, below, before.0))),
-      omega (arith, before.2, added, natural_sum numbers i inside),
-      omega (arith, before.3, added, most),
-    )
+-- a bit is the truth value that says whether it is 1
+bit_of : (z : ℤ) → is_bit z ≡ true → bit (int_eq z (pos 1)) ≡ z
+bit_of z is =
+    elim (or_cases (int_eq z (pos 0)) (int_eq z (pos 1)) is) [
+      | inl none ↦ rw ((Decides-int_eq z (pos 0)).0 none) refl
+      | inr one ↦ rw ((Decides-int_eq z (pos 1)).0 one) refl
+    ]
+
+-- one more bit as a truth value
+pub truth_more : (numbers : List ℤ) (i : ℕ) (z : ℤ) (truths new : List Bool) (is_one : Bool) → i < length numbers → slice_index_or numbers i (pos 0) ≡ z → is_bit z ≡ true
+    → is_one ≡ int_eq z (pos 1) → map bit truths ≡ take i numbers → new ≡ truths ++ is_one ∷ [] → map bit new ≡ take (i + 1) numbers
+truth_more numbers i z truths new is_one inside here is one before pushed =
+    let last : bit is_one ≡ slice_index_or numbers i (pos 0) = ap bit one ∙ bit_of z is ∙ sym here in
+    let more : i + 1 ≡ suc i = omega arith in
+    rw pushed (map-append bit truths (is_one ∷ []) ∙ rw (before, last) (sym (ap (λ n. take n numbers) more ∙ take-suc numbers i (pos 0) inside)))
 
 -- both are true
 pub both : (a b : Bool) → (a && b) ≡ true → (a ≡ true) × (b ≡ true)

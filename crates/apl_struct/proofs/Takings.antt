@@ -1,14 +1,14 @@
 -- Scalars that serve as vectors, and the elements of a result along an axis whose indexes are taken.
-use Rattle.std.proofs.Common.{◌≡◌, ℕ, zero, suc, ◌<◌, true, false, Bool, List, [], ◌∷◌, length, refl, arith, ◌↔◌, pos, ◌+◌, ◌*◌, ◌/◌, ◌%◌, ◌≤◌, inl, inr, Result, drop, take, slice_index, ap, sym, subst, ◌∙◌}
+use Rattle.std.proofs.Common.{◌≡◌, ℕ, zero, suc, ◌<◌, true, false, Bool, List, [], ◌∷◌, length, refl, arith, ◌↔◌, pos, ◌+◌, ◌*◌, ◌/◌, ◌%◌, ◌≤◌, inl, inr, Result, drop, take, slice_index, slice_index_or, ap, sym, subst, ◌∙◌}
 use Rattle.std.specs.Prelude.{Some, IfSome, max, All, replicate, if◌then◌else◌, slice_set, None, Option, option_map}
 use Rattle.std.proofs.lemmas.Bool.Decides.{nat_tests}
-use Rattle.std.proofs.lemmas.List.Elements.{All-replicate}
+use Rattle.std.proofs.lemmas.List.Elements.{All-get_or, All-replicate}
 use Rattle.apl_array.specs.declared.array.Elem.{Elem}
 use Rattle.apl_array.specs.Range.{IsElementInRange, HasNumbersInRange}
 use Rattle.apl_array.specs.Array.{ArrayValue, IsArray, element_at}
 use Rattle.apl_answer.specs.Arguments.{is_scalar, only_element, rank_of, fill_of}
 use Rattle.apl_struct.specs.Compressing.{as_vector}
-use Rattle.apl_struct.specs.Along.{entry_index, taking_extent, taking_index, IsTakingOf}
+use Rattle.apl_struct.specs.Along.{taking_extent, taking_index, IsTakingOf}
 use Rattle.apl_struct.proofs.Limits.{element_in_in}
 use Rattle.std.proofs.lemmas.Bool.{cases_Bool, eqb-true, eqb-false}
 use Rattle.std.proofs.lemmas.List.{nil_from_length, get_or-replicate, set-get_or, get_or_default}
@@ -19,9 +19,9 @@ use Rattle.apl_answer.specs.declared.fault.OpFault.{OpFault}
 use Rattle.apl_answer.specs.Pointwise.{IsArrayBy}
 use Rattle.apl_walk.specs.Gathered.{filled_at}
 use Rattle.apl_walk.specs.Steps.{and_step}
-use Rattle.apl_walk.specs.Ones.{one_index, ones_before}
+use Rattle.apl_walk.specs.Ones.{one_of, one_index, next_index, ones_before}
 use Rattle.apl_struct.specs.declared.along.Taking.{Taking}
-use Rattle.apl_struct.specs.declared.along.Taking.TheVariants.{Reversed, Rotated, Repeated, Listed, Ones}
+use Rattle.apl_struct.specs.declared.along.Taking.TheVariants.{Reversed, Rotated, Repeated, Listed, Ones, Expanded}
 use Rattle.apl_struct.specs.Gathering.{element_or_fill}
 use Rattle.apl_struct.specs.Shaped.{IsArrayOrLimit}
 use Rattle.apl_struct.proofs.Elements.{filled_within}
@@ -36,12 +36,6 @@ axis_of_vector n k b axis = by_test (is_scalar b) refl
     by_test : (scalar : Bool) → is_scalar b ≡ scalar → k < length (if scalar then n ∷ [] else b.shape)
     by_test true is = grind (arith, nat_tests)
     by_test false is = grind (arith, nat_tests)
-
-pub entry_below : (n entry : ℕ) → IfSome (entry_index n entry) (λ j. j < n)
-entry_below n entry = grind (arith, nat_tests)
-
-pub entry_there : (n entry : ℕ) → entry < n → entry_index n entry ≡ Some entry
-entry_there n entry below = grind (arith, nat_tests)
 
 either_all : (c : Bool) (xs ys : List Elem) → All IsElementInRange xs → All IsElementInRange ys → All IsElementInRange (if c then xs else ys)
 either_all true xs ys h k = h
@@ -58,12 +52,29 @@ one_below (false ∷ bits) n below = omega (arith, one_below bits n (omega (arit
 one_below (true ∷ bits) zero below = omega arith
 one_below (true ∷ bits) (suc n) below = omega (arith, one_below bits n (omega (arith, below)))
 
+ones_first : (bits : List Bool) → ones_before bits 0 ≡ 0
+ones_first [] = refl
+ones_first (b ∷ bits) = refl
+
+one_ahead : (bits : List Bool) (i : ℕ) → i < length bits → slice_index_or bits i false ≡ true → ones_before bits i < ones_before bits (length bits)
+one_ahead [] i inside one = absurd (omega (arith, inside))
+one_ahead (b ∷ bits) zero inside one = omega (arith, ap one_of one)
+one_ahead (b ∷ bits) (suc i) inside one = omega (arith, one_ahead bits i (omega (arith, inside)) one)
+
+next_below : (n : ℕ) (bits : List Bool) (i : ℕ) → ones_before bits (length bits) ≡ n → i < length bits → IfSome (next_index bits i) (λ j. j < n)
+next_below n bits i all inside = by_bit (slice_index_or bits i false) refl
+  where
+    by_bit : (b : Bool) → slice_index_or bits i false ≡ b → IfSome (if b then Some (ones_before bits i) else None) (λ j. j < n)
+    by_bit true is = omega (arith, one_ahead bits i inside is, all)
+    by_bit false is = grind arith
+
 pub taking_below : (n : ℕ) (taking : Taking) (i : ℕ) → IsTakingOf n taking → i < taking_extent n taking → IfSome (taking_index n taking i) (λ j. j < n)
 taking_below n Reversed i is inside = omega (arith, inside)
 taking_below n (Rotated by) i is inside = wrapped_below n i by inside is
 taking_below n (Repeated times) i is inside = (div-lt_iff_lt-mul (pos_right n times (omega (arith, inside)))).1 inside
-taking_below n (Listed entries) i is inside = entry_below n (slice_index entries.now i)
+taking_below n (Listed indexes) i is inside = All-get_or (λ j. j < n) indexes.now i 0 inside is
 taking_below n (Ones counted) i is inside = omega (arith, one_below counted.bits.now i (omega (arith, counted.all, inside)), is)
+taking_below n (Expanded counted) i is inside = next_below n counted.bits.now i (omega (arith, counted.all, is)) inside
 
 -- an array that is no scalar is its own vector
 pub vector_is : (n k : ℕ) (b : ArrayValue) → k < length b.shape → as_vector n b ≡ b

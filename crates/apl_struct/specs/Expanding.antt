@@ -1,18 +1,15 @@
--- A\B by a table. No contract of a public function cites this file.
-use Rattle.std.specs.Prelude.{◌≡◌, ℕ, ◌<◌, ◌≤◌, ◌==◌, ℤ, List, length, map, take, if◌then◌else◌, slice_index, sum}
-use Rattle.apl_array.specs.Axes.{place_number}
-use Rattle.apl_struct.specs.declared.bits.TheConstants.{ABSENT}
+-- A\B where A is of truth values. No contract of a public function cites this file.
+use Rattle.std.specs.Prelude.{ℕ, ◌==◌, List, Result, Ok, Err, if◌then◌else◌, length, slice_index, slice_set, sum}
+use Rattle.apl_array.specs.Shape.{is_shape}
+use Rattle.apl_array.specs.Array.{ArrayValue}
+use Rattle.apl_answer.specs.declared.fault.OpFault.{OpFault}
+use Rattle.apl_answer.specs.declared.fault.OpFault.TheVariants.{Length, Limit}
+use Rattle.apl_answer.specs.Pointwise.{answer_of}
+use Rattle.apl_struct.specs.Gathering.{element_or_fill, along_axis_or_none}
+use Rattle.apl_struct.specs.Compressing.{expanded_index}
 
--- at each one how many ones come before it, and at each zero that there is no index
-abbrev pub expanded_entry : List ℕ → ℕ → ℕ
-expanded_entry bits i = if slice_index bits i == 1 then sum (take i bits) else ABSENT
-
--- the entries of bits, and how many ones there are
-abbrev pub AreEntriesOf : List ℤ → List ℕ → (ones : ℕ) → Type 0
-AreEntriesOf bits entries ones =
-    (length entries ≡ length bits) × ((i : ℕ) → i < length bits → slice_index entries i ≡ expanded_entry (map place_number bits) i) × (ones ≡ sum (map place_number bits)) × (ones ≤ length bits)
-
--- the first n entries of bits, and how many ones are before place n
-abbrev pub AreEntriesUpTo : List ℤ → (n : ℕ) → List ℕ → (ones : ℕ) → Type 0
-AreEntriesUpTo bits n entries ones =
-    (length entries ≡ n) × ((i : ℕ) → i < n → slice_index entries i ≡ expanded_entry (map place_number bits) i) × (ones ≡ sum (take n (map place_number bits))) × (ones ≤ n)
+-- the next index of axis k at each 1 and a fill at each 0, if the axis has as many indexes as there are ones and no limit is passed
+abbrev pub expanded : ArrayValue → ℕ → List ℕ → Result ArrayValue OpFault
+expanded c k bits =
+    let shape = slice_set c.shape k (length bits) in
+    if sum bits == slice_index c.shape k then (if is_shape shape then answer_of shape (λ index. Ok (element_or_fill c (along_axis_or_none k (expanded_index bits) index))) c.kind else Err Limit) else Err Length

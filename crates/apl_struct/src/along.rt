@@ -18,7 +18,7 @@ use apl_array::{
 };
 use apl_pool::Crew;
 use apl_walk::{
-    AxisMap, CountedBits, ListedOrNone, Map, Ones, Repeated, Reversed, Rotated, Walk, Window,
+    AxisMap, CountedBits, Expanded, Indexed, Map, Ones, Repeated, Reversed, Rotated, Walk, Window,
     gather,
 };
 use std::alloc::{AllocError, Global};
@@ -72,10 +72,12 @@ pub(crate) enum Taking<'a> {
     Rotated(usize),
     /// Each one so many times.
     Repeated(usize),
-    /// Those that are listed. An entry that is no index of the axis is a fill.
+    /// Those that are listed.
     Listed(&'a [u32]),
     /// Those at which truth values are true.
     Ones(CountedBits<'a>),
+    /// The next one where a truth value is true, and a fill elsewhere.
+    Expanded(CountedBits<'a>),
 }
 
 impl<'a> Taking<'a> {
@@ -100,12 +102,13 @@ impl<'a> Taking<'a> {
                 times,
                 stride,
             }),
-            Taking::Listed(entries) => Map::ListedOrNone(ListedOrNone {
-                entries,
+            Taking::Listed(indexes) => Map::Indexed(Indexed {
+                indexes,
                 axis_length: length,
                 stride,
             }),
             Taking::Ones(counted) => Map::Ones(Ones { counted, stride }),
+            Taking::Expanded(counted) => Map::Expanded(Expanded { counted, stride }),
         }
     }
 }

@@ -1,14 +1,12 @@
-//! Bits: numbers that are each 0 or 1, and truth values. They keep indexes, or leave them for fills.
-ghost use Rattle.std.specs.Prelude.{◌≡◌, ◌+◌, ◌<◌, ◌≤◌, ◌&&◌, ◌++◌, ◌∷◌, [], replicate, false, true, if◌then◌else◌, pos, map, length, take, IfOk, IfSome, MatchOption, vec_len, vec_capacity};
+//! Bits: numbers that are each 0 or 1, and truth values.
+ghost use Rattle.std.specs.Prelude.{◌≡◌, ◌+◌, ◌<◌, ◌≤◌, ◌&&◌, ◌++◌, ◌∷◌, [], replicate, false, true, pos, map, length, take, IfOk, IfSome, MatchOption, vec_len, vec_capacity};
 ghost use Rattle.std.specs.List.{list_all};
 ghost use Rattle.std.specs.Ordering.{int_eq};
-ghost use Rattle.apl_array.specs.Array.{IsArray};
+ghost use Rattle.apl_array.specs.Array.{IsArray, bit};
 ghost use Rattle.apl_array.specs.Axes.{place_number};
 ghost use Rattle.apl_pool.specs.declared.kernel.TheConstants.{MOST_PLACES};
 ghost use Rattle.apl_answer.specs.Arguments.{is_bit, is_numbers, numbers_of};
 ghost use Rattle.apl_struct.specs.Compressing.{repeated_indexes};
-ghost use Rattle.apl_struct.specs.Expanding.{AreEntriesOf, AreEntriesUpTo};
-ghost use Rattle.apl_struct.specs.declared.bits.TheConstants.{ABSENT};
 
 use crate::arguments::TURN;
 use apl_array::{Array, Elements};
@@ -136,84 +134,41 @@ pub(crate) fn kept_indexes(alloc: Global, a: &Array) -> Result<Option<Vec<u32>>,
     }
 }
 
-/// In the place of an index where there is none: more than any index.
-const ABSENT: u32 = u32::MAX;
-
-/// The entry of a bit, after a count of ones. Both entries are at hand, so no jump depends on a bit.
+/// Puts the numbers from `from` up to before `to` as truth values into a list, after those before them. It answers whether all up to there
+/// are bits.
 #[inline(always)]
-fn entry_at(is_one: bool, ones: u32) -> u32
-    ensures { result ≡ (if is_one then ones else ABSENT) }
-{
-    if is_one { ones } else { ABSENT }
-}
-
-/// Puts the entries of the bits from `from` up to before `to` into a list. `before` ones are before them. It answers how many ones are
-/// before `to`, and none if not all up to there are bits.
-#[inline(always)]
-fn expand_up_to<T: Bit>(
-    bits: &[T],
-    from: usize,
-    to: usize,
-    before: u32,
-    entries: &mut Vec<u32>,
-) -> Option<u32>
-    requires bits { list_all is_bit (take from (map T.number bits.now)) ≡ true }
+fn judge_up_to(numbers: &[i64], from: usize, to: usize, truths: &mut Vec<bool>) -> bool
+    requires before { map bit truths.old.items ≡ take from numbers.now }
     requires order { from ≤ to }
-    requires places { to ≤ length bits.now }
-    requires most { length bits.now ≤ MOST_PLACES }
-    requires room { length bits.now ≤ vec_capacity entries.old }
-    requires before { AreEntriesUpTo (map T.number bits.now) from entries.old.items before }
-    ensures entries { MatchOption result (list_all is_bit (take to (map T.number bits.now)) ≡ false)
-        (λ ones. (list_all is_bit (take to (map T.number bits.now)) ≡ true) × AreEntriesUpTo (map T.number bits.now) to entries.new.items ones) }
-    ensures capacity { vec_capacity entries.new ≡ vec_capacity entries.old }
+    requires places { to ≤ length numbers.now }
+    requires room { length numbers.now ≤ vec_capacity truths.old }
+    ensures bits { result ≡ list_all is_bit (take to numbers.now) }
+    ensures truths { result ≡ true → map bit truths.new.items ≡ take to numbers.now }
+    ensures capacity { vec_capacity truths.new ≡ vec_capacity truths.old }
 {
     let mut are_bits = true;
-    let mut ones = before;
     for i in from..to {
-        let is_one = bits[i].is_one();
-        are_bits &= bits[i].is_bit();
-        entries.push_reserved(entry_at(is_one, ones));
-        ones += is_one as u32;
+        are_bits &= numbers[i].is_bit();
+        truths.push_reserved(numbers[i].is_one());
     }
-    if are_bits { Some(ones) } else { None }
+    are_bits
 }
 
-/// How many ones are before each one, and `ABSENT` at each zero, and how many there are, if all are bits.
-fn entries_of<T: Bit>(alloc: Global, bits: &[T]) -> Result<Option<(Vec<u32>, usize)>, AllocError>
-    requires most { length bits.now ≤ MOST_PLACES }
-    ensures { IfOk result (λ found. MatchOption found
-        (list_all is_bit (map T.number bits.now) ≡ false)
-        (λ made. (list_all is_bit (map T.number bits.now) ≡ true) × AreEntriesOf (map T.number bits.now) made.0.items made.1)) }
+/// Numbers as truth values, if all are bits.
+pub(crate) fn truths_of(alloc: Global, numbers: &[i64]) -> Result<Option<Vec<bool>>, AllocError>
+    requires most { length numbers.now ≤ MOST_PLACES }
+    ensures { IfOk result (λ found. MatchOption found (list_all is_bit numbers.now ≡ false) (λ truths. map bit truths.items ≡ numbers.now)) }
 {
-    let mut entries = Vec::with_capacity(alloc, bits.len())?;
-    let turns = bits.len() / TURN;
-    let mut ones = 0;
+    let mut truths = Vec::with_capacity(alloc, numbers.len())?;
+    let turns = numbers.len() / TURN;
     for turn in 0..turns {
-        match expand_up_to(bits, turn * TURN, turn * TURN + TURN, ones, &mut entries) {
-            Some(more) => ones = more,
-            None => return Ok(None),
+        if !judge_up_to(numbers, turn * TURN, turn * TURN + TURN, &mut truths) {
+            return Ok(None);
         }
     }
-    match expand_up_to(bits, turns * TURN, bits.len(), ones, &mut entries) {
-        Some(ones) => Ok(Some((entries, ones as usize))),
-        None => Ok(None),
-    }
-}
-
-/// The same of an array. It is of bits, or without elements.
-pub(crate) fn expanded_entries(
-    alloc: Global,
-    a: &Array,
-) -> Result<Option<(Vec<u32>, usize)>, AllocError>
-    ensures entries { IfOk result (λ found. MatchOption found
-        ((is_numbers a.now && list_all is_bit (numbers_of a.now)) ≡ false)
-        (λ made. ((is_numbers a.now && list_all is_bit (numbers_of a.now)) ≡ true) × AreEntriesOf (numbers_of a.now) made.0.items made.1)) }
-    ensures lawful { IsArray a.now }
-{
-    match a.elements() {
-        Elements::Numbers(numbers) => entries_of(alloc, numbers),
-        Elements::Truths(truths) => entries_of(alloc, truths),
-        Elements::Characters([]) => Ok(Some((Vec::new(alloc), 0))),
-        Elements::Characters(_) => Ok(None),
+    if judge_up_to(numbers, turns * TURN, numbers.len(), &mut truths) {
+        Ok(Some(truths))
+    } else {
+        Ok(None)
     }
 }

@@ -1,5 +1,5 @@
 //! Indexes of an axis that numbers keep, repeat or leave for fills.
-ghost use Rattle.std.specs.Prelude.{◌≡◌, ◌<◌, ◌≤◌, if◌then◌else◌, Err, map, max, length, replicate, slice_index, take, ◌+◌, ◌&&◌, ◌++◌, true, false, IfOk, MatchOption, sum, vec_len, vec_capacity, pos};
+ghost use Rattle.std.specs.Prelude.{◌≡◌, ℕ, ◌<◌, ◌≤◌, List, if◌then◌else◌, Err, map, max, length, replicate, slice_index, take, ◌+◌, ◌&&◌, ◌++◌, true, false, IfOk, sum, vec_len, vec_capacity, pos};
 ghost use Rattle.std.specs.List.{list_all};
 ghost use Rattle.apl_array.specs.Array.{bit};
 ghost use Rattle.apl_array.specs.Axes.{place_number};
@@ -9,11 +9,12 @@ ghost use Rattle.apl_answer.specs.Pointwise.{IsAnswerOf};
 ghost use Rattle.apl_answer.specs.Rows.{Answers};
 ghost use Rattle.apl_struct.specs.Compressing.{as_vector, repeated_indexes, replicate_row, expand_row};
 ghost use Rattle.apl_struct.specs.Replicating.{replicated, IsSumOf};
+ghost use Rattle.apl_struct.specs.Expanding.{expanded};
 ghost use Rattle.std.specs.Ordering.{int_eq};
 
 use crate::along::{Taking, gather_along, shape_with_axis, vector_length, vector_rank};
 use crate::arguments::{TURN, numbers_among};
-use crate::bits::{expanded_entries, kept_indexes, push_times};
+use crate::bits::{kept_indexes, push_times, truths_of};
 use crate::building::{are_natural, empty};
 use apl_answer::OpFault;
 use apl_array::{Array, Axis, Elements, MOST_ELEMENTS};
@@ -210,6 +211,32 @@ pub fn compress<R: Threads + Sync, C: Cut + Sync, G: Gate + Sync>(
     replicate_each(&workers, a, b, k)
 }
 
+/// The next index of axis `k` where a truth value is true, and a fill elsewhere. It is refused if the axis has not as many indexes as there
+/// are ones (`Length`), and then where its shape passes a limit (`Limit`).
+fn expand_by<W: Crew>(workers: &W, truths: &[bool], b: &Array, k: usize) -> Result<Array, OpFault>
+    requires axis { k < max 1 (rank_of b.now) }
+    requires most { length truths.now ≤ MOST_PLACES }
+    ensures { (bits : List ℕ) → bits ≡ map place_number (map bit truths.now) → IsAnswerOf (expanded (as_vector (sum bits) b.now) k bits) result }
+{
+    let (before, count) = count_blocks(workers.alloc(), truths)?;
+    if count != vector_length(b, k, count) {
+        return Err(OpFault::Length);
+    }
+    let counted = CountedBits {
+        bits: truths,
+        before: before.as_slice(),
+        count,
+    };
+    gather_along(
+        workers,
+        b,
+        k,
+        count,
+        truths.len(),
+        Taking::Expanded(counted),
+    )
+}
+
 /// `A\B`, expand: the next index of an axis at each one of `A`, and a fill at each zero.
 /// Shape: that of `B`, where the axis has `A`'s count. A scalar `B` serves as a vector of as many elements as `A` has ones.
 /// Errors in order: INDEX of the axis, RANK of `A`, DOMAIN of its kind and its numbers, LENGTH of the ones, LIMIT.
@@ -231,12 +258,13 @@ pub fn expand<R: Threads + Sync, C: Cut + Sync, G: Gate + Sync>(
     if a.shape().rank() > 1 {
         return Err(OpFault::Rank);
     }
-    let Some((entries, ones)) = expanded_entries(alloc, a)? else {
-        return Err(OpFault::Domain);
-    };
-    if ones != vector_length(b, k, ones) {
-        return Err(OpFault::Length);
+    match a.elements() {
+        Elements::Truths(truths) => expand_by(&workers, truths, b, k),
+        Elements::Numbers(numbers) => match truths_of(alloc, numbers)? {
+            Some(truths) => expand_by(&workers, truths.as_slice(), b, k),
+            None => Err(OpFault::Domain),
+        },
+        Elements::Characters([]) => expand_by(&workers, &[], b, k),
+        Elements::Characters(_) => Err(OpFault::Domain),
     }
-    let taking = Taking::Listed(entries.as_slice());
-    gather_along(&workers, b, k, ones, entries.len(), taking)
 }

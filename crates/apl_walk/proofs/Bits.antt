@@ -2,7 +2,7 @@
 use Rattle.std.proofs.Common.{◌≡◌, ℕ, zero, suc, ◌+◌, ◌-◌, ◌*◌, ◌<◌, ◌≤◌, Bool, true, false, List, [], ◌∷◌, ◌++◌, length, slice_index, slice_index_or, slice_set, refl, sym, ap, ◌∙◌, arith, inl, inr}
 use Rattle.std.proofs.lemmas.Bool.{cases_lt, true≢false}
 use Rattle.std.proofs.lemmas.List.{get_or-set_same, get_or-set_other, get_or_append_left, get_or-append_right}
-use Rattle.apl_walk.specs.Ones.{one_of, one_index, ones_before, HasOnes}
+use Rattle.apl_walk.specs.Ones.{one_of, one_index, ones_before, HasOnes, HasNext}
 use mir.Val.{bool_byte}
 
 pub one_most : (b : Bool) → one_of b ≤ 1
@@ -27,6 +27,16 @@ pub ones_few : (bits : List Bool) (i : ℕ) → ones_before bits i ≤ i
 ones_few [] i = omega arith
 ones_few (b ∷ bits) zero = omega arith
 ones_few (b ∷ bits) (suc i) = omega (arith, ones_few bits i, one_most b)
+
+-- no more than there are in all
+ones_within : (bits : List Bool) (i : ℕ) → ones_before bits i ≤ ones_before bits (length bits)
+ones_within [] i = omega arith
+ones_within (b ∷ bits) zero = omega arith
+ones_within (b ∷ bits) (suc i) = omega (arith, ones_within bits i)
+
+-- and fewer, where one more comes
+pub ones_below : (bits : List Bool) (i : ℕ) → i < length bits → slice_index_or bits i false ≡ true → ones_before bits i < ones_before bits (length bits)
+ones_below bits i inside one = omega (arith, ones_more bits i inside, ap one_of one, ones_within bits (i + 1))
 
 -- as many ones are left as many indexes, or fewer
 pub ones_left : (bits : List Bool) (i n : ℕ) → 0 < n → ones_before bits i + n ≤ ones_before bits (length bits) → i + n ≤ length bits
@@ -111,3 +121,19 @@ one_written {T} bits line room stride i done x inside free read before = by_bit 
                     ∙ ap (λ n. slice_index_or line (n * stride) d) (sym (index_there bits i inside is)) ∙ ap (λ n. slice_index_or line (one_index bits n * stride) d) next
               ]) (ap (λ n. slice_index_or line (one_index bits n * stride) d) there);
         }
+
+-- the next element is written at one more index, which is kept if that is a one
+pub next_written : {T : Type 0} (bits : List Bool) (line room : List T) (stride from k : ℕ) (x : T) → k < length room
+    → (slice_index_or bits (from + k) false ≡ true → (d : T) → x ≡ slice_index_or line (ones_before bits (from + k) * stride) d)
+    → HasNext bits line stride from k room → HasNext bits line stride from (k + 1) (slice_set room k x)
+next_written bits line room stride from k x free read before = record {
+  each = λ j d below is.
+      elim (cases_lt j k) [
+        | inl early ↦ get_or-set_other room k j x d (λ same. omega (arith, same, early)) ∙ before.each j d early is
+        | inr late ↦
+            let last : j ≡ k = omega (arith, late, below) in
+            let here : slice_index_or bits (from + k) false ≡ true = ap (λ n. slice_index_or bits (from + n) false) (sym last) ∙ is in
+            ap (λ n. slice_index_or (slice_set room k x) n d) last ∙ get_or-set_same room k x d free ∙ read here d
+            ∙ ap (λ n. slice_index_or line (ones_before bits (from + n) * stride) d) (sym last)
+      ];
+}

@@ -6,7 +6,7 @@ use Rattle.std.proofs.Math.Arith.{mod-mul}
 use Rattle.std.proofs.Math.Nat.{add_assoc, mod-lt, div-one, div-div-eq-div-mul, mul-le-mul_right, mul-lt-mul_of_pos_right}
 use Rattle.apl_walk.specs.declared.window.Window.{Window}
 use Rattle.apl_walk.specs.declared.maps.Map.{Map}
-use Rattle.apl_walk.specs.declared.maps.Map.TheVariants.{Window as WindowMap, Reversed, Rotated, Listed, ListedOrNone, Repeated, Ones}
+use Rattle.apl_walk.specs.declared.maps.Map.TheVariants.{Window as WindowMap, Reversed, Rotated, Listed, Indexed, Repeated, Ones, Expanded}
 use Rattle.apl_walk.specs.Steps.{and_step, window_step}
 use Rattle.apl_walk.specs.Maps.{step_of, map_extent, map_step, extent_of, walked, windows_step}
 use Rattle.apl_walk.proofs.Stepped.{window_within, window_before, window_after}
@@ -84,8 +84,9 @@ map_some (WindowMap w) = w.extent_some
 map_some (Reversed r) = r.some
 map_some (Rotated r) = r.some
 map_some (Listed l) = l.count_some
-map_some (ListedOrNone l) = l.count_some
+map_some (Indexed l) = l.count_some
 map_some (Ones o) = o.some
+map_some (Expanded e) = e.some
 map_some (Repeated r) = omega (arith, mul-lt-mul_of_pos_right {m = 0} {n = r.axis_length} {k = r.times} r.length_some r.times_some)
 
 -- ---- one more axis

@@ -1,10 +1,10 @@
 -- The axes of a result.
-use Rattle.std.specs.Prelude.{ℕ, ◌*◌, ◌/◌, ◌%◌, ◌-◌, ◌+◌, List, [], ◌∷◌, length, slice_index, Option, Some}
+use Rattle.std.specs.Prelude.{ℕ, ◌*◌, ◌/◌, ◌%◌, ◌-◌, ◌+◌, List, [], ◌∷◌, length, Option, Some}
 use Rattle.apl_walk.specs.declared.window.Window.{Window as WindowMap}
 use Rattle.apl_walk.specs.declared.maps.Map.{Map}
-use Rattle.apl_walk.specs.declared.maps.Map.TheVariants.{Window, Reversed, Rotated, Listed, ListedOrNone, Repeated, Ones}
-use Rattle.apl_walk.specs.Steps.{and_step, window_step, reversed_step, rotated_step, listed_step, entry_step, repeated_step}
-use Rattle.apl_walk.specs.Ones.{one_step}
+use Rattle.apl_walk.specs.declared.maps.Map.TheVariants.{Window, Reversed, Rotated, Listed, Indexed, Repeated, Ones, Expanded}
+use Rattle.apl_walk.specs.Steps.{and_step, window_step, reversed_step, rotated_step, listed_step, indexed_step, repeated_step}
+use Rattle.apl_walk.specs.Ones.{one_step, next_step}
 
 -- the step of a window
 abbrev pub step_of : WindowMap → ℕ → Option ℕ
@@ -16,9 +16,10 @@ map_extent (Window w) = w.extent
 map_extent (Reversed r) = r.extent
 map_extent (Rotated r) = r.extent
 map_extent (Listed l) = length l.numbers.now
-map_extent (ListedOrNone l) = length l.entries.now
+map_extent (Indexed l) = length l.indexes.now
 map_extent (Repeated r) = r.axis_length * r.times
 map_extent (Ones o) = o.counted.count
+map_extent (Expanded e) = length e.counted.bits.now
 
 -- the most that an index adds
 abbrev pub map_reach : Map → ℕ
@@ -26,9 +27,10 @@ map_reach (Window w) = (w.to + w.start - (w.from + 1)) * w.stride
 map_reach (Reversed r) = (r.extent - 1) * r.stride
 map_reach (Rotated r) = (r.extent - 1) * r.stride
 map_reach (Listed l) = (l.axis_length - 1) * l.stride
-map_reach (ListedOrNone l) = (l.axis_length - 1) * l.stride
+map_reach (Indexed l) = (l.axis_length - 1) * l.stride
 map_reach (Repeated r) = (r.axis_length - 1) * r.stride
 map_reach (Ones o) = (length o.counted.bits.now - 1) * o.stride
+map_reach (Expanded e) = (e.counted.count - 1) * e.stride
 
 -- what an index adds to the place in the argument, or none, which is the fill
 abbrev pub map_step : Map → ℕ → Option ℕ
@@ -36,9 +38,10 @@ map_step (Window w) i = window_step w.from w.to w.start w.stride i
 map_step (Reversed r) i = reversed_step r.extent r.stride i
 map_step (Rotated r) i = rotated_step r.extent r.by r.stride i
 map_step (Listed l) i = listed_step l.first l.stride l.numbers.now i
-map_step (ListedOrNone l) i = entry_step l.axis_length l.stride (slice_index l.entries.now i)
+map_step (Indexed l) i = indexed_step l.stride l.indexes.now i
 map_step (Repeated r) i = repeated_step r.times r.stride i
 map_step (Ones o) i = one_step o.counted.bits.now o.stride i
+map_step (Expanded e) i = next_step e.counted.bits.now e.stride i
 
 -- how many index lists all the axes have
 abbrev pub extent_of : List Map → ℕ

@@ -36,9 +36,9 @@ rotated_column length by inner row column = rotated_place length by (row / lengt
 abbrev pub listed_step : (first : ℤ) (stride : ℕ) (numbers : List ℤ) (i : ℕ) → Option ℕ
 listed_step first stride numbers i = Some (place_number (slice_index_or numbers i (pos 0) -ℤ first) * stride)
 
--- an entry of a list, which is an index of an axis of that length where it is below it
-abbrev pub entry_step : (axis_length stride entry : ℕ) → Option ℕ
-entry_step axis_length stride entry = if nat_lt entry axis_length then Some (entry * stride) else None
+-- index number i of a list
+abbrev pub indexed_step : (stride : ℕ) (indexes : List ℕ) (i : ℕ) → Option ℕ
+indexed_step stride indexes i = Some (slice_index indexes i * stride)
 
 -- each index `times` times
 abbrev pub repeated_step : (times stride i : ℕ) → Option ℕ

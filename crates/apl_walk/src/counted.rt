@@ -108,6 +108,16 @@ pub struct CountedBits<'a> {
 }
 
 impl CountedBits<'_> {
+    /// How many ones are before an index.
+    #[inline(always)]
+    pub(crate) fn count_before(self, index: usize) -> usize
+        requires { index ≤ length self.bits.now }
+        ensures { result ≡ ones_before self.entry.bits.now index }
+    {
+        let block = index / BLOCK;
+        self.before[block] as usize + few_ones(self.bits, block * BLOCK, index % BLOCK) as usize
+    }
+
     /// An index before which there are so many ones.
     pub(crate) fn index_after(&self, ones: usize) -> usize
         requires { ones ≤ self.now.count }

@@ -6,6 +6,7 @@
 #![tactic(auto)]
 
 mod counted;
+mod expanded;
 mod fronts;
 mod gathered;
 mod lined;
@@ -20,10 +21,11 @@ mod walk;
 mod window;
 
 pub use counted::{CountedBits, count_blocks, few_ones};
+pub use expanded::Expanded;
 pub use fronts::element_or;
 pub use gathered::{Gathered, gather};
 pub use lined::{ByLines, Lined};
-pub use listed::{Listed, ListedOrNone};
+pub use listed::{Indexed, Listed};
 pub use map::{AxisMap, MOST_STEP};
 pub use maps::{MOST_MAPS, Map, start_at};
 pub use ones::Ones;

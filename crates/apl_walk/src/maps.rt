@@ -5,7 +5,8 @@ ghost use Rattle.apl_walk.specs.declared.map.TheConstants.{MOST_STEP};
 ghost use Rattle.apl_walk.specs.Maps.{walked};
 ghost use Rattle.apl_walk.specs.declared.maps.TheConstants.{MOST_MAPS};
 
-use crate::listed::{Listed, ListedOrNone};
+use crate::expanded::Expanded;
+use crate::listed::{Indexed, Listed};
 use crate::map::AxisMap;
 use crate::ones::Ones;
 use crate::turned::{Repeated, Reversed, Rotated};
@@ -18,9 +19,10 @@ pub enum Map<'a> {
     Reversed(Reversed),
     Rotated(Rotated),
     Listed(Listed<'a>),
-    ListedOrNone(ListedOrNone<'a>),
+    Indexed(Indexed<'a>),
     Repeated(Repeated),
     Ones(Ones<'a>),
+    Expanded(Expanded<'a>),
 }
 
 /// The same of an axis of any kind.
@@ -31,9 +33,10 @@ macro_rules! with_kind {
             $crate::maps::Map::Reversed($map) => $answer,
             $crate::maps::Map::Rotated($map) => $answer,
             $crate::maps::Map::Listed($map) => $answer,
-            $crate::maps::Map::ListedOrNone($map) => $answer,
+            $crate::maps::Map::Indexed($map) => $answer,
             $crate::maps::Map::Repeated($map) => $answer,
             $crate::maps::Map::Ones($map) => $answer,
+            $crate::maps::Map::Expanded($map) => $answer,
         }
     };
 }

@@ -7,10 +7,18 @@ use Rattle.apl_array.specs.Axes.{place_number}
 use Rattle.apl_array.specs.Shape.{count_of}
 use Rattle.apl_answer.specs.Arguments.{is_bit, is_numbers, number_of, numbers_of, size_of}
 use Rattle.apl_struct.specs.Compressing.{as_vector}
-use Rattle.apl_struct.proofs.Takings.{axis_of_vector}
-use Rattle.apl_struct.proofs.Counts.{repeated_answer, bits_natural, truths_natural}
+use Rattle.apl_struct.proofs.Counts.{repeated_answer, repeated_taken, bits_natural, truths_natural}
 use Rattle.apl_struct.proofs.Kept.{both}
 use Rattle.apl_struct.proofs.compressing.replicate_each.Goals as goal
+
+pub gather_along-requires-clause-taking : goal.gather_along-requires-clause-taking
+gather_along-requires-clause-taking g c = λ lifetimes outlive.
+    let a = c.args.a.now in
+    let numbers = numbers_of a in
+    let kept = rw c.in-Some.is at c.in_ok-indexes.ensures.kept in
+    let count : c.count.result ≡ size_of a = c.count.ensures.count ∙ ap count_of c.shape.ensures.shape in
+    let many : length (map place_number numbers) ≡ c.count.result = length-map numbers place_number ∙ length-map a.ravel number_of ∙ c.shape.ensures.lawful.len ∙ sym count in
+    repeated_taken c.count.result (map place_number numbers) c.as_slice.result.now many (c.as_slice.ensures.value ∙ kept.1)
 
 pub returns-in-Some : goal.returns-in-Some
 returns-in-Some g c =
@@ -19,11 +27,10 @@ returns-in-Some g c =
     let numbers = numbers_of a in
     let kept = rw c.in-Some.is at c.in_ok-indexes.ensures.kept in
     let judged = both (is_numbers a) (list_all is_bit numbers) kept.0 in
-    let many : length (map place_number numbers) ≡ n = length-map numbers place_number ∙ length-map a.ravel number_of ∙ c.shape.ensures.lawful.len in
     let count : c.count.result ≡ n = c.count.ensures.count ∙ ap count_of c.shape.ensures.shape in
     rw (judged.0, bits_natural numbers judged.1)
-    (repeated_answer (as_vector n c.args.b.now) c.args.k n c.len.result (map place_number numbers) c.as_slice.result.now c.gather_along.result (axis_of_vector n c.args.k c.args.b.now c.requires.axis)
-    many (search rules) (c.as_slice.ensures.value ∙ kept.1) (rw count at c.gather_along.ensures))
+    (repeated_answer (as_vector n c.args.b.now) c.args.k c.len.result (map place_number numbers) c.as_slice.result.now c.gather_along.result
+    (search rules) (c.as_slice.ensures.value ∙ kept.1) (rw count at c.gather_along.ensures))
 
 pub returns : goal.returns
 returns g c =

@@ -3,7 +3,7 @@ use Rattle.std.proofs.lemmas.List.{length-map}
 use Rattle.apl_array.specs.Axes.{place_number}
 use Rattle.apl_struct.specs.Compressing.{as_vector}
 use Rattle.apl_struct.proofs.Takings.{axis_of_vector}
-use Rattle.apl_struct.proofs.Counts.{repeated_answer, shape_refused, sum_refused}
+use Rattle.apl_struct.proofs.Counts.{repeated_answer, repeated_taken, shape_refused, sum_refused}
 use Rattle.apl_struct.proofs.compressing.replicate_listed.Goals as goal
 
 pub returns-in_err-extent : goal.returns-in_err-extent
@@ -31,10 +31,15 @@ returns-then-count-eq0 g c =
     let made = rw summed.1 at (c.in_ok-shape.ensures (length c.args.counts.now)) in
     rw (summed.0, made.0, sym made.1) (c.empty.ensures _)
 
+pub gather_along-requires-clause-taking : goal.gather_along-requires-clause-taking
+gather_along-requires-clause-taking g c = λ lifetimes outlive.
+    let counts = c.args.counts.now in
+    repeated_taken (length counts) (map place_number counts) c.as_slice.result.now (length-map counts place_number) (c.as_slice.ensures.value ∙ c.in_ok-indexes.ensures)
+
 pub returns : goal.returns
 returns g c =
     let counts = c.args.counts.now in
     let n = length counts in
     rw c.in_ok-extent.ensures.0
-    (repeated_answer (as_vector n c.args.b.now) c.args.k n c.len.result (map place_number counts) c.as_slice.result.now c.gather_along.result (axis_of_vector n c.args.k c.args.b.now c.requires.axis)
-    (length-map counts place_number) (search rules) (c.as_slice.ensures.value ∙ c.in_ok-indexes.ensures) c.gather_along.ensures)
+    (repeated_answer (as_vector n c.args.b.now) c.args.k c.len.result (map place_number counts) c.as_slice.result.now c.gather_along.result
+    (search rules) (c.as_slice.ensures.value ∙ c.in_ok-indexes.ensures) c.gather_along.ensures)

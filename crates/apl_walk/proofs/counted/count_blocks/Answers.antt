@@ -50,6 +50,7 @@ returns c =
       record {
         some = omega (arith, len);
         within = omega (arith, len, made.0);
+        all = omega (arith, len, made.0);
         each = λ j below.
             ap (λ xs. slice_index xs j) pushed ∙ push_each c.loop-block.before.items c.loop-block.ones c.loop-block.block (λ n. ones_before bits (n * 128)) kept.len kept.each kept.ones j (omega (arith, below, len));
       },
