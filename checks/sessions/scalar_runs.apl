@@ -1,4 +1,4 @@
-⍝ Scalar functions of arrays. Results are written by runs of at most 1024 places.
+⍝ Scalar functions of arrays. A first run of results has at most 512 places.
 
 ⍝ Functions of one argument.
 ⍴R←~0 1 1

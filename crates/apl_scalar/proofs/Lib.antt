@@ -9,4 +9,5 @@ pub mod Sources
 pub mod InRange
 pub mod WithinLimits
 pub mod Truths
+pub mod Parts
 mod Examples

@@ -4,6 +4,7 @@ pub mod Meeting
 pub mod Limits
 pub mod Operands
 pub mod Pairs
+pub mod Runs
 pub mod Extension
 pub mod Monadic
 pub mod Dyadic

@@ -5,7 +5,7 @@ ghost use Rattle.apl_pool.specs.Runs.{AreWritten};
 ghost use Rattle.apl_scalar.specs.Scalar.{dyadic_of, monadic_of};
 
 use crate::elements::{dyadic_elements, likely_element, likely_elements, monadic_element};
-use crate::function_types::{Function, has_dyadic_runs, has_monadic_runs, is_truth_valued};
+use crate::function_types::{Function, has_dyadic_runs, has_monadic_runs};
 use crate::held::as_held;
 use crate::operands::Operand;
 use crate::runs::{HeldRuns, Results, write_results};
@@ -56,11 +56,6 @@ impl<A: Operand, F: Function + Copy> Results for ElementResults<A, F> {
     fn have_runs() -> bool {
         has_monadic_runs(F::FUNCTION)
     }
-
-    #[inline(always)]
-    fn are_truths() -> bool {
-        is_truth_valued(F::FUNCTION)
-    }
 }
 
 /// The results of a dyadic function of two arguments.
@@ -108,11 +103,6 @@ impl<L: Operand, R: Operand, F: Function + Copy> Results for PairResults<L, R, F
     #[inline(always)]
     fn have_runs() -> bool {
         has_dyadic_runs(F::FUNCTION)
-    }
-
-    #[inline(always)]
-    fn are_truths() -> bool {
-        is_truth_valued(F::FUNCTION)
     }
 }
 
@@ -176,6 +166,9 @@ fn write_elements<F: Function + Copy, A: Operand, H: HeldRuns>(
     ensures values { AreWritten (λ place. H.held (monadic_of F.FUNCTION (A.element argument place))) from result room.new }
     ensures len { length room.new ≡ length room.old }
 {
+    if !H::holds(F::FUNCTION) {
+        return from;
+    }
     write_results(ElementResults::<A, F>::new(argument), from, to, room)
 }
 
@@ -235,6 +228,9 @@ fn write_pairs<F: Function + Copy, L: Operand, R: Operand, H: HeldRuns>(
     ensures values { AreWritten (λ place. H.held (dyadic_of F.FUNCTION (L.element left place) (R.element right place))) from result room.new }
     ensures len { length room.new ≡ length room.old }
 {
+    if !H::holds(F::FUNCTION) {
+        return from;
+    }
     write_results(PairResults::<L, R, F>::new(left, right), from, to, room)
 }
 

@@ -26,6 +26,9 @@ pub fn write_pairs<F: Function + Copy, T: ElementType, U: ElementType, H: HeldRu
     ensures values { AreWritten (λ k. H.held (dyadic_of F.FUNCTION (T.elem_of x) (slice_index_or (map U.elem_of others.now) k (Int (pos 0))))) 0 result room.new }
     ensures len { length room.new ≡ length room.old }
 {
+    if !H::holds(F::FUNCTION) {
+        return 0;
+    }
     let results = PairResults::<Value<T>, Whole<U>, F>::new(Value(x), Whole(others));
     write_results(results, 0, others.len(), room)
 }

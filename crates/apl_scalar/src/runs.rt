@@ -1,14 +1,18 @@
 //! Runs of results. A run is first written as if no place had a fault.
-ghost use Rattle.std.specs.Prelude.{◌≡◌, ◌+◌, ◌≤◌, true, length};
+ghost use Rattle.std.specs.Prelude.{◌≡◌, ◌+◌, ◌*◌, ◌≤◌, true, length};
 ghost use Rattle.apl_pool.specs.declared.kernel.TheConstants.{MOST_PLACES};
 ghost use Rattle.apl_pool.specs.Runs.{AreWritten};
 ghost use Rattle.apl_scalar.specs.Scalar.{truth_outcome};
+ghost use Rattle.apl_scalar.specs.Runs.{HasPart, DiffersIn};
 
+use crate::function_types::is_truth_valued;
 use crate::held::Held;
+use apl_array::ScalarFunction;
 use apl_pool::Fault;
 
-/// The most places of the first run, which tells what the next ones are like.
-const FIRST_RUN: usize = 1024;
+/// The most places of the first run, which tells what the next ones are like. What it leaves of a piece of 4096 places, or of a stretch of
+/// such pieces, has halves that are no whole number of pages long. So their numbers do not meet in the same lines of a processor's cache.
+const FIRST_RUN: usize = 512;
 
 /// The most places of each run after it. As many are one stretch of a worker who is alone.
 const LONGEST_RUN: usize = 32_768;
@@ -36,18 +40,15 @@ pub trait Results: Copy {
 
     /// Whether the likely results have no branches, so that a run of them is quick.
     fn have_runs() -> bool;
-
-    /// Whether the results are truth values.
-    fn are_truths() -> bool;
 }
 
-/// Writes the likely results into the room for the places from `from` on. It answers whether all are sure.
+/// Writes the likely results into the room for the places from `from` on. It answers the doubts whether they are right.
 #[inline(always)]
-fn write_likely<P: Results, H: Held>(results: P, from: usize, count: usize, room: &mut [H]) -> bool
+fn write_likely<P: Results, H: Held>(results: P, from: usize, count: usize, room: &mut [H]) -> u64
     requires places { from + count ≤ P.served results }
     requires most { from + count ≤ MOST_PLACES }
     requires room { count ≤ length room.old }
-    ensures values { result ≡ true → AreWritten (λ place. H.held (P.outcome results place)) from (from + count) room.new }
+    ensures values { result ≡ 0 → AreWritten (λ place. H.held (P.outcome results place)) from (from + count) room.new }
     ensures len { length room.new ≡ length room.old }
 {
     let mut all_doubts = 0;
@@ -56,76 +57,129 @@ fn write_likely<P: Results, H: Held>(results: P, from: usize, count: usize, room
         room[k] = H::of(value);
         all_doubts |= doubts;
     }
-    all_doubts == 0
+    all_doubts
 }
 
 /// How many truth values are a block.
 const BLOCK: usize = 16;
 
-/// Writes a block of likely results, as truth values, behind the first `done`. It answers whether all are sure. They are written beside the
-/// room first, so that no store comes between two reads, and a processor compares all of them at once.
-#[inline(always)]
-fn write_block<P: Results>(results: P, from: usize, done: usize, room: &mut [bool]) -> bool
-    requires places { from + done + BLOCK ≤ P.served results }
-    requires most { from + done + BLOCK ≤ MOST_PLACES }
-    requires room { done + BLOCK ≤ length room.old }
-    ensures values { result ≡ true → AreWritten (λ place. truth_outcome (P.outcome results place)) from (from + done) room.old
-        → AreWritten (λ place. truth_outcome (P.outcome results place)) from (from + done + BLOCK) room.new }
-    ensures len { length room.new ≡ length room.old }
-{
-    let mut block = [false; BLOCK];
-    let are_sure = write_likely(results, from + done, BLOCK, &mut block);
-    for k in 0..BLOCK {
-        room[done + k] = block[k];
-    }
-    are_sure
-}
-
-/// As `write_likely`, of truth values and block by block.
-#[inline(always)]
-fn write_blocks<P: Results>(results: P, from: usize, count: usize, room: &mut [bool]) -> bool
-    requires places { from + count ≤ P.served results }
-    requires most { from + count ≤ MOST_PLACES }
-    requires room { count ≤ length room.old }
-    ensures values { result ≡ true → AreWritten (λ place. truth_outcome (P.outcome results place)) from (from + count) room.new }
-    ensures len { length room.new ≡ length room.old }
-{
-    let blocks = count / BLOCK;
-    let mut are_sure = true;
-    for block in 0..blocks {
-        are_sure &= write_block(results, from, block * BLOCK, room);
-    }
-    let done = blocks * BLOCK;
-    are_sure & write_likely(results, from + done, count - done, &mut room[done..])
-}
-
 /// A type that results are held as, with its quick runs of these.
 pub trait HeldRuns: Held {
-    ghost use Rattle.std.specs.Prelude.{◌≡◌, ◌+◌, ◌≤◌, true, length};
+    ghost use Rattle.std.specs.Prelude.{◌≡◌, ℕ, ◌+◌, ◌<◌, ◌≤◌, length};
     ghost use Rattle.apl_pool.specs.declared.kernel.TheConstants.{MOST_PLACES};
-    ghost use Rattle.apl_pool.specs.Runs.{AreWritten};
+    ghost use Rattle.apl_scalar.specs.declared.runs.TheConstants.{BLOCK};
+    ghost use Rattle.apl_scalar.specs.Runs.{HasPart, DiffersIn};
 
-    /// Writes the likely results into the room for the places from `from` on. It answers whether all are sure. It takes no memory.
-    fn write_run<P: Results>(results: P, from: usize, count: usize, room: &mut [Self]) -> bool
-        requires places { from + count ≤ P.served results }
-        requires most { from + count ≤ MOST_PLACES }
-        requires room { count ≤ length room.old }
-        ensures values { result ≡ true → AreWritten (λ place. Self.held (P.outcome results place)) from (from + count) room.new }
+    // How many places are a block.
+    ghost block: { ℕ };
+
+    /// How many places are a block.
+    fn block_places() -> usize
+        ensures value { result ≡ block }
+        ensures some { 0 < result }
+        ensures few { result ≤ BLOCK };
+
+    /// Whether the results of a function are held so. As no others are, no loops are made for them.
+    fn holds(f: ScalarFunction) -> bool;
+
+    /// Writes the block of likely results after the first `done` into the room for the places from `from` on. It answers the doubts whether
+    /// they are right. It takes no memory.
+    fn write_block<P: Results>(results: P, from: usize, done: usize, room: &mut [Self]) -> u64
+        requires places { from + done + block ≤ P.served results }
+        requires most { from + done + block ≤ MOST_PLACES }
+        requires room { done + block ≤ length room.old }
+        ensures values { result ≡ 0 → HasPart (λ place. Self.held (P.outcome results place)) from done block room.new }
+        ensures others { DiffersIn done block room.old room.new }
         ensures len { length room.new ≡ length room.old };
 }
 
 impl HeldRuns for i64 {
+    ghost block = { 1 };
+
     #[inline(always)]
-    fn write_run<P: Results>(results: P, from: usize, count: usize, room: &mut [i64]) -> bool {
-        write_likely(results, from, count, room)
+    fn block_places() -> usize {
+        1
+    }
+
+    #[inline(always)]
+    fn holds(f: ScalarFunction) -> bool {
+        !is_truth_valued(f)
+    }
+
+    #[inline(always)]
+    fn write_block<P: Results>(results: P, from: usize, done: usize, room: &mut [i64]) -> u64 {
+        let (value, doubts) = results.likely_at(from + done);
+        room[done] = value;
+        doubts
     }
 }
 
+/// Truth values are written beside the room first, so that no store comes between two reads, and a processor compares a block at once.
 impl HeldRuns for bool {
+    ghost use Rattle.apl_scalar.specs.declared.runs.TheConstants.{BLOCK};
+
+    ghost block = { BLOCK };
+
     #[inline(always)]
-    fn write_run<P: Results>(results: P, from: usize, count: usize, room: &mut [bool]) -> bool {
-        P::are_truths() && write_blocks(results, from, count, room)
+    fn block_places() -> usize {
+        BLOCK
     }
+
+    #[inline(always)]
+    fn holds(f: ScalarFunction) -> bool {
+        is_truth_valued(f)
+    }
+
+    #[inline(always)]
+    fn write_block<P: Results>(results: P, from: usize, done: usize, room: &mut [bool]) -> u64 {
+        let mut block = [false; BLOCK];
+        let doubts = write_likely(results, from + done, BLOCK, &mut block);
+        for k in 0..BLOCK {
+            room[done + k] = block[k];
+        }
+        doubts
+    }
+}
+
+/// Writes the likely results of two halves, each of so many blocks, into the room for the places from `from` on. It answers whether all are
+/// sure. A turn takes a block of each half, since memory gives two streams faster than one.
+#[inline(always)]
+fn write_halves<P: Results, H: HeldRuns>(
+    results: P,
+    from: usize,
+    blocks: usize,
+    room: &mut [H],
+) -> bool
+    requires places { from + blocks * H.block * 2 ≤ P.served results }
+    requires most { from + blocks * H.block * 2 ≤ MOST_PLACES }
+    requires room { blocks * H.block * 2 ≤ length room.old }
+    ensures values { result ≡ true → AreWritten (λ place. H.held (P.outcome results place)) from (from + blocks * H.block * 2) room.new }
+    ensures len { length room.new ≡ length room.old }
+{
+    let size = H::block_places();
+    let half = blocks * size;
+    let mut all_doubts = 0;
+    for block in 0..blocks {
+        all_doubts |= H::write_block(results, from, block * size, room);
+        all_doubts |= H::write_block(results, from, half + block * size, room);
+    }
+    all_doubts == 0
+}
+
+/// Writes a run of likely results into the room for the places from `from` on. It answers whether all are sure.
+#[inline(always)]
+fn write_run<P: Results, H: HeldRuns>(results: P, from: usize, count: usize, room: &mut [H]) -> bool
+    requires places { from + count ≤ P.served results }
+    requires most { from + count ≤ MOST_PLACES }
+    requires room { count ≤ length room.old }
+    ensures values { result ≡ true → AreWritten (λ place. H.held (P.outcome results place)) from (from + count) room.new }
+    ensures len { length room.new ≡ length room.old }
+{
+    let size = H::block_places();
+    let blocks = count / (size * 2);
+    let done = blocks * size * 2;
+    write_halves(results, from, blocks, room)
+        && write_likely(results, from + done, count - done, &mut room[done..]) == 0
 }
 
 /// How many results are written in one turn of a loop.
@@ -206,7 +260,7 @@ fn write_sure_runs<P: Results, H: HeldRuns>(
     let mut longest = FIRST_RUN;
     while done < count {
         let run = (count - done).min(longest);
-        if !H::write_run(results, from + done, run, &mut room[done..]) {
+        if !write_run(results, from + done, run, &mut room[done..]) {
             return done;
         }
         done += run;

@@ -3,7 +3,7 @@ use Rattle.std.proofs.Common.{◌≡◌, ℕ, zero, suc, slice_set, ℤ, pos, tr
 use Rattle.std.specs.Prelude.{Bool, ◌&&◌}
 use Rattle.std.proofs.lemmas.Bool.{or_cases}
 use Rattle.std.proofs.lemmas.Bool.Decides.{Decides-int_eq}
-use Rattle.std.proofs.lemmas.List.{append-nil, map-append, take-append-drop, take-set, take_more_set}
+use Rattle.std.proofs.lemmas.List.{append-nil, get_or-map, length-map, map-append, take-append-drop, take-set, take_more_set}
 use Rattle.apl_array.specs.Axes.{place_number}
 use Rattle.apl_answer.specs.Arguments.{is_bit}
 use Rattle.std.specs.List.{list_all}
@@ -17,13 +17,10 @@ pub byte_most : (b : Bool) → bool_byte b ≤ 1
 byte_most true = omega arith
 byte_most false = omega arith
 
--- a bit counts as what it is
-counted : (z : ℤ) → is_bit z ≡ true → bool_byte (int_eq z (pos 1)) ≡ place_number z
-counted z bit =
-    elim (or_cases (int_eq z (pos 0)) (int_eq z (pos 1)) bit) [
-      | inl none ↦ rw ((Decides-int_eq z (pos 0)).0 none) refl
-      | inr one ↦ rw ((Decides-int_eq z (pos 1)).0 one) refl
-    ]
+-- a truth value counts as the number that it is
+counted : (b : Bool) → bool_byte b ≡ place_number (bit b)
+counted true = refl
+counted false = refl
 
 -- an index that is kept once or not at all
 kept_once : (places : List ℕ) (kept i count : ℕ) → count ≤ 1 → kept < length places → take (kept + count) (slice_set places kept i) ≡ take kept places ++ replicate count i
@@ -33,16 +30,18 @@ kept_once places kept i zero most inside =
 kept_once places kept i (suc zero) most inside = take_more_set places kept i inside
 kept_once places kept i (suc (suc n)) most inside = absurd (omega (arith, most))
 
--- the index of one more bit is kept if it is 1
-pub kept_more : (numbers : List ℤ) (i kept : ℕ) (z : ℤ) (places : List ℕ) (is_one : Bool) → i < length numbers → slice_index_or numbers i (pos 0) ≡ z → is_bit z ≡ true
-    → is_one ≡ int_eq z (pos 1) → kept < length places → take kept places ≡ repeated_indexes (take i (map place_number numbers))
-    → take (kept + bool_byte is_one) (slice_set places kept i) ≡ repeated_indexes (take (i + 1) (map place_number numbers))
-kept_more numbers i kept z places is_one inside here bit one room before =
-    let count : bool_byte is_one ≡ place_number (slice_index_or numbers i (pos 0)) = ap bool_byte one ∙ counted z bit ∙ ap place_number (sym here) in
-    kept_once places kept i (bool_byte is_one) (byte_most is_one) room
-    ∙ ap (λ l. l ++ replicate (bool_byte is_one) i) before
+-- the index of one more truth value is kept if it is true
+pub kept_more : (truths : List Bool) (i kept : ℕ) (places : List ℕ) → i < length truths → kept < length places → take kept places ≡ repeated_indexes (take i (map place_number (map bit truths)))
+    → take (kept + bool_byte (slice_index_or truths i false)) (slice_set places kept i) ≡ repeated_indexes (take (i + 1) (map place_number (map bit truths)))
+kept_more truths i kept places inside room before =
+    let numbers = map bit truths in
+    let here = slice_index_or truths i false in
+    let inside_numbers : i < length numbers = omega (arith, inside, length-map truths bit) in
+    let count : bool_byte here ≡ place_number (slice_index_or numbers i (pos 0)) = counted here ∙ ap place_number (sym (get_or-map bit truths i false (pos 0) inside)) in
+    kept_once places kept i (bool_byte here) (byte_most here) room
+    ∙ ap (λ l. l ++ replicate (bool_byte here) i) before
     ∙ ap (λ y. repeated_indexes (take i (map place_number numbers)) ++ replicate y i) count
-    ∙ sym (natural_repeats numbers i inside)
+    ∙ sym (natural_repeats numbers i inside_numbers)
 
 -- a bit is the truth value that says whether it is 1
 bit_of : (z : ℤ) → is_bit z ≡ true → bit (int_eq z (pos 1)) ≡ z

@@ -14,7 +14,7 @@ ghost use Rattle.std.specs.Ordering.{int_eq};
 
 use crate::along::{Taking, gather_along, shape_with_axis, vector_length, vector_rank};
 use crate::arguments::{TURN, numbers_among};
-use crate::bits::{kept_indexes, push_times, truths_of};
+use crate::bits::{indexes_of_ones, push_times, truths_of};
 use crate::building::{are_natural, empty};
 use apl_answer::OpFault;
 use apl_array::{Array, Axis, Elements, MOST_ELEMENTS};
@@ -121,14 +121,20 @@ fn replicate_listed<W: Crew>(
     gather_along(workers, b, k, counts.len(), indexes.len(), taking)
 }
 
-/// The indexes of axis `k` at which truth values are true. They are not listed, so that the workers look for them.
+/// The indexes of axis `k` at which truth values are true. Those of a vector are not listed, so that the workers look for them.
 fn keep_ones<W: Crew>(workers: &W, b: &Array, k: usize, truths: &[bool]) -> Result<Array, OpFault>
     requires axis { k < max 1 (rank_of b.now) }
     requires length { length truths.now ≡ slice_index (as_vector (length truths.now) b.now).shape k }
     requires most { length truths.now ≤ MOST_PLACES }
     ensures { IsAnswerOf (replicated (as_vector (length truths.now) b.now) k (map place_number (map bit truths.now))) result }
 {
-    let (before, count) = count_blocks(workers.alloc(), truths)?;
+    let alloc = workers.alloc();
+    if vector_rank(b) > 1 {
+        let indexes = indexes_of_ones(alloc, truths)?;
+        let taking = Taking::Listed(indexes.as_slice());
+        return gather_along(workers, b, k, truths.len(), indexes.len(), taking);
+    }
+    let (before, count) = count_blocks(alloc, truths)?;
     let counted = CountedBits {
         bits: truths,
         before: before.as_slice(),
@@ -137,21 +143,21 @@ fn keep_ones<W: Crew>(workers: &W, b: &Array, k: usize, truths: &[bool]) -> Resu
     gather_along(workers, b, k, truths.len(), count, Taking::Ones(counted))
 }
 
-/// The same. Truth values keep elements of a vector where they are, and other counts that are all 0 or 1 are listed by a loop of their own.
+/// Each index of axis `k` as often as its number says. Numbers that are all 0 or 1 serve as truth values.
 fn replicate_each<W: Crew>(workers: &W, a: &Array, b: &Array, k: usize) -> Result<Array, OpFault>
     requires axis { k < max 1 (rank_of b.now) }
     requires length { size_of a.now ≡ slice_index (as_vector (size_of a.now) b.now).shape k }
     ensures { IsAnswerOf (if is_numbers a.now && list_all is_natural (numbers_of a.now) then replicated (as_vector (size_of a.now) b.now) k (map place_number (numbers_of a.now)) else Err OpFault.Domain) result }
 {
-    if let (Elements::Truths(truths), 1) = (a.elements(), vector_rank(b)) {
-        return keep_ones(workers, b, k, truths);
+    match a.elements() {
+        Elements::Truths(truths) => keep_ones(workers, b, k, truths),
+        Elements::Numbers(numbers) => match truths_of(workers.alloc(), numbers)? {
+            Some(truths) => keep_ones(workers, b, k, truths.as_slice()),
+            None => replicate_listed(workers, b, k, numbers),
+        },
+        Elements::Characters([]) => keep_ones(workers, b, k, &[]),
+        Elements::Characters(_) => Err(OpFault::Domain),
     }
-    if let Some(indexes) = kept_indexes(workers.alloc(), a)? {
-        let taking = Taking::Listed(indexes.as_slice());
-        return gather_along(workers, b, k, a.shape().count(), indexes.len(), taking);
-    }
-    let counts = numbers_among(workers, a)?;
-    replicate_listed(workers, b, k, counts.as_slice())
 }
 
 /// Each index of axis `k`, which has this length, several times.

@@ -1,5 +1,6 @@
 -- The ones among truth values.
 use Rattle.std.specs.Prelude.{◌≡◌, ℕ, zero, suc, ◌+◌, ◌-◌, ◌*◌, ◌<◌, ◌≤◌, Bool, true, false, List, [], ◌∷◌, length, if◌then◌else◌, Option, Some, None, slice_index, slice_index_or}
+use Rattle.apl_walk.specs.Gathered.{value_or}
 use Rattle.apl_walk.specs.declared.counted.TheConstants.{BLOCK}
 
 -- 1 for true, 0 for false
@@ -30,6 +31,10 @@ next_index bits i = if slice_index_or bits i false then Some (ones_before bits i
 -- each index is such a one, or has no place
 abbrev pub next_step : (bits : List Bool) (stride i : ℕ) → Option ℕ
 next_step bits stride i = if slice_index_or bits i false then Some (ones_before bits i * stride) else None
+
+-- the value at index i of a line that is expanded: the next one at a one, and a fill at a zero
+abbrev pub expanded_value : {T : Type 0} → List Bool → (line : List T) (stride : ℕ) (fill : T) (i : ℕ) → T
+expanded_value bits line stride fill i = value_or line fill (next_step bits stride i)
 
 -- how many ones are before each block of truth values
 pub record CountsBlocks (bits : List Bool) (before : List ℕ) : Type 0 where

@@ -1,16 +1,15 @@
 //! An axis that takes the next index where a truth value is true, and has a fill elsewhere.
 ghost use Rattle.std.specs.Prelude.{◌≡◌, ◌+◌, ◌-◌, ◌*◌, ◌<◌, ◌≤◌, length};
-ghost use Rattle.apl_walk.specs.declared.expanded.TheConstants.{BLOCK};
+ghost use Rattle.apl_walk.specs.declared.expanded.TheConstants.{GROUP};
 ghost use Rattle.apl_walk.specs.declared.map.TheConstants.{MOST_STEP};
-ghost use Rattle.apl_walk.specs.Gathered.{value_or};
-ghost use Rattle.apl_walk.specs.Ones.{next_step, ones_before, HasNext};
+ghost use Rattle.apl_walk.specs.Ones.{expanded_value, next_step, ones_before, HasNext};
 ghost use Rattle.apl_walk.specs.Steps.{BeginsWith};
 
 use crate::counted::CountedBits;
 use crate::map::{AxisMap, MOST_STEP};
 
 /// How many elements are read before one of them is written.
-const BLOCK: usize = 8;
+const GROUP: usize = 8;
 
 /// The next index at each one, of an axis whose neighbours are `stride` apart, and a fill at each zero.
 #[derive(Clone, Copy)]
@@ -31,29 +30,29 @@ impl Expanded<'_> {
         self.counted.count.saturating_sub(1).min(number)
     }
 
-    /// Reads the next elements at the ones among the truth values from index `first` on into a block. `before` ones are before them, and it
+    /// Reads the next elements at the ones among the truth values from index `first` on into a group. `before` ones are before them, and it
     /// answers how many are before the index after them. What is read at a zero does not matter.
     #[inline(always)]
-    fn read_next<T: Copy>(self, line: &[T], first: usize, before: usize, block: &mut [T]) -> usize
-        requires within { first + length block.old ≤ length self.counted.bits.now }
+    fn read_next<T: Copy>(self, line: &[T], first: usize, before: usize, group: &mut [T]) -> usize
+        requires within { first + length group.old ≤ length self.counted.bits.now }
         requires near { (self.counted.count - 1) * self.stride < length line.now }
         requires before { before ≡ ones_before self.counted.bits.now first }
-        ensures read { HasNext self.entry.counted.bits.now line.now self.entry.stride first (length block.old) block.new }
-        ensures before { result ≡ ones_before self.entry.counted.bits.now (first + length block.old) }
-        ensures len { length block.new ≡ length block.old }
+        ensures read { HasNext self.entry.counted.bits.now line.now self.entry.stride first (length group.old) group.new }
+        ensures before { result ≡ ones_before self.entry.counted.bits.now (first + length group.old) }
+        ensures len { length group.new ≡ length group.old }
     {
         let mut ones = before;
-        for k in 0..block.len() {
-            block[k] = line[self.nearest(ones) * self.stride];
+        for k in 0..group.len() {
+            group[k] = line[self.nearest(ones) * self.stride];
             ones += self.counted.bits[first + k] as usize;
         }
         ones
     }
 
-    /// Writes the next block of a line's elements, after the first `done` of the room. `before` ones are before them, and it answers how many
-    /// are before the next block. All are read before one is written. So no jump depends on a bit, which no processor can foresee.
+    /// Writes the next group of a line's elements, after the first `done` of the room. `before` ones are before them, and it answers how many
+    /// are before the next group. All are read before one is written. So no jump depends on a bit, which no processor can foresee.
     #[inline(always)]
-    fn write_block<T: Copy>(
+    fn write_group<T: Copy>(
         self,
         line: &[T],
         from: usize,
@@ -62,20 +61,20 @@ impl Expanded<'_> {
         fill: T,
         room: &mut [T],
     ) -> usize
-        requires within { from + done + BLOCK ≤ length self.counted.bits.now }
+        requires within { from + done + GROUP ≤ length self.counted.bits.now }
         requires near { (self.counted.count - 1) * self.stride < length line.now }
-        requires room { done + BLOCK ≤ length room.old }
+        requires room { done + GROUP ≤ length room.old }
         requires before { before ≡ ones_before self.counted.bits.now (from + done) }
-        requires written { BeginsWith (λ k. value_or line.now fill (next_step self.counted.bits.now self.stride (from + k))) done room.old }
-        ensures written { BeginsWith (λ k. value_or line.now fill (next_step self.entry.counted.bits.now self.entry.stride (from + k))) (done + BLOCK) room.new }
-        ensures before { result ≡ ones_before self.entry.counted.bits.now (from + done + BLOCK) }
+        requires written { BeginsWith (λ k. expanded_value self.counted.bits.now line.now self.stride fill (from + k)) done room.old }
+        ensures written { BeginsWith (λ k. expanded_value self.entry.counted.bits.now line.now self.entry.stride fill (from + k)) (done + GROUP) room.new }
+        ensures before { result ≡ ones_before self.entry.counted.bits.now (from + done + GROUP) }
         ensures len { length room.new ≡ length room.old }
     {
-        let mut block = [fill; BLOCK];
-        let after = self.read_next(line, from + done, before, &mut block);
-        for k in 0..BLOCK {
+        let mut group = [fill; GROUP];
+        let after = self.read_next(line, from + done, before, &mut group);
+        for k in 0..GROUP {
             let is_one = self.counted.bits[from + done + k];
-            room[done + k] = if is_one { block[k] } else { fill };
+            room[done + k] = if is_one { group[k] } else { fill };
         }
         after
     }
@@ -86,7 +85,7 @@ impl Expanded<'_> {
         requires within { index < length self.counted.bits.now }
         requires near { (self.counted.count - 1) * self.stride < length line.now }
         requires before { before ≡ ones_before self.counted.bits.now index }
-        ensures { result ≡ value_or line.now fill (next_step self.entry.counted.bits.now self.entry.stride index) }
+        ensures { result ≡ expanded_value self.entry.counted.bits.now line.now self.entry.stride fill index }
     {
         if self.counted.bits[index] {
             line[before * self.stride]
@@ -112,8 +111,8 @@ impl Expanded<'_> {
         requires near { (self.counted.count - 1) * self.stride < length line.now }
         requires room { count ≤ length room.old }
         requires before { before ≡ ones_before self.counted.bits.now (from + done) }
-        requires written { BeginsWith (λ k. value_or line.now fill (next_step self.counted.bits.now self.stride (from + k))) done room.old }
-        ensures written { BeginsWith (λ k. value_or line.now fill (next_step self.entry.counted.bits.now self.entry.stride (from + k))) count room.new }
+        requires written { BeginsWith (λ k. expanded_value self.counted.bits.now line.now self.stride fill (from + k)) done room.old }
+        ensures written { BeginsWith (λ k. expanded_value self.entry.counted.bits.now line.now self.entry.stride fill (from + k)) count room.new }
         ensures len { length room.new ≡ length room.old }
     {
         let mut ones = before;
@@ -153,10 +152,10 @@ impl AxisMap for Expanded<'_> {
     fn write_line<T: Copy>(&self, line: &[T], from: usize, count: usize, fill: T, room: &mut [T]) {
         let axis = *self;
         let mut ones = axis.counted.count_before(from);
-        let blocks = count / BLOCK;
-        for block in 0..blocks {
-            ones = axis.write_block(line, from, block * BLOCK, ones, fill, room);
+        let groups = count / GROUP;
+        for group in 0..groups {
+            ones = axis.write_group(line, from, group * GROUP, ones, fill, room);
         }
-        axis.write_rest(line, from, blocks * BLOCK, count, ones, fill, room);
+        axis.write_rest(line, from, groups * GROUP, count, ones, fill, room);
     }
 }

@@ -1,4 +1,4 @@
-use Rattle.std.proofs.Common.{◌≡◌, pos, ◌<◌, length, slice_index_or, int_eq, refl, ap, sym, ◌∙◌, arith, rules}
+use Rattle.std.proofs.Common.{◌≡◌, pos, ◌<◌, ◌++◌, ◌∷◌, [], length, slice_index_or, int_eq, refl, ap, sym, ◌∙◌, arith, rules}
 use Rattle.std.specs.Prelude.{vec_len}
 use Rattle.std.proofs.lemmas.List.{length-append, length-map, length-take-le}
 use Rattle.std.proofs.lemmas.List.Folds.{list_all_more}
@@ -33,13 +33,12 @@ loop-i-preserved c =
     let inside : i < length numbers = omega (arith, c.loop-i-test.true, c.requires.places) in
     let z = slice_index_or numbers i (pos 0) in
     let bit : c.is_bit-are_bits.result ≡ is_bit z = search rules in
-    let one : c.is_one.result ≡ int_eq z (pos 1) = search rules in
-    let pushed = c.push_reserved.ensures.items in
+    let pushed : c.push_reserved.new.self.items ≡ c.loop-i.truths.items ++ int_eq z (pos 1) ∷ [] = search (rules, c.push_reserved.ensures.items) in
     record {
       bits = rw (kept.bits, bit) (sym (list_all_more is_bit numbers i (pos 0) inside));
       len = rw pushed (simp length-append (omega (arith, kept.len)));
       truths = λ all.
           let parts = both c.loop-i.are_bits c.is_bit-are_bits.result all in
-          truth_more numbers i z c.loop-i.truths.items c.push_reserved.new.self.items c.is_one.result inside refl (sym bit ∙ parts.1) one (kept.truths parts.0) pushed;
+          truth_more numbers i z c.loop-i.truths.items c.push_reserved.new.self.items (int_eq z (pos 1)) inside refl (sym bit ∙ parts.1) refl (kept.truths parts.0) pushed;
       room = c.push_reserved.ensures.capacity ∙ kept.room;
     }

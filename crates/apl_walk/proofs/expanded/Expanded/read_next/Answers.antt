@@ -25,7 +25,7 @@ loop-k-preserved g c =
     let near : c.nearest.result * stride < length line = omega (arith, mul-le-mul_right {m = c.nearest.result} {n = axis.count - 1} stride c.nearest.ensures.most, c.requires.near) in
     let next : i + 1 ≡ c.args.first + (k + 1) = omega arith in
     record {
-      read = next_written bits line c.loop-k.block stride c.args.first k x (omega (arith, c.loop-k-test.true, c.loop-k.auto.block))
+      read = next_written bits line c.loop-k.group stride c.args.first k x (omega (arith, c.loop-k-test.true, c.loop-k.auto.group))
           (λ one d.
           let own : c.nearest.result ≡ ones_before bits i = c.nearest.ensures.same (omega (arith, ones_below bits i inside one, axis.all, kept.ones)) ∙ kept.ones in
           get_or_read line (c.nearest.result * stride) x near c.index-line-nearest.is d ∙ ap (λ n. slice_index_or line (n * stride) d) own)

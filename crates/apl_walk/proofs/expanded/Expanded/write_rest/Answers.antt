@@ -1,8 +1,7 @@
 use Rattle.std.proofs.Common.{◌≡◌, ℕ, ◌+◌, ◌<◌, false, length, slice_index_or, slice_set, sym, ap, ◌∙◌, arith, inl, inr}
 use Rattle.std.proofs.lemmas.Bool.{cases_lt}
 use Rattle.std.proofs.lemmas.List.{get_or-set_same, get_or-set_other}
-use Rattle.apl_walk.specs.Gathered.{value_or}
-use Rattle.apl_walk.specs.Ones.{next_step, ones_before}
+use Rattle.apl_walk.specs.Ones.{expanded_value, ones_before}
 use Rattle.apl_walk.proofs.Bits.{byte_most, bytes_more, ones_few}
 use Rattle.apl_walk.proofs.expanded.Expanded.write_rest.Goals as goal
 
@@ -21,7 +20,7 @@ loop-k-preserved g c =
     let k = c.loop-k.k in
     let kept = c.loop-k.invariant in
     let x = c.next_or.result in
-    let value : ℕ → g.row.T.Denot = λ j. value_or line c.args.fill (next_step bits c.args.self.stride (c.args.from + j)) in
+    let value : ℕ → g.row.T.Denot = λ j. expanded_value bits line c.args.self.stride c.args.fill (c.args.from + j) in
     let free : k < length c.loop-k.room = omega (arith, c.loop-k-test.true, c.loop-k.auto.room, c.requires.room) in
     let next : c.args.from + k + 1 ≡ c.args.from + (k + 1) = omega arith in
     record {

@@ -1,9 +1,0 @@
-use Rattle.std.proofs.Common.{◌≡◌, ℕ, ◌+◌, ◌<◌, length, slice_index_or}
-use Rattle.apl_scalar.proofs.runs.write_block.Given as goal
-
-abbrev pub invariant-loop-k : goal.invariant-loop-k
-invariant-loop-k g l = record {
-  before : (j : ℕ) (d : _) → j < l.done → slice_index_or l.room j d ≡ slice_index_or l.initial.room j d;
-  here : (j : ℕ) (d : _) → j < l.k → slice_index_or l.room (l.done + j) d ≡ slice_index_or l.block j d;
-  len : length l.room ≡ length l.initial.room;
-}
