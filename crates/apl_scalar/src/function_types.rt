@@ -194,6 +194,11 @@ impl Function for Minus {
     fn likely(left: i64, right: i64) -> (i64, u64) {
         likely_difference(left, right)
     }
+
+    #[inline(always)]
+    fn likely_monadic(right: i64) -> (i64, u64) {
+        likely_difference(0, right)
+    }
 }
 
 /// `×`: the sign, and the product.
