@@ -49,6 +49,12 @@ carried_some a c some =
 some_natural : (n : ℕ) → pos (suc n) ≡ pos 0 → ⊥
 some_natural n e = absurd (omega (arith, ints, e))
 
+-- a product that numbers are divided by is above 0
+pub above_zero : (p : ℤ) (radices : List ℤ) → StandsFor (Product p) radices → pos 0 <ℤ p
+above_zero (pos zero) radices stands = absurd (let e = stands.above in cc)
+above_zero (pos (suc n)) radices stands = omega (arith, ints)
+above_zero (negsuc n) radices stands = absurd (let e = stands.above in cc)
+
 -- one radix more, in front of the others
 pub in_front : (behind next : CarryDivisor) (a : ℤ) (radices : List ℤ) → StandsFor behind radices → is_above_zero next ≡ true
     → ((b : ℤ) → IsInRange b → carry_by next b ≡ carried a (carry_by behind b)) → StandsFor next (a ∷ radices)

@@ -1,9 +1,9 @@
 -- The digits at the places of an encoded array.
-use Rattle.std.proofs.Common.{◌≡◌, ℕ, zero, suc, ◌*◌, ◌/◌, ◌%◌, ◌<◌, ◌≤◌, ℤ, pos, List, [], ◌∷◌, ◌++◌, Result, Err, length, map, take, drop, get_or, slice_index, refl, sym, ap, ◌∙◌, arith}
-use Rattle.std.proofs.Math.Nat.{div-one, mod-eq_of_lt, mod-lt}
+use Rattle.std.proofs.Common.{◌≡◌, ℕ, zero, suc, ◌+◌, ◌*◌, ◌/◌, ◌%◌, ◌<◌, ◌≤◌, ℤ, pos, List, [], ◌∷◌, ◌++◌, Result, Err, length, map, take, drop, get_or, slice_index, refl, sym, ap, subst, ◌∙◌, arith, length-drop}
+use Rattle.std.proofs.Math.Nat.{div-one, div-lt_iff_lt-mul, mod-eq_of_lt, mod-lt}
 use Rattle.std.proofs.Math.ListN.{get_or-map}
 use Rattle.std.proofs.lemmas.Nat.{div_below}
-use Rattle.std.proofs.lemmas.List.{take_at, drop_at}
+use Rattle.std.proofs.lemmas.List.{take_at, drop_at, get_or-drop, get_or-take, length-take}
 use Rattle.std.proofs.lemmas.List.Elements.{All-get_or}
 use Rattle.apl_array.specs.declared.array.Elem.{Elem}
 use Rattle.apl_array.specs.declared.array.Elem.TheVariants.{Int, Chr}
@@ -14,9 +14,13 @@ use Rattle.apl_array.specs.Shape.{IsIndexOf, count_of, place_of, index_at}
 use Rattle.apl_pool.specs.declared.kernel.Fault.{Fault}
 use Rattle.apl_pool.specs.declared.kernel.Fault.TheVariants.{Domain}
 use Rattle.apl_answer.specs.Arguments.{rank_of, numbers_of}
+use Rattle.apl_reduce.specs.declared.carry_divisor.CarryDivisor.{CarryDivisor}
+use Rattle.apl_reduce.specs.declared.carry_divisor.CarryDivisor.TheVariants.{Nothing, Product}
 use Rattle.apl_reduce.specs.Encoding.{encoded}
-use Rattle.apl_reduce.specs.Carrying.{digit_in}
+use Rattle.apl_reduce.specs.Carrying.{digit_in, digit_number, StandsFor}
+use Rattle.apl_reduce.proofs.Carries.{get_inside}
 use Rattle.apl_reduce.proofs.Numbers.{numbers_of_numbers, count_of_numbers}
+use Rattle.apl_reduce.proofs.OuterRows.{same_row}
 
 -- the only index of a place of a list, and of the place of a scalar
 pub list_index : (shape : List ℕ) (place : ℕ) → length shape ≤ 1 → place < count_of shape → slice_index (index_at shape place) 0 ≡ place
@@ -83,3 +87,25 @@ module _ (below : (shape index : List ℕ) → IsIndexOf shape index → place_o
       let kind : a.kind ≡ Number = ap (λ v. v.kind) left in
       let are : numbers_of a ≡ radices = ap numbers_of left ∙ numbers_of_numbers radices in
       rw (many, joined a.shape b.shape place within, front, rest, list_index a.shape k list first, element, kind, are) refl
+
+-- ---- digits of neighbours at one radix
+
+pub row_digit : (radices numbers : List ℤ) (from k first m j : ℕ) → k ≡ from / length numbers → first ≡ from % length numbers → j < length (take m (drop first numbers))
+    → digit_number radices ((from + j) / length numbers) (get_or numbers ((from + j) % length numbers) (pos 0)) ≡ digit_number radices k (get_or (take m (drop first numbers)) j (pos 0))
+row_digit radices numbers from k first m j row column inside =
+    let taken = length-take m (drop first numbers) in
+    let rest = length-drop first numbers in
+    let below : from % length numbers + j < length numbers = omega (arith, taken, rest, column) in
+    let same = same_row (length numbers) from j below in
+    let there : (from + j) % length numbers ≡ first + j = same.1 ∙ ap (λ c. c + j) (sym column) in
+    let read : get_or (take m (drop first numbers)) j (pos 0) ≡ get_or numbers (first + j) (pos 0) =
+    get_or-take m (drop first numbers) j (pos 0) (omega (arith, taken)) ∙ get_or-drop first numbers j (pos 0) in
+    ap (λ i. digit_number radices i (get_or numbers ((from + j) % length numbers) (pos 0))) (same.0 ∙ sym row)
+    ∙ ap (λ i. digit_number radices k (get_or numbers i (pos 0))) there ∙ ap (digit_number radices k) (sym read)
+
+pub radix_of_place : (radices numbers : List ℤ) (from k : ℕ) → 0 < length numbers → k ≡ from / length numbers → from < length radices * length numbers → k < length radices
+radix_of_place radices numbers from k some row within = omega (arith, (div-lt_iff_lt-mul {k = length numbers} {x = from} {y = length radices} some).1 within, row)
+
+pub product_there : (radices : List ℤ) (behind : List CarryDivisor) (k : ℕ) (d : CarryDivisor) (p : ℤ) → k < length behind → get_or behind k d ≡ Product p
+    → StandsFor (get_or behind k Nothing) (drop (k + 1) radices) → StandsFor (Product p) (drop (k + 1) radices)
+product_there radices behind k d p inside is stands = subst (λ x. StandsFor x (drop (k + 1) radices)) (get_inside behind k Nothing d inside ∙ is) stands

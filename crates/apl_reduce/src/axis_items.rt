@@ -76,7 +76,7 @@ impl<'a, T: ElementType> AxisItems<'a, T> {
 }
 
 /// The most places whose totals are kept beside one another.
-const MOST_TOTALS: usize = 2048;
+const MOST_TOTALS: usize = 4096;
 
 impl<T> AxisItems<'_, T> {
     /// Where the items at a place begin.

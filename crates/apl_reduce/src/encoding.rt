@@ -1,24 +1,62 @@
 //! Numbers taken apart into digits in a list of radices.
-ghost use Rattle.std.specs.Prelude.{◌≡◌, ℕ, ◌+◌, ◌*◌, ◌<◌, ◌≤◌, Result, drop, length, slice_index_or};
+ghost use Rattle.std.specs.Prelude.{◌≡◌, ℕ, ◌+◌, ◌*◌, ◌<◌, ◌≤◌, ◌<ℤ◌, ℤ, pos, List, Ok, Result, drop, length, slice_index_or};
 ghost use Rattle.apl_array.specs.declared.array.Kind.TheVariants.{Number};
 ghost use Rattle.apl_array.specs.Shape.{count_of};
 ghost use Rattle.apl_pool.specs.declared.kernel.Fault.{Fault};
 ghost use Rattle.apl_pool.specs.declared.kernel.TheConstants.{MOST_PLACES};
+ghost use Rattle.apl_pool.specs.Runs.{AreWritten};
 ghost use Rattle.apl_answer.specs.Pointwise.{IsAnswerAt};
 ghost use Rattle.apl_answer.specs.Rows.{Answers};
-ghost use Rattle.apl_reduce.specs.declared.carry_divisor.CarryDivisor.TheVariants.{Nothing};
-ghost use Rattle.apl_reduce.specs.Encoding.{encode_row};
+ghost use Rattle.apl_scalar.specs.Arithmetic.{residue};
+ghost use Rattle.apl_scalar.specs.Scalar.{exact};
+ghost use Rattle.apl_reduce.specs.declared.carry_divisor.CarryDivisor.TheVariants.{Nothing, Product};
+ghost use Rattle.apl_reduce.specs.Encoding.{carry_past, encode_row};
 ghost use Rattle.apl_reduce.specs.Carrying.{digit_in, digit_number, StandsFor};
 
 use crate::carry_divisor::{CarryDivisor, carry_divisors};
 use crate::carrying::digit_left;
 use crate::shapes::joined_shape;
 use apl_answer::{OpFault, constant_array, fill_array, numbers_of};
-use apl_array::{Array, Shape, joined_index_has_place, places_match_index_lists};
+use apl_array::{Array, Shape, joined_index_has_place, places_match_index_lists, range_is_decided};
 use apl_divisor::Divisor;
-use apl_pool::{Crew, Cut, Fault, Gate, Kernel, Pool, Workers};
+use apl_pool::{Crew, Cut, Fault, Gate, Kernel, Pool, Workers, write_each};
+use apl_scalar::function_types::{Function, Stile};
 use std::alloc::Global;
 use std::thread::Threads;
+
+/// The digit that a radix leaves of a number, if the radices after it carry the quotient by a product.
+#[inline(always)]
+fn digit_of_quotient(radix: i64, product: i64, number: i64) -> i64
+    requires { pos 0 <ℤ product }
+    ensures { (after : List ℤ) → StandsFor (Product product) after → exact (residue radix (carry_past after number)) ≡ Ok result }
+{
+    range_is_decided();
+    match Stile::apply(radix, number.div_euclid(product)) {
+        Ok(digit) => digit,
+        Err(_) => unreachable!(),
+    }
+}
+
+/// Writes the digit that a radix leaves of each number, if the radices after it carry the quotients by a product. It answers how many they
+/// are.
+#[inline(always)]
+fn write_digits(radix: i64, product: i64, numbers: &[i64], room: &mut [i64]) -> usize
+    requires product { pos 0 <ℤ product }
+    requires room { length numbers.now ≤ length room.old }
+    ensures count { result ≡ length numbers.now }
+    ensures values { (after : List ℤ) → StandsFor (Product product) after
+        → AreWritten (λ j. exact (residue radix (carry_past after (slice_index_or numbers.now j (pos 0))))) 0 result room.new }
+    ensures len { length room.new ≡ length room.old }
+{
+    let digit = |j: usize| -> i64
+        requires product { pos 0 <ℤ product }
+        requires within { j < length numbers.now }
+        ensures { (after : List ℤ) → StandsFor (Product product) after
+            → exact (residue radix (carry_past after (slice_index_or numbers.entry.now j (pos 0)))) ≡ Ok result }
+    { digit_of_quotient(radix, product, numbers[j]) };
+    write_each(numbers.len(), digit, room);
+    numbers.len()
+}
 
 /// The digit at each radix of each number, the numbers varying fastest.
 #[derive(Drop)]
@@ -66,6 +104,20 @@ impl Kernel for Encoding<'_> {
         let k = self.width.quotient(place);
         let j = self.width.remainder(place);
         self.digit(k, self.numbers[j])
+    }
+
+    #[inline(always)]
+    fn write_run(&self, from: usize, to: usize, room: &mut [i64]) -> usize {
+        if from == to {
+            return from;
+        }
+        let k = self.width.quotient(from);
+        let CarryDivisor::Product(product) = self.behind[k] else {
+            return from;
+        };
+        let first = self.width.remainder(from);
+        let end = self.numbers.len().min(first + (to - from));
+        from + write_digits(self.radices[k], product, &self.numbers[first..end], room)
     }
 }
 
