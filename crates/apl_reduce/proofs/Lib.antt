@@ -32,6 +32,7 @@ pub mod InnerFolds
 pub mod InnerItems
 pub mod Passing
 pub mod Distances
+pub mod FourSums
 pub mod Adding
 pub mod NearFolds
 pub mod NearSums

@@ -6,6 +6,13 @@ use Rattle.apl_reduce.specs.declared.four.Four.{Four}
 use Rattle.apl_reduce.specs.Folded.{folded, folded_onto, element_along}
 use Rattle.apl_reduce.specs.Items.{item_in}
 
+-- what there is at four neighbouring places
+pub record AreNeighbours {T : Type 0} (number : ℕ → T) (place : ℕ) (four : Four T) : Type 0 where
+  pub first : four.first ≡ number place
+  pub second : four.second ≡ number (place + 1)
+  pub third : four.third ≡ number (place + 2)
+  pub fourth : four.fourth ≡ number (place + 3)
+
 -- each run has `count` elements before place `end`
 pub record AreRuns (starts : Four ℕ) (count end : ℕ) : Type 0 where
   pub first : starts.first + count ≤ end

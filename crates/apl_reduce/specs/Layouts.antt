@@ -8,6 +8,7 @@ use Rattle.apl_scalar.specs.Scalar.{dyadic_of}
 use Rattle.apl_reduce.specs.declared.layouts.Layout.{Layout}
 use Rattle.apl_reduce.specs.declared.layouts.TheConstants.{SEVERAL_LINES}
 use Rattle.apl_reduce.specs.Items.{item_in, as_number, judged_items}
+use Rattle.apl_reduce.specs.Magnitudes.{sum_of}
 
 -- the places of item k in the arguments, at a place of the result
 abbrev pub left_place : Layout → ℕ → ℕ → ℕ
@@ -34,6 +35,10 @@ module _ (layout : Layout) (left right : List Elem) where
 -- the product of the numbers that meet as item k, at a place
 abbrev pub product_at : Layout → List ℤ → List ℤ → ℕ → ℕ → ℤ
 product_at layout left right place k = slice_index_or left (left_place layout place k) (pos 0) *ℤ slice_index_or right (right_place layout place k) (pos 0)
+
+-- their sum
+abbrev pub sum_at : Layout → List ℤ → List ℤ → ℕ → ℤ
+sum_at layout left right place = sum_of (product_at layout left right place) layout.items
 
 -- ---- the right argument in the order of its columns
 

@@ -1,12 +1,12 @@
 //! Inner products.
-ghost use Rattle.std.specs.Prelude.{◌≡◌, ◌*◌, ◌≤◌, true, IfErr, IfOk, IsTrue, length, map};
+ghost use Rattle.std.specs.Prelude.{◌≡◌, ◌*◌, ◌≤◌, true, IsTrue, length, map};
 ghost use Rattle.apl_array.specs.declared.array.Elem.TheVariants.{Int, Chr};
 ghost use Rattle.apl_array.specs.declared.function.ScalarFunction.TheVariants.{Plus as PlusNamed, Times as TimesNamed};
 ghost use Rattle.apl_array.specs.Valences.{has_dyadic};
-ghost use Rattle.apl_pool.specs.Pool.{AreValues, IsStopOf};
 ghost use Rattle.apl_pool.specs.declared.kernel.TheConstants.{MOST_PLACES};
 ghost use Rattle.apl_summary.specs.Functions.{has_summary};
 ghost use Rattle.apl_answer.specs.Rows.{Answers};
+ghost use Rattle.apl_reduce.specs.Filled.{IsFilled};
 ghost use Rattle.apl_reduce.specs.Layouts.{IsWithin, inner_number};
 ghost use Rattle.apl_reduce.specs.Products.{inner_row};
 
@@ -79,8 +79,7 @@ fn fill_inner<
     pairing: P,
 ) -> Result<Vec<i64>, Stop>
     requires { IsWithin layout.now (length left.now) (length right.now) }
-    ensures values { IfOk result (λ v. AreValues (inner_number layout.now (map T.elem_of left.now) (map U.elem_of right.now) (F.function function) (P.function pairing)) layout.now.count v.items) }
-    ensures stop { IfErr result (IsStopOf (inner_number layout.now (map T.elem_of left.now) (map U.elem_of right.now) (F.function function) (P.function pairing)) layout.now.count) }
+    ensures { IsFilled (inner_number layout.now (map T.elem_of left.now) (map U.elem_of right.now) (F.function function) (P.function pairing)) layout.now.count result }
 {
     let items = ProductItems {
         layout,
@@ -104,8 +103,7 @@ fn compiled<T: ElementType + Sync, F: Function + Copy + Sync, P: Function + Copy
     right: &[T],
 ) -> Result<Vec<i64>, Stop>
     requires { IsWithin layout.now (length left.now) (length right.now) }
-    ensures values { IfOk result (λ v. AreValues (inner_number layout.now (map T.elem_of left.now) (map T.elem_of right.now) F.FUNCTION P.FUNCTION) layout.now.count v.items) }
-    ensures stop { IfErr result (IsStopOf (inner_number layout.now (map T.elem_of left.now) (map T.elem_of right.now) F.FUNCTION P.FUNCTION) layout.now.count) }
+    ensures { IsFilled (inner_number layout.now (map T.elem_of left.now) (map T.elem_of right.now) F.FUNCTION P.FUNCTION) layout.now.count result }
 {
     let (function, pairing) = (Typed::<F>(PhantomData), Typed::<P>(PhantomData));
     fill_inner(workers, layout, left, right, function, pairing)
@@ -119,8 +117,7 @@ fn typed<T: ElementType + Sync, F: Function + Copy + Sync, P: Function + Copy + 
     right: &[T],
 ) -> Result<Vec<i64>, Stop>
     requires { IsWithin layout.now (length left.now) (length right.now) }
-    ensures values { IfOk result (λ v. AreValues (inner_number layout.now (map T.elem_of left.now) (map T.elem_of right.now) F.FUNCTION P.FUNCTION) layout.now.count v.items) }
-    ensures stop { IfErr result (IsStopOf (inner_number layout.now (map T.elem_of left.now) (map T.elem_of right.now) F.FUNCTION P.FUNCTION) layout.now.count) }
+    ensures { IsFilled (inner_number layout.now (map T.elem_of left.now) (map T.elem_of right.now) F.FUNCTION P.FUNCTION) layout.now.count result }
 {
     if layout.items >= SEVERAL_ITEMS {
         return fill_runs(workers, layout, left, right, F::FUNCTION, P::FUNCTION);
@@ -138,8 +135,7 @@ fn chosen<T: ElementType + Sync, U: ElementType + Sync, W: Crew>(
     right: &[U],
 ) -> Result<Vec<i64>, Stop>
     requires { IsWithin layout.now (length left.now) (length right.now) }
-    ensures values { IfOk result (λ v. AreValues (inner_number layout.now (map T.elem_of left.now) (map U.elem_of right.now) f g) layout.now.count v.items) }
-    ensures stop { IfErr result (IsStopOf (inner_number layout.now (map T.elem_of left.now) (map U.elem_of right.now) f g) layout.now.count) }
+    ensures { IsFilled (inner_number layout.now (map T.elem_of left.now) (map U.elem_of right.now) f g) layout.now.count result }
 {
     if layout.items >= SEVERAL_ITEMS {
         return fill_runs(workers, layout, left, right, f, g);
@@ -155,8 +151,7 @@ fn fill_sums<W: Crew>(
     right: &[i64],
 ) -> Result<Vec<i64>, Stop>
     requires { IsWithin layout.now (length left.now) (length right.now) }
-    ensures values { IfOk result (λ v. AreValues (inner_number layout.now (map Int left.now) (map Int right.now) PlusNamed TimesNamed) layout.now.count v.items) }
-    ensures stop { IfErr result (IsStopOf (inner_number layout.now (map Int left.now) (map Int right.now) PlusNamed TimesNamed) layout.now.count) }
+    ensures { IsFilled (inner_number layout.now (map Int left.now) (map Int right.now) PlusNamed TimesNamed) layout.now.count result }
 {
     if !layout.is_pass_worthwhile() {
         return typed::<i64, Plus, Times, W>(workers, layout, left, right);
@@ -187,8 +182,7 @@ fn fill_inner_numbers<W: Crew>(
     right: &[i64],
 ) -> Result<Vec<i64>, Stop>
     requires { IsWithin layout.now (length left.now) (length right.now) }
-    ensures values { IfOk result (λ v. AreValues (inner_number layout.now (map Int left.now) (map Int right.now) f g) layout.now.count v.items) }
-    ensures stop { IfErr result (IsStopOf (inner_number layout.now (map Int left.now) (map Int right.now) f g) layout.now.count) }
+    ensures { IsFilled (inner_number layout.now (map Int left.now) (map Int right.now) f g) layout.now.count result }
 {
     match (f, g) {
         (Prim::Plus, Prim::Times) => fill_sums(workers, layout, left, right),
@@ -221,8 +215,7 @@ fn fill_inner_ordered<W: Crew>(
     right: &[i64],
 ) -> Result<Vec<i64>, Stop>
     requires { IsWithin layout.now (length left.now) (length right.now) }
-    ensures values { IfOk result (λ v. AreValues (inner_number layout.now (map Int left.now) (map Int right.now) f g) layout.now.count v.items) }
-    ensures stop { IfErr result (IsStopOf (inner_number layout.now (map Int left.now) (map Int right.now) f g) layout.now.count) }
+    ensures { IsFilled (inner_number layout.now (map Int left.now) (map Int right.now) f g) layout.now.count result }
 {
     if !layout.repays_an_order() {
         return fill_inner_numbers(workers, f, g, layout, left, right);
@@ -242,8 +235,7 @@ fn fill_inner_characters<W: Crew>(
     right: &[char],
 ) -> Result<Vec<i64>, Stop>
     requires { IsWithin layout.now (length left.now) (length right.now) }
-    ensures values { IfOk result (λ v. AreValues (inner_number layout.now (map Chr left.now) (map Chr right.now) f g) layout.now.count v.items) }
-    ensures stop { IfErr result (IsStopOf (inner_number layout.now (map Chr left.now) (map Chr right.now) f g) layout.now.count) }
+    ensures { IsFilled (inner_number layout.now (map Chr left.now) (map Chr right.now) f g) layout.now.count result }
 {
     match (f, g) {
         (Prim::And, Prim::Equal) => {
@@ -270,8 +262,7 @@ fn share_lines<T: ElementType + Sync, U: ElementType + Sync, P: Dyadic + Sync, W
     requires summary { has_summary f ≡ true }
     requires two { 2 ≤ layout.now.items }
     requires all { layout.now.count * layout.now.items ≤ MOST_PLACES }
-    ensures values { IfOk result (λ v. AreValues (inner_number layout.now (map T.elem_of left.now) (map U.elem_of right.now) f (P.function pairing)) layout.now.count v.items) }
-    ensures stop { IfErr result (IsStopOf (inner_number layout.now (map T.elem_of left.now) (map U.elem_of right.now) f (P.function pairing)) layout.now.count) }
+    ensures { IsFilled (inner_number layout.now (map T.elem_of left.now) (map U.elem_of right.now) f (P.function pairing)) layout.now.count result }
 {
     let items = ProductItems {
         layout,
@@ -298,8 +289,7 @@ fn share_inner<W: Crew>(
     requires summary { has_summary f ≡ true }
     requires two { 2 ≤ layout.now.items }
     requires all { layout.now.count * layout.now.items ≤ MOST_PLACES }
-    ensures values { IfOk result (λ v. AreValues (inner_number layout.now a.now.ravel b.now.ravel f g) layout.now.count v.items) }
-    ensures stop { IfErr result (IsStopOf (inner_number layout.now a.now.ravel b.now.ravel f g) layout.now.count) }
+    ensures { IsFilled (inner_number layout.now a.now.ravel b.now.ravel f g) layout.now.count result }
 {
     match (numbers_of(workers, a)?, numbers_of(workers, b)?) {
         (Some(left), Some(right)) => match g {
@@ -363,8 +353,7 @@ fn fill_inner_elements<W: Crew>(
     b: &Array,
 ) -> Result<Vec<i64>, Stop>
     requires { IsWithin layout.now (length a.now.ravel) (length b.now.ravel) }
-    ensures values { IfOk result (λ v. AreValues (inner_number layout.now a.now.ravel b.now.ravel f g) layout.now.count v.items) }
-    ensures stop { IfErr result (IsStopOf (inner_number layout.now a.now.ravel b.now.ravel f g) layout.now.count) }
+    ensures { IsFilled (inner_number layout.now a.now.ravel b.now.ravel f g) layout.now.count result }
 {
     if shares_items(workers, f, layout.count, layout.items) {
         return share_inner(workers, f, g, layout, a, b);

@@ -1,7 +1,7 @@
 //! Inner products by runs of items. A place that meets a fault is computed item by item.
-ghost use Rattle.std.specs.Prelude.{◌≡◌, ◌+◌, ◌<◌, Ok, IfErr, IfOk, IfSome, length, map};
-ghost use Rattle.apl_pool.specs.Pool.{AreValues, IsStopOf};
+ghost use Rattle.std.specs.Prelude.{◌≡◌, ◌+◌, ◌<◌, Ok, IfSome, length, map};
 ghost use Rattle.apl_reduce.specs.declared.item_runs.TheConstants.{LONGEST_RUN};
+ghost use Rattle.apl_reduce.specs.Filled.{IsFilled};
 ghost use Rattle.apl_reduce.specs.Layouts.{IsWithin, inner_number};
 
 use crate::dyadic::Chosen;
@@ -81,8 +81,7 @@ pub(crate) fn fill_runs<T: ElementType + Sync, U: ElementType + Sync, W: Crew>(
 ) -> Result<Vec<i64>, Stop>
     requires within { IsWithin layout.now (length left.now) (length right.now) }
     requires some { 0 < layout.now.items }
-    ensures values { IfOk result (λ v. AreValues (inner_number layout.now (map T.elem_of left.now) (map U.elem_of right.now) f g) layout.now.count v.items) }
-    ensures stop { IfErr result (IsStopOf (inner_number layout.now (map T.elem_of left.now) (map U.elem_of right.now) f g) layout.now.count) }
+    ensures { IsFilled (inner_number layout.now (map T.elem_of left.now) (map U.elem_of right.now) f g) layout.now.count result }
 {
     let items = ProductItems {
         layout,

@@ -12,8 +12,8 @@ fill_columns-requires-clause-within g c κs within =
     let several : layout.columns ≤ layout.count = search rules in
     has_columns layout (length c.args.left.now) (length c.args.right.now) c.requires several
 
-pub returns-clause-values : goal.returns-clause-values
-returns-clause-values g c =
+pub returns : goal.returns
+returns g c =
     let layout = c.args.layout.now in
     let ordered = c.by_columns-ordered.result in
     let is = c.by_columns-ordered.ensures in
@@ -22,20 +22,11 @@ returns-clause-values g c =
     let are : AreByColumns layout c.args.right.now columns = subst (AreByColumns layout c.args.right.now) (sym c.as_slice.ensures.value) c.in_ok-columns.ensures.values in
     let there = inner_number ordered left (map Int columns) c.args.f c.args.g in
     let here = inner_number layout left (map Int c.args.right.now) c.args.f c.args.g in
-    IfOk-weaker c.fill_inner_numbers-2.result (λ v. AreValues there ordered.count v.items) (λ v. AreValues here layout.count v.items)
-    (λ v values. values_same there here layout.count (λ place inside. number_same layout ordered is left c.args.right.now columns are c.args.f c.args.g place) v.items (subst (λ n. AreValues there n v.items) is.count values))
-    c.fill_inner_numbers-2.ensures.values
-
-pub returns-clause-stop : goal.returns-clause-stop
-returns-clause-stop g c =
-    let layout = c.args.layout.now in
-    let ordered = c.by_columns-ordered.result in
-    let is = c.by_columns-ordered.ensures in
-    let left = map Int c.args.left.now in
-    let columns = c.as_slice.result.now in
-    let are : AreByColumns layout c.args.right.now columns = subst (AreByColumns layout c.args.right.now) (sym c.as_slice.ensures.value) c.in_ok-columns.ensures.values in
-    let there = inner_number ordered left (map Int columns) c.args.f c.args.g in
-    let here = inner_number layout left (map Int c.args.right.now) c.args.f c.args.g in
-    IfErr-weaker c.fill_inner_numbers-2.result (IsStopOf there ordered.count) (IsStopOf here layout.count)
-    (λ stop found. stop_same there here layout.count (λ place inside. number_same layout ordered is left c.args.right.now columns are c.args.f c.args.g place) stop (subst (λ n. IsStopOf there n stop) is.count found))
-    c.fill_inner_numbers-2.ensures.stop
+    record {
+      values = IfOk-weaker c.fill_inner_numbers-2.result (λ v. AreValues there ordered.count v.items) (λ v. AreValues here layout.count v.items)
+          (λ v values. values_same there here layout.count (λ place inside. number_same layout ordered is left c.args.right.now columns are c.args.f c.args.g place) v.items (subst (λ n. AreValues there n v.items) is.count values))
+          c.fill_inner_numbers-2.ensures.values;
+      stop = IfErr-weaker c.fill_inner_numbers-2.result (IsStopOf there ordered.count) (IsStopOf here layout.count)
+          (λ stop found. stop_same there here layout.count (λ place inside. number_same layout ordered is left c.args.right.now columns are c.args.f c.args.g place) stop (subst (λ n. IsStopOf there n stop) is.count found))
+          c.fill_inner_numbers-2.ensures.stop;
+    }

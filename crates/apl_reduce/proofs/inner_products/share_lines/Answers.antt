@@ -3,18 +3,14 @@ use Rattle.apl_reduce.specs.Layouts.{inner_number, inner_item}
 use Rattle.apl_reduce.proofs.InnerFolds.{judged_row}
 use Rattle.apl_reduce.proofs.inner_products.share_lines.Goals as goal
 
-pub returns-clause-values : goal.returns-clause-values
-returns-clause-values g c =
+pub returns : goal.returns
+returns g c =
     let layout = c.args.layout.now in
     let left = map g.T.ElementType.elem_of c.args.left.now in
     let right = map g.U.ElementType.elem_of c.args.right.now in
     let pairing = g.P.Dyadic.function c.args.pairing in
-    c.fold_rows.ensures.values (inner_number layout left right c.args.f pairing) (λ place below. judged_row (inner_item layout left right pairing place) c.args.f layout.items c.requires.two)
-
-pub returns-clause-stop : goal.returns-clause-stop
-returns-clause-stop g c =
-    let layout = c.args.layout.now in
-    let left = map g.T.ElementType.elem_of c.args.left.now in
-    let right = map g.U.ElementType.elem_of c.args.right.now in
-    let pairing = g.P.Dyadic.function c.args.pairing in
-    c.fold_rows.ensures.stop (inner_number layout left right c.args.f pairing) (λ place below. judged_row (inner_item layout left right pairing place) c.args.f layout.items c.requires.two)
+    let number = inner_number layout left right c.args.f pairing in
+    record {
+      values = c.fold_rows.ensures.values number (λ place below. judged_row (inner_item layout left right pairing place) c.args.f layout.items c.requires.two);
+      stop = c.fold_rows.ensures.stop number (λ place below. judged_row (inner_item layout left right pairing place) c.args.f layout.items c.requires.two);
+    }
