@@ -1,10 +1,11 @@
 -- Folds of lines at four places, and values that are written there.
-use Rattle.std.proofs.Common.{◌≡◌, ℕ, zero, suc, ℤ, ◌+◌, ◌-◌, ◌*◌, ◌/◌, ◌%◌, ◌<◌, ◌≤◌, List, [], ◌∷◌, length, Result, Ok, slice_index_or, sym, ap, ◌∙◌, arith}
-use Rattle.std.specs.Prelude.{slice_set}
+use Rattle.std.proofs.Common.{◌≡◌, ℕ, zero, suc, ℤ, ◌+◌, ◌-◌, ◌*◌, ◌/◌, ◌%◌, ◌<◌, ◌≤◌, List, length, Result, Ok, slice_index_or, sym, ap, ◌∙◌, arith}
 use Rattle.apl_array.specs.declared.array.Elem.{Elem}
 use Rattle.apl_array.specs.declared.function.ScalarFunction.{ScalarFunction}
 use Rattle.apl_pool.specs.declared.kernel.Fault.{Fault}
 use Rattle.apl_pool.specs.Runs.{AreWritten}
+use Rattle.apl_reduce.specs.declared.four.Four.{Four}
+use Rattle.apl_reduce.specs.FourFolds.{AreNeighbours}
 use Rattle.apl_reduce.specs.Folded.{folded, element_along, fold_at}
 
 -- a line of neighbours, by where its last item is
@@ -21,21 +22,14 @@ line_fold f elements items block inner place start z near begins all =
     ∙ ap (λ n. folded f (element_along elements (start + 0) n) 0 (items - 2)) near
     ∙ all
 
-module _ (outcome : ℕ → Result ℤ Fault) (from : ℕ) (a b c d : ℤ) (first : outcome from ≡ Ok a) (second : outcome (from + 1) ≡ Ok b) (third : outcome (from + 2) ≡ Ok c)
-    (fourth : outcome (from + 3) ≡ Ok d) where
-  each_of_four : (rest : List ℤ) (k : ℕ) (e : ℤ) → k < 4 → outcome (from + k) ≡ Ok (slice_index_or (a ∷ b ∷ c ∷ d ∷ rest) k e)
-  each_of_four rest zero e below = let here : from + zero ≡ from = omega arith in ap outcome here ∙ first
-  each_of_four rest (suc zero) e below = let here : from + suc zero ≡ from + 1 = omega arith in ap outcome here ∙ second
-  each_of_four rest (suc (suc zero)) e below = let here : from + suc (suc zero) ≡ from + 2 = omega arith in ap outcome here ∙ third
-  each_of_four rest (suc (suc (suc zero))) e below = let here : from + suc (suc (suc zero)) ≡ from + 3 = omega arith in ap outcome here ∙ fourth
-  each_of_four rest (suc (suc (suc (suc k)))) e below = absurd (omega (arith, below))
+module _ (outcome : ℕ → Result ℤ Fault) (from : ℕ) (four : Four ℤ) (room : List ℤ) (first : outcome from ≡ Ok four.first) (second : outcome (from + 1) ≡ Ok four.second)
+    (third : outcome (from + 2) ≡ Ok four.third) (fourth : outcome (from + 3) ≡ Ok four.fourth) (written : (d : ℤ) → AreNeighbours (λ k. slice_index_or room k d) 0 four) where
+  each_of_four : (k : ℕ) (d : ℤ) → k < 4 → outcome (from + k) ≡ Ok (slice_index_or room k d)
+  each_of_four zero d below = let here : from + zero ≡ from = omega arith in ap outcome here ∙ first ∙ ap Ok (written d).first
+  each_of_four (suc zero) d below = let here : from + suc zero ≡ from + 1 = omega arith in ap outcome here ∙ second ∙ ap Ok (written d).second
+  each_of_four (suc (suc zero)) d below = let here : from + suc (suc zero) ≡ from + 2 = omega arith in ap outcome here ∙ third ∙ ap Ok (written d).third
+  each_of_four (suc (suc (suc zero))) d below = let here : from + suc (suc (suc zero)) ≡ from + 3 = omega arith in ap outcome here ∙ fourth ∙ ap Ok (written d).fourth
+  each_of_four (suc (suc (suc (suc k)))) d below = absurd (omega (arith, below))
 
-  pub four_written : (room : List ℤ) → 4 ≤ length room → AreWritten outcome from (from + 4) (slice_set (slice_set (slice_set (slice_set room 0 a) 1 b) 2 c) 3 d)
-  four_written [] most = absurd (omega (arith, most))
-  four_written (x ∷ []) most = absurd (omega (arith, most))
-  four_written (x ∷ (y ∷ [])) most = absurd (omega (arith, most))
-  four_written (x ∷ (y ∷ (z ∷ []))) most = absurd (omega (arith, most))
-  four_written (x ∷ (y ∷ (z ∷ (w ∷ rest)))) most = record {
-    room = omega arith;
-    each = λ k e h. each_of_four rest k e (omega (arith, h));
-  }
+  pub four_written : 4 ≤ length room → AreWritten outcome from (from + 4) room
+  four_written most = record { room = omega (arith, most); each = λ k d h. each_of_four k d (omega (arith, h)) }

@@ -32,13 +32,17 @@ module _ (layout : Layout) (left right : List Elem) where
   abbrev pub inner_number : ScalarFunction → ScalarFunction → ℕ → Result ℤ Fault
   inner_number f g place = as_number (judged_items (inner_item g place) f layout.items)
 
--- the product of the numbers that meet as item k, at a place
-abbrev pub product_at : Layout → List ℤ → List ℤ → ℕ → ℕ → ℤ
-product_at layout left right place k = slice_index_or left (left_place layout place k) (pos 0) *ℤ slice_index_or right (right_place layout place k) (pos 0)
+-- the product of the numbers that meet as item k, in a line and a column
+abbrev pub product_in : Layout → List ℤ → List ℤ → (line column k : ℕ) → ℤ
+product_in layout left right line column k = slice_index_or left (line * layout.left.line + k * layout.left.item) (pos 0) *ℤ slice_index_or right (column * layout.right.line + k * layout.right.item) (pos 0)
 
 -- their sum
-abbrev pub sum_at : Layout → List ℤ → List ℤ → ℕ → ℤ
-sum_at layout left right place = sum_of (product_at layout left right place) layout.items
+abbrev pub sum_in : Layout → List ℤ → List ℤ → (line column : ℕ) → ℤ
+sum_in layout left right line column = sum_of (product_in layout left right line column) layout.items
+
+-- the same at a place
+abbrev pub product_at : Layout → List ℤ → List ℤ → ℕ → ℕ → ℤ
+product_at layout left right place = product_in layout left right (place / layout.columns) (place % layout.columns)
 
 -- ---- the right argument in the order of its columns
 

@@ -9,10 +9,11 @@ ghost use Rattle.apl_reduce.specs.Filled.{IsFilled};
 ghost use Rattle.apl_reduce.specs.Folded.{fold_at};
 
 use crate::foldable::{Foldable, Numeric};
-use crate::folded_rows::{fold_last_rows, fold_rows, from_place};
-use crate::four::Four;
+use crate::folded_rows::{Doubts, fold_last_rows, fold_rows, from_place};
+use crate::four::{Four, put_four};
 use crate::item_rows::{ItemRows, PlacedItems};
 use crate::line_folds::{fold_along, fold_lines};
+use crate::near_rows::has_near_rows;
 use crate::outer_products::NARROW;
 use crate::sharing::shares_items;
 use crate::truth_folds::has_truth_runs;
@@ -166,9 +167,10 @@ impl<T: Foldable, F: Function> Kernel for AxisFolds<'_, T, F> {
 }
 
 impl<T: Foldable, F: Function> AxisFolds<'_, T, F> {
-    /// Puts the folds at the places from `from` on, all of them in a row, in place of the totals. It
-    /// says whether no place has a fault.
-    fn fold_run(&self, from: usize, totals: &mut [i64]) -> bool
+    /// Puts the folds at the places from `from` on, all of them in a row, in place of the totals. It says whether no place has a fault, or
+    /// may have one.
+    #[inline(always)]
+    fn fold_with(&self, doubts: Doubts, from: usize, totals: &mut [i64]) -> bool
         requires some { 0 < length totals.old }
         requires within { from + length totals.old ≤ self.now.axis.now.count }
         requires row { from % self.now.axis.now.inner + length totals.old ≤ self.now.axis.now.inner }
@@ -184,7 +186,20 @@ impl<T: Foldable, F: Function> AxisFolds<'_, T, F> {
         let left = from_place(axis.elements, last);
         let right = from_place(axis.elements, last + stride);
         fold_last_rows::<F, T>(left, right, totals)
-            && fold_rows::<F, T>(axis.elements, first, stride, more, totals)
+            && fold_rows::<F, T>(axis.elements, first, stride, more, doubts, totals)
+    }
+
+    /// The same: as if all numbers were near 0, if that is quicker, and anew if one is not.
+    fn fold_run(&self, from: usize, totals: &mut [i64]) -> bool
+        requires some { 0 < length totals.old }
+        requires within { from + length totals.old ≤ self.now.axis.now.count }
+        requires row { from % self.now.axis.now.inner + length totals.old ≤ self.now.axis.now.inner }
+        ensures values { let a = self.now.axis.now in
+            result ≡ true → AreWritten (fold_at F.FUNCTION (map T.elem_of a.elements.now) a.items a.block a.inner) from (from + length totals.old) totals.new }
+        ensures len { length totals.new ≡ length totals.old }
+    {
+        (has_near_rows::<F>() && self.fold_with(Doubts::Numbers, from, totals))
+            || self.fold_with(Doubts::Results, from, totals)
     }
 
     /// Writes the folds at four places, the items of each of which are neighbours. It answers the place after them, or `from` if it
@@ -209,10 +224,7 @@ impl<T: Foldable, F: Function> AxisFolds<'_, T, F> {
             self.axis.items,
         ) {
             Some(folds) => {
-                room[0] = folds.first;
-                room[1] = folds.second;
-                room[2] = folds.third;
-                room[3] = folds.fourth;
+                put_four(folds, room);
                 from + 4
             }
             None => from,

@@ -2,7 +2,7 @@
 ghost use Rattle.std.specs.Prelude.{refl};
 ghost use Rattle.apl_array.specs.Array.{bit};
 
-use crate::folded_rows::{fold_each, fold_number_rows};
+use crate::folded_rows::{Doubts, fold_each, fold_number_rows};
 use crate::folding::fold_many;
 use crate::four::Four;
 use crate::run_folds::{fold_neighbours, has_quick_runs, quick_folds};
@@ -52,6 +52,7 @@ impl Numeric for bool {
 pub(crate) trait Foldable: ElementType {
     ghost use Rattle.std.specs.Prelude.{◌≡◌, ◌+◌, ◌*◌, ◌<◌, ◌≤◌, true, IfSome, Ok, length, map};
     ghost use Rattle.apl_pool.specs.declared.kernel.TheConstants.{MOST_PLACES};
+    ghost use Rattle.apl_reduce.specs.declared.near_rows.TheConstants.{MOST_ROWS};
     ghost use Rattle.apl_reduce.specs.Folded.{folded_onto, element_along};
     ghost use Rattle.apl_reduce.specs.FourFolds.{AreRuns, AreFourFolds};
     ghost use Rattle.apl_reduce.specs.RowFolds.{AreFoldedOnto};
@@ -68,14 +69,17 @@ pub(crate) trait Foldable: ElementType {
         requires most { length elements.now ≤ MOST_PLACES }
         ensures { result ≡ folded_onto F.FUNCTION (element_along (map Self.elem_of elements.now) first stride) 0 count (Ok total) };
 
-    /// Folds the items of `count` more rows on the left into the totals, in one pass over the totals. It says whether no place has a fault.
+    /// Folds the items of `count` more rows on the left into the totals, in one pass over the totals. It says whether no place has a fault, or
+    /// may have one.
     fn fold_pass<F: Function>(
         elements: &[Self],
         first: usize,
         stride: usize,
         count: usize,
+        doubts: Doubts,
         totals: &mut [i64],
     ) -> bool
+        requires few { count ≤ MOST_ROWS }
         requires within { first + count * stride + length totals.old ≤ length elements.now }
         requires most { length elements.now ≤ MOST_PLACES }
         ensures values { result ≡ true → AreFoldedOnto F.FUNCTION (map Self.elem_of elements.now) first stride count totals.old totals.new }
@@ -116,9 +120,10 @@ impl Foldable for i64 {
         first: usize,
         stride: usize,
         count: usize,
+        doubts: Doubts,
         totals: &mut [i64],
     ) -> bool {
-        fold_number_rows::<F, i64>(elements, first, stride, count, totals)
+        fold_number_rows::<F, i64>(elements, first, stride, count, doubts, totals)
     }
 
     #[inline(always)]
@@ -153,9 +158,10 @@ impl Foldable for bool {
         first: usize,
         stride: usize,
         count: usize,
+        doubts: Doubts,
         totals: &mut [i64],
     ) -> bool {
-        fold_number_rows::<F, bool>(elements, first, stride, count, totals)
+        fold_number_rows::<F, bool>(elements, first, stride, count, doubts, totals)
     }
 }
 
@@ -177,6 +183,7 @@ impl Foldable for char {
         first: usize,
         stride: usize,
         count: usize,
+        _doubts: Doubts,
         totals: &mut [i64],
     ) -> bool {
         fold_each::<F, char>(elements, first, stride, count, totals)

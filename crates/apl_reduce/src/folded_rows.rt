@@ -4,12 +4,14 @@ ghost use Rattle.apl_array.specs.declared.array.Elem.TheVariants.{Int};
 ghost use Rattle.apl_pool.specs.Runs.{AreWritten};
 ghost use Rattle.apl_pool.specs.declared.kernel.TheConstants.{MOST_PLACES};
 ghost use Rattle.apl_scalar.specs.Scalar.{dyadic_of};
+ghost use Rattle.apl_reduce.specs.declared.near_rows.TheConstants.{MOST_ROWS};
 ghost use Rattle.apl_reduce.specs.Folded.{folded_onto, element_along, AreFolds};
 ghost use Rattle.apl_reduce.specs.Items.{item_in};
 ghost use Rattle.apl_reduce.specs.RowFolds.{AreFoldedOnto};
 
 use crate::foldable::{Foldable, Numeric};
 use crate::folding::{element_at, fold_items};
+use crate::near_rows::{MOST_ROWS, near_onto};
 use apl_answer::ElementType;
 use apl_array::ScalarFunction;
 use apl_pool::Fault;
@@ -80,10 +82,36 @@ fn has_likely_rows<F: Function>() -> bool {
     )
 }
 
+/// How many rows are folded in one pass by results, and by numbers where there are too few for a longer one.
+const FEW: usize = 4;
+
+/// What the doubts about a likely fold of rows are of.
+#[derive(Clone, Copy)]
+pub(crate) enum Doubts {
+    /// Whether each number is near 0. There are such folds by `+` and `-`, and they are the quickest.
+    Numbers,
+    /// Whether each result is in the range.
+    Results,
+}
+
+impl Doubts {
+    /// How many rows are folded in one pass over the totals, each of which is read and written once for all of them.
+    #[inline(always)]
+    fn rows(self) -> usize
+        ensures some { 0 < result }
+        ensures few { result ≤ MOST_ROWS }
+    {
+        match self {
+            Doubts::Numbers => MOST_ROWS,
+            Doubts::Results => FEW,
+        }
+    }
+}
+
 /// A likely fold of `count` numbers that are `stride` apart from place `first` on, onto what those after them gave, and the doubts whether it
-/// is that. It has no branches if likely results have none.
+/// is that. Each result is judged. It has no branches if likely results have none.
 #[inline(always)]
-fn likely_onto<F: Function, T: Numeric>(
+fn judged_onto<F: Function, T: Numeric>(
     numbers: &[T],
     first: usize,
     stride: usize,
@@ -106,6 +134,27 @@ fn likely_onto<F: Function, T: Numeric>(
     (total, all_doubts)
 }
 
+/// The same with doubts of this kind.
+#[inline(always)]
+fn likely_onto<F: Function, T: Numeric>(
+    numbers: &[T],
+    first: usize,
+    stride: usize,
+    count: usize,
+    doubts: Doubts,
+    total: i64,
+) -> (i64, u64)
+    requires few { count ≤ MOST_ROWS }
+    requires within { first + count * stride < length numbers.now }
+    requires most { length numbers.now ≤ MOST_PLACES }
+    ensures { result.1 ≡ 0 → folded_onto F.FUNCTION (element_along (map T.elem_of numbers.now) first stride) 0 count (Ok total) ≡ Ok result.0 }
+{
+    match doubts {
+        Doubts::Numbers => near_onto::<F, T>(numbers, first, stride, count, total),
+        Doubts::Results => judged_onto::<F, T>(numbers, first, stride, count, total),
+    }
+}
+
 /// Folds the numbers of `count` more rows on the left into the totals, place by place. It says whether all results are sure. If likely
 /// results have no branches, and `count` is constant, a processor does several places at once.
 #[inline(always)]
@@ -114,8 +163,10 @@ fn fold_likely<F: Function, T: Numeric>(
     first: usize,
     stride: usize,
     count: usize,
+    doubts: Doubts,
     totals: &mut [i64],
 ) -> bool
+    requires few { count ≤ MOST_ROWS }
     requires within { first + count * stride + length totals.old ≤ length numbers.now }
     requires most { length numbers.now ≤ MOST_PLACES }
     ensures values { result ≡ true → AreFoldedOnto F.FUNCTION (map T.elem_of numbers.now) first stride count totals.old totals.new }
@@ -123,9 +174,16 @@ fn fold_likely<F: Function, T: Numeric>(
 {
     let mut all_doubts = 0;
     for j in 0..totals.len() {
-        let (total, doubts) = likely_onto::<F, T>(numbers, first + j, stride, count, totals[j]);
+        let (total, own_doubts) = likely_onto::<F, T>(
+            numbers,
+            first + j,
+            stride,
+            count,
+            doubts,
+            totals[j],
+        );
         put(totals, j, total);
-        all_doubts |= doubts;
+        all_doubts |= own_doubts;
     }
     all_doubts == 0
 }
@@ -160,30 +218,30 @@ pub(crate) fn fold_number_rows<F: Function, T: Numeric>(
     first: usize,
     stride: usize,
     count: usize,
+    doubts: Doubts,
     totals: &mut [i64],
 ) -> bool
+    requires few { count ≤ MOST_ROWS }
     requires within { first + count * stride + length totals.old ≤ length numbers.now }
     requires most { length numbers.now ≤ MOST_PLACES }
     ensures values { result ≡ true → AreFoldedOnto F.FUNCTION (map T.elem_of numbers.now) first stride count totals.old totals.new }
     ensures len { length totals.new ≡ length totals.old }
 {
     if has_likely_rows::<F>() {
-        fold_likely::<F, T>(numbers, first, stride, count, totals)
+        fold_likely::<F, T>(numbers, first, stride, count, doubts, totals)
     } else {
         fold_each::<F, T>(numbers, first, stride, count, totals)
     }
 }
 
-/// How many rows are folded in one pass over the totals, each of which is read and written once for all of them.
-const TURN: usize = 4;
-
-/// Folds the items of the first `more` rows into the totals of those after them. It says whether no place has a fault.
+/// Folds the items of the first `more` rows into the totals of those after them. It says whether no place has a fault, or may have one.
 #[inline(always)]
 pub(crate) fn fold_rows<F: Function, T: Foldable>(
     elements: &[T],
     first: usize,
     stride: usize,
     more: usize,
+    doubts: Doubts,
     totals: &mut [i64],
 ) -> bool
     requires within { first + more * stride + length totals.old ≤ length elements.now }
@@ -192,14 +250,18 @@ pub(crate) fn fold_rows<F: Function, T: Foldable>(
     ensures folds { result ≡ true → AreFolds F.FUNCTION (map T.elem_of elements.now) first stride 0 more totals.new }
     ensures len { length totals.new ≡ length totals.old }
 {
+    let rows = doubts.rows();
     let mut row = more;
     while row > 0 {
-        let folded = if row < TURN {
-            row -= 1;
-            T::fold_pass::<F>(elements, first + row * stride, stride, 1, totals)
+        let folded = if row >= rows {
+            row -= rows;
+            T::fold_pass::<F>(elements, first + row * stride, stride, rows, doubts, totals)
+        } else if row >= FEW {
+            row -= FEW;
+            T::fold_pass::<F>(elements, first + row * stride, stride, FEW, doubts, totals)
         } else {
-            row -= TURN;
-            T::fold_pass::<F>(elements, first + row * stride, stride, TURN, totals)
+            row -= 1;
+            T::fold_pass::<F>(elements, first + row * stride, stride, 1, doubts, totals)
         };
         if !folded {
             return false;

@@ -23,7 +23,7 @@ use crate::shapes::{characters_of, joined_shape};
 use crate::sharing::shares_items;
 use crate::sums::Sums;
 use apl_answer::{ElementType, OpFault, array_from_fill, numbers_of};
-use apl_array::{Array, ScalarFunction};
+use apl_array::{Array, ScalarFunction, range_is_decided};
 use apl_divisor::Divisor;
 use apl_pool::{Crew, Cut, Fault, Gate, Kernel, Pool, Stop, Workers, fill};
 use apl_scalar::Prim;
@@ -31,6 +31,7 @@ use apl_scalar::function_types::{
     And, Ceiling, Equal, Floor, Function, NotEqual, Or, Plus, Star, Times,
 };
 use apl_summary::fold_rows;
+use apl_walk::ByLines;
 use std::alloc::Global;
 use std::marker::PhantomData;
 use std::thread::Threads;
@@ -160,15 +161,15 @@ fn fill_sums<W: Crew>(
     if !sums_are_small(left_most, right_most, layout.items) {
         return typed::<i64, Plus, Times, W>(workers, layout, left, right);
     }
+    range_is_decided();
     let is_near = layout.left.item == 1 && layout.right.item == 1;
-    let kernel = Sums {
+    let sums = Sums {
         left,
         right,
         layout,
-        columns: Divisor::new(layout.columns),
         is_narrow: is_near && is_narrow(left_most) && is_narrow(right_most),
     };
-    fill(workers, &kernel)
+    fill(workers, &ByLines::new(sums))
 }
 
 /// An inner product of numbers, compiled for each of the usual pairs of functions. Those by `∧.=` and `∨.≠` are quicker item by item than

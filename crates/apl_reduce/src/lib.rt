@@ -32,6 +32,7 @@ mod laws;
 mod layouts;
 mod line_folds;
 mod magnitudes;
+mod near_rows;
 mod near_sums;
 mod ones;
 mod outer_products;

@@ -12,7 +12,7 @@ pub(crate) const MOST_PAIRS: usize = 4 * MOST_QUARTER;
 pub(crate) const MOST_QUARTER: usize = 2048;
 
 /// Numbers are near 0 from the negative of this one up to before it.
-const NEAR: u64 = 1 << 48;
+pub(crate) const NEAR: u64 = 1 << 48;
 
 /// The sums of the first numbers of pairs and of the second ones.
 #[derive(Clone, Copy)]
@@ -25,7 +25,7 @@ pub(crate) struct PairSums {
 
 /// How far a number is above the least one that is near 0, modulo 2^64. So those below it are farther than all others.
 #[inline(always)]
-fn above_least(number: i64) -> u64
+pub(crate) fn above_least(number: i64) -> u64
     ensures { result < 2 ^ 49 → pos result ≡ number +ℤ pos (2 ^ 48) }
 {
     number.cast_unsigned().wrapping_add(NEAR)

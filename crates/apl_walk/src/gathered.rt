@@ -19,6 +19,9 @@ use apl_answer::{ElementType, OpFault, fill_array};
 use apl_array::{Array, Elements, Shape};
 use apl_pool::{Crew, write_each};
 
+/// How many indexes of a line are written before those of the next one, where neighbours in it are read far apart and those below them nearby.
+const TILE: usize = 256;
+
 /// A walk over an argument, of whose last axis the map is known by its type.
 #[derive(Drop)]
 pub struct Gathered<'a, T, M: AxisMap> {
@@ -73,8 +76,12 @@ impl<T: ElementType, M: AxisMap> Lined for Gathered<'_, T, M> {
         self.last.extent()
     }
 
-    fn is_spread(&self) -> bool {
-        self.last.is_spread()
+    fn tile(&self) -> usize {
+        if self.last.is_spread() {
+            TILE
+        } else {
+            self.last.extent()
+        }
     }
 
     #[inline(always)]
@@ -97,6 +104,7 @@ impl<T: ElementType, M: AxisMap> Lined for Gathered<'_, T, M> {
         let element = |k: usize| -> T
             requires line { line ≤ MOST_PLACES }
             requires index { from + k < M.extent self.now.last }
+            requires place { line * M.extent self.now.last + (from + k) < self.now.count }
             ensures { result ≡ value_or self.entry.now.elements.now self.entry.now.fill (and_step (M.step self.entry.now.last (from + k)) (walked self.entry.now.outer.now line)) }
         { self.at(line, from + k) };
         write_each(count, element, room);

@@ -7,9 +7,6 @@ ghost use Rattle.apl_walk.specs.Columns.{HasColumns};
 use apl_divisor::Divisor;
 use apl_pool::{Fault, Kernel};
 
-/// How many indexes of a line are written before those of the next one, if they are spread.
-const TILE: usize = 256;
-
 /// What there is at each index of lines that are equally long.
 pub trait Lined {
     /// What there is at an index.
@@ -33,20 +30,24 @@ pub trait Lined {
         ensures some { 0 < result }
         ensures most { result ≤ MOST_PLACES };
 
-    /// Whether neighbours in a line are read far apart from each other, and those below them nearby.
-    fn is_spread(&self) -> bool {
-        false
+    /// How many indexes of a line are written before those of the next one.
+    fn tile(&self) -> usize
+        ensures { 0 < result }
+    {
+        self.extent()
     }
 
     fn at(&self, line: usize, index: usize) -> Self::Out
         requires line { line ≤ MOST_PLACES }
         requires index { index < extent self.now }
+        requires place { line * extent self.now + index < place_count self.now }
         ensures { result ≡ value self.now line index };
 
     /// Writes the values at `count` indexes from `from` on to the front of a room.
     fn write(&self, line: usize, from: usize, count: usize, room: &mut [Self::Out])
         requires line { line ≤ MOST_PLACES }
         requires within { from + count ≤ extent self.now }
+        requires places { line * extent self.now + (from + count) ≤ place_count self.now }
         requires room { count ≤ length room.old }
         ensures values { BeginsWith (λ k. value self.now line (from + k)) count room.new }
         ensures len { length room.new ≡ length room.old };
@@ -74,7 +75,7 @@ impl<L: Lined> ByLines<L> {
         ByLines {
             extent: Divisor::new(extent),
             count: lines.count(),
-            tile: if lines.is_spread() { TILE } else { extent },
+            tile: lines.tile(),
             lines,
         }
     }
@@ -104,6 +105,7 @@ impl<L: Lined> ByLines<L> {
     /// Writes, line by line, the values at those places of a run whose indexes are from `first` up to before `end`.
     #[inline(always)]
     fn write_columns(&self, from: usize, to: usize, first: usize, end: usize, room: &mut [L::Out])
+        requires places { to ≤ L.place_count self.now.lines }
         requires most { to ≤ MOST_PLACES }
         requires room { from + length room.old ≡ to }
         requires order { first < end }

@@ -1,4 +1,4 @@
-use Rattle.std.proofs.Common.{◌≡◌, ℕ, ◌+◌, ◌*◌, ◌/◌, ◌%◌, ◌<◌, ◌≤◌, ℤ, Ok, length, map, to_z, of_z, w64, sym, ap, subst, ◌∙◌, arith, rules}
+use Rattle.std.proofs.Common.{ℕ, ◌+◌, ◌*◌, ◌/◌, ◌%◌, ◌<◌, ◌≤◌, length, map, sym, subst, arith}
 use Rattle.apl_reduce.specs.Folded.{fold_at}
 use Rattle.apl_reduce.proofs.FourPlaces.{line_within, line_fold, four_written}
 use Rattle.apl_reduce.proofs.axis_items.AxisFolds.write_lines.Goals as goal
@@ -26,13 +26,9 @@ returns-in-Some-clause-values g c =
     let elements = map g.T.ElementType.elem_of axis.elements.now in
     let starts = c.four_lines.ensures in
     let folds = c.in-Some.ensures in
-    let stored_first : to_z w64 (of_z w64 c.in-Some.folds.first) ≡ c.in-Some.folds.first = search rules in
-    let stored_second : to_z w64 (of_z w64 c.in-Some.folds.second) ≡ c.in-Some.folds.second = search rules in
-    let stored_third : to_z w64 (of_z w64 c.in-Some.folds.third) ≡ c.in-Some.folds.third = search rules in
-    let stored_fourth : to_z w64 (of_z w64 c.in-Some.folds.fourth) ≡ c.in-Some.folds.fourth = search rules in
-    four_written (fold_at f elements axis.items axis.block axis.inner) from _ _ _ _
-    (line_fold f elements axis.items axis.block axis.inner from _ _ c.requires.near starts.first folds.first ∙ ap (λ (z : ℤ). Ok z) (sym stored_first))
-    (line_fold f elements axis.items axis.block axis.inner (from + 1) _ _ c.requires.near starts.second folds.second ∙ ap (λ (z : ℤ). Ok z) (sym stored_second))
-    (line_fold f elements axis.items axis.block axis.inner (from + 2) _ _ c.requires.near starts.third folds.third ∙ ap (λ (z : ℤ). Ok z) (sym stored_third))
-    (line_fold f elements axis.items axis.block axis.inner (from + 3) _ _ c.requires.near starts.fourth folds.fourth ∙ ap (λ (z : ℤ). Ok z) (sym stored_fourth))
-    c.args.room.now (omega arith)
+    four_written (fold_at f elements axis.items axis.block axis.inner) from c.in-Some.folds c.put_four.new.room
+    (line_fold f elements axis.items axis.block axis.inner from _ _ c.requires.near starts.first folds.first)
+    (line_fold f elements axis.items axis.block axis.inner (from + 1) _ _ c.requires.near starts.second folds.second)
+    (line_fold f elements axis.items axis.block axis.inner (from + 2) _ _ c.requires.near starts.third folds.third)
+    (line_fold f elements axis.items axis.block axis.inner (from + 3) _ _ c.requires.near starts.fourth folds.fourth)
+    c.put_four.ensures.values (omega arith)

@@ -1,6 +1,6 @@
-use Rattle.std.proofs.Common.{◌≡◌, ◌+◌, ◌*◌, ◌/◌, ◌%◌, ◌*ℤ◌, ◌+ℤ◌, ℕ, ℤ, pos, suc, get_or, to_z, of_z, w64, FitsSigned, refl, subst, ap, ◌∙◌, sym, arith}
+use Rattle.std.proofs.Common.{◌≡◌, ◌+◌, ◌*◌, ◌*ℤ◌, ◌+ℤ◌, ℕ, ℤ, pos, suc, get_or, to_z, of_z, w64, FitsSigned, refl, subst, ap, ◌∙◌, sym, arith}
 use Rattle.std.proofs.lemmas.Int.{to_z-of_z}
-use Rattle.apl_reduce.specs.Layouts.{left_place, right_place, product_at}
+use Rattle.apl_reduce.specs.Layouts.{product_in}
 use Rattle.apl_reduce.specs.Magnitudes.{sum_of}
 use Rattle.apl_reduce.proofs.Distances.{product_fits, sum_fits, one_more}
 use Rattle.apl_reduce.proofs.sums.Sums.sum_at.Goals as goal
@@ -9,15 +9,15 @@ use Rattle.apl_reduce.proofs.sums.Sums.sum_at.Goals as goal
 abbrev left_number : goal.After-right-1 → ℤ
 left_number c =
     let sums = c.args.self.now in
-    get_or sums.left.now (c.quotient.result * sums.layout.now.left.line + c.loop-k.k * sums.layout.now.left.item) (pos 0)
+    get_or sums.left.now (c.starts-left_start.result.0 + c.loop-k.k * sums.layout.now.left.item) (pos 0)
 
 abbrev right_number : goal.After-right-1 → ℤ
 right_number c =
     let sums = c.args.self.now in
-    get_or sums.right.now (c.remainder.result * sums.layout.now.right.line + c.loop-k.k * sums.layout.now.right.item) (pos 0)
+    get_or sums.right.now (c.starts-left_start.result.1 + c.loop-k.k * sums.layout.now.right.item) (pos 0)
 
 abbrev number : goal.After-right-1 → ℕ → ℤ
-number c = product_at c.args.self.now.layout.now c.args.self.now.left.now c.args.self.now.right.now c.args.place
+number c = product_in c.args.self.now.layout.now c.args.self.now.left.now c.args.self.now.right.now c.args.line c.args.column
 
 left_read : (c : goal.After-right-1) → to_z w64 (of_z w64 (left_number c)) ≡ left_number c
 left_read c = grind (arith, to_z-of_z)
@@ -29,21 +29,19 @@ fits : (c : goal.After-right-1) → FitsSigned w64 (left_number c *ℤ right_num
 fits c =
     let sums = c.args.self.now in
     let layout = sums.layout.now in
-    product_fits sums.left.now sums.right.now layout.items sums.small (c.quotient.result * layout.left.line + c.loop-k.k * layout.left.item)
-    (c.remainder.result * layout.right.line + c.loop-k.k * layout.right.item) (omega (arith, c.loop-k-test.true))
+    product_fits sums.left.now sums.right.now layout.items sums.small (c.starts-left_start.result.0 + c.loop-k.k * layout.left.item)
+    (c.starts-left_start.result.1 + c.loop-k.k * layout.right.item) (omega (arith, c.loop-k-test.true))
 
 meets : (c : goal.After-right-1) → left_number c *ℤ right_number c ≡ number c c.loop-k.k
 meets c =
-    let sums = c.args.self.now in
-    let row = c.quotient.ensures.value ∙ ap (λ d. c.args.place / d) sums.columns_are in
-    let column = c.remainder.ensures.value ∙ ap (λ d. c.args.place % d) sums.columns_are in
-    rw (row, column) refl
+    let starts = c.starts-left_start.ensures in
+    rw (starts.left, starts.right) refl
 
 sum_fits_next : (c : goal.After-right-1) → FitsSigned w64 (sum_of (number c) (suc c.loop-k.k))
 sum_fits_next c =
     let sums = c.args.self.now in
     let layout = sums.layout.now in
-    sum_fits sums.left.now sums.right.now layout.items sums.small (left_place layout c.args.place) (right_place layout c.args.place) (suc c.loop-k.k) (omega (arith, c.loop-k-test.true))
+    sum_fits sums.left.now sums.right.now layout.items sums.small (λ m. c.args.line * layout.left.line + m * layout.left.item) (λ m. c.args.column * layout.right.line + m * layout.right.item) (suc c.loop-k.k) (omega (arith, c.loop-k-test.true))
 
 sum_is_next : (c : goal.After-right-1) → to_z w64 c.loop-k.total-bits +ℤ to_z w64 (of_z w64 (to_z w64 (of_z w64 (left_number c)) *ℤ to_z w64 (of_z w64 (right_number c)))) ≡ sum_of (number c) (suc c.loop-k.k)
 sum_is_next c = one_more (number c) c.loop-k.k _ (left_number c) (right_number c) _ _ c.loop-k.invariant (left_read c) (right_read c) (meets c) (fits c)

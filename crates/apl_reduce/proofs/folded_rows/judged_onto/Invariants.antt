@@ -1,6 +1,6 @@
 use Rattle.std.proofs.Common.{◌≡◌, ◌+◌, ◌-◌, ◌*◌, Ok, map}
 use Rattle.apl_reduce.specs.Folded.{folded_onto, element_along}
-use Rattle.apl_reduce.proofs.folded_rows.likely_onto.Given as goal
+use Rattle.apl_reduce.proofs.folded_rows.judged_onto.Given as goal
 
 abbrev pub invariant-loop-done : goal.invariant-loop-done
 invariant-loop-done g l = record {

@@ -1,6 +1,6 @@
 use Rattle.std.proofs.Common.{◌+◌, ◌-◌, ◌*◌, length, refl, sym, ap, ◌∙◌, arith, length-drop}
 use Rattle.apl_reduce.proofs.FoldedRows.{last_folds, written_folds, last_row_within}
-use Rattle.apl_reduce.proofs.axis_items.AxisFolds.fold_run.Goals as goal
+use Rattle.apl_reduce.proofs.axis_items.AxisFolds.fold_with.Goals as goal
 
 pub fold_last_rows-requires-clause-right : goal.fold_last_rows-requires-clause-right
 fold_last_rows-requires-clause-right g c =

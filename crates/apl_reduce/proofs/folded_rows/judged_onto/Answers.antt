@@ -6,7 +6,7 @@ use Rattle.apl_array.specs.declared.array.Elem.TheVariants.{Int}
 use Rattle.apl_scalar.specs.Scalar.{dyadic_numbers}
 use Rattle.apl_reduce.specs.Folded.{element_along}
 use Rattle.apl_reduce.proofs.Folds.{reached, one_onto, one_step_less}
-use Rattle.apl_reduce.proofs.folded_rows.likely_onto.Goals as goal
+use Rattle.apl_reduce.proofs.folded_rows.judged_onto.Goals as goal
 
 pub loop-done-preserved : goal.loop-done-preserved
 loop-done-preserved g c =
