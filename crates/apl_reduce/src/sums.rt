@@ -103,7 +103,7 @@ impl Sums<'_> {
     }
 
     /// The same in four neighbouring columns of a line, in one pass over its items.
-    #[inline(never)]
+    #[inline(always)]
     fn narrow_sums_at(&self, line: usize, column: usize) -> Four<i64>
         requires columns { column + 4 ≤ self.now.layout.now.columns }
         requires places { line * self.now.layout.now.columns + (column + 4) ≤ self.now.layout.now.count }
