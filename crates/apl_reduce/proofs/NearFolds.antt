@@ -1,5 +1,5 @@
--- Folds of pairs of numbers so near 0 that no partial result leaves the range.
-use Rattle.std.proofs.Common.{◌≡◌, ◌↔◌, ℕ, zero, suc, ℤ, pos, ◌+◌, ◌*◌, ◌^◌, ◌<◌, ◌≤◌, ◌+ℤ◌, ◌-ℤ◌, FitsSigned, w64, true, List, map, Ok, sym, ap, subst, ◌∙◌, arith}
+-- Folds of numbers so near 0 that no partial result leaves the range.
+use Rattle.std.proofs.Common.{◌≡◌, ◌↔◌, ℕ, zero, suc, ℤ, pos, ◌+◌, ◌*◌, ◌^◌, ◌<◌, ◌≤◌, ◌+ℤ◌, ◌-ℤ◌, FitsSigned, w64, true, List, map, Ok, sym, ap, ◌∙◌, arith}
 use Rattle.std.specs.Prelude.{unsigned_abs, slice_index_or}
 use Rattle.std.proofs.Math.ListN.{get_or-map}
 use Rattle.std.proofs.lemmas.Int.{ints, fits_signed_from_abs}
@@ -10,47 +10,13 @@ use Rattle.apl_array.specs.Range.{IsInRange, in_range}
 use Rattle.apl_scalar.specs.Scalar.{exact}
 use Rattle.apl_reduce.specs.Folded.{number_step, folded_onto}
 use Rattle.apl_reduce.specs.Items.{item_in}
-use Rattle.apl_reduce.specs.Magnitudes.{sum_of, ArePairSums}
+use Rattle.apl_reduce.specs.Magnitudes.{sum_of, IsNearSum}
 use Rattle.apl_reduce.proofs.Adding.{exact_fits}
 use Rattle.apl_reduce.proofs.Distances.{sum_near}
 use Rattle.apl_reduce.proofs.Folds.{two_runs}
 
-difference_near : (x y : ℤ) → unsigned_abs (x -ℤ y) ≤ unsigned_abs x + unsigned_abs y
+pub difference_near : (x y : ℤ) → unsigned_abs (x -ℤ y) ≤ unsigned_abs x + unsigned_abs y
 difference_near x y = omega (arith, ints)
-
--- the sum of the first n numbers, each of which is near 0
-pub near_sum : (number : ℕ → ℤ) (most n : ℕ) → ((k : ℕ) → k < n → unsigned_abs (number k) ≤ most) → unsigned_abs (sum_of number n) ≤ n * most
-near_sum number most zero near = omega arith
-near_sum number most (suc n) near =
-    omega (arith, sum_near (sum_of number n) (number n), near n (omega arith), near_sum number most n (λ k below. near k (omega arith)))
-
--- ---- the sums of pairs
-
-module _ (numbers : List ℤ) (first k : ℕ) (firsts seconds : ℤ) (sums : ArePairSums numbers first k firsts seconds) (few : k ≤ 8192) where
-  pub firsts_near : unsigned_abs firsts ≤ 2 ^ 61
-  firsts_near =
-      let so_far = near_sum (λ j. slice_index_or numbers (first + 2 * j) (pos 0)) (2 ^ 48) k (λ j below. sums.near (2 * j) (omega arith)) in
-      let total : unsigned_abs firsts ≤ k * 2 ^ 48 = subst (λ z. unsigned_abs z ≤ k * 2 ^ 48) (sym sums.firsts_are) so_far in
-      omega (arith, total)
-
-  pub seconds_near : unsigned_abs seconds ≤ 2 ^ 61
-  seconds_near =
-      let place : (j : ℕ) → first + (2 * j + 1) ≡ first + 2 * j + 1 = λ j. omega arith in
-      let so_far = near_sum (λ j. slice_index_or numbers (first + 2 * j + 1) (pos 0)) (2 ^ 48) k
-      (λ j below. subst (λ i. unsigned_abs (slice_index_or numbers i (pos 0)) ≤ 2 ^ 48) (place j) (sums.near (2 * j + 1) (omega arith))) in
-      let total : unsigned_abs seconds ≤ k * 2 ^ 48 = subst (λ z. unsigned_abs z ≤ k * 2 ^ 48) (sym sums.seconds_are) so_far in
-      omega (arith, total)
-
-  -- 64 bits hold both with a total that is near 0
-  module _ (total : ℤ) (small : unsigned_abs total < 2 ^ 62) where
-    pub total_firsts_fit : FitsSigned w64 (total +ℤ firsts)
-    total_firsts_fit = fits_signed_from_abs w64 (total +ℤ firsts) (omega (arith, sum_near total firsts, firsts_near))
-
-    pub sum_fits : FitsSigned w64 (total +ℤ firsts +ℤ seconds)
-    sum_fits = fits_signed_from_abs w64 (total +ℤ firsts +ℤ seconds) (omega (arith, sum_near total firsts, sum_near (total +ℤ firsts) seconds, firsts_near, seconds_near))
-
-    pub difference_fits : FitsSigned w64 (total +ℤ firsts -ℤ seconds)
-    difference_fits = fits_signed_from_abs w64 (total +ℤ firsts -ℤ seconds) (omega (arith, sum_near total firsts, difference_near (total +ℤ firsts) seconds, firsts_near, seconds_near))
 
 -- ---- folds
 
@@ -68,15 +34,9 @@ module _ (decided : (z : ℤ) → (in_range z ≡ true) ↔ IsInRange z) (bits :
     is_number : (place : ℕ) → item place ≡ Int (number place)
     is_number place = get_or-map Int numbers place (pos 0)
 
-    -- one pair onto a total
-    plus_pair : (place next : ℕ) (t : ℤ) → next ≡ suc place → unsigned_abs (number place) + unsigned_abs (number next) + unsigned_abs t < 2 ^ 63
-        → folded_onto Plus item place (suc (suc zero)) (Ok t) ≡ Ok (number place +ℤ (number next +ℤ t))
-    plus_pair place next t after small =
-        let own = sum_near (number next) t in
-        ap (λ x. number_step Plus x (number_step Plus (item (suc place)) (Ok t))) (is_number place)
-        ∙ ap (number_step Plus (Int (number place)))
-        (ap (λ i. number_step Plus (item i) (Ok t)) (sym after) ∙ ap (λ x. number_step Plus x (Ok t)) (is_number next) ∙ near_exact (number next +ℤ t) (omega (arith, own)))
-        ∙ near_exact (number place +ℤ (number next +ℤ t)) (omega (arith, own, sum_near (number place) (number next +ℤ t)))
+    -- one number onto a total, and one pair
+    plus_one : (place : ℕ) (t : ℤ) → unsigned_abs (number place) + unsigned_abs t < 2 ^ 63 → folded_onto Plus item place (suc zero) (Ok t) ≡ Ok (number place +ℤ t)
+    plus_one place t small = ap (λ x. number_step Plus x (Ok t)) (is_number place) ∙ near_exact (number place +ℤ t) (omega (arith, small, sum_near (number place) t))
 
     minus_pair : (place next : ℕ) (t : ℤ) → next ≡ suc place → unsigned_abs (number place) + unsigned_abs (number next) + unsigned_abs t < 2 ^ 63
         → folded_onto Minus item place (suc (suc zero)) (Ok t) ≡ Ok (number place -ℤ (number next -ℤ t))
@@ -88,55 +48,54 @@ module _ (decided : (z : ℤ) → (in_range z ≡ true) ↔ IsInRange z) (bits :
         ∙ near_exact (number place -ℤ (number next -ℤ t)) (omega (arith, own, difference_near (number place) (number next -ℤ t)))
 
     module _ (first : ℕ) where
-      abbrev firsts : ℕ → ℤ
-      firsts n = sum_of (λ k. number (first + 2 * k)) n
+      abbrev sum : (start step n : ℕ) → ℤ
+      sum start step n = sum_of (λ k. number (start + k * step)) n
 
-      abbrev seconds : ℕ → ℤ
-      seconds n = sum_of (λ k. number (first + 2 * k + 1)) n
+      abbrev AreNear : (start step n : ℕ) → Type 0
+      AreNear start step n = (k : ℕ) → k < n → unsigned_abs (number (start + k * step)) ≤ 2 ^ 46
 
-      abbrev AreNear : ℕ → Type 0
-      AreNear n = (k : ℕ) → k < 2 * n → unsigned_abs (number (first + k)) ≤ 2 ^ 48
+      plus_run : (n : ℕ) (t : ℤ) → AreNear first 1 n → unsigned_abs t + n * 2 ^ 46 < 2 ^ 63 → folded_onto Plus item first n (Ok t) ≡ Ok (t +ℤ sum first 1 n)
+      plus_run zero t near small = let same : t ≡ t +ℤ pos 0 = omega (arith, ints) in ap Ok same
+      plus_run (suc n) t near small =
+          let x = number (first + n * 1) in
+          let all : suc n ≡ n + suc zero = omega arith in
+          let place : first + n ≡ first + n * 1 = omega arith in
+          let own = near n (omega arith) in
+          let grouped : (x +ℤ t) +ℤ sum first 1 n ≡ t +ℤ (sum first 1 n +ℤ x) = omega (arith, ints) in
+          ap (λ m. folded_onto Plus item first m (Ok t)) all ∙ two_runs Plus item first n (suc zero) (Ok t)
+          ∙ ap (λ i. folded_onto Plus item first n (folded_onto Plus item i (suc zero) (Ok t))) place
+          ∙ ap (folded_onto Plus item first n) (plus_one (first + n * 1) t (omega (arith, own, small)))
+          ∙ plus_run n (x +ℤ t) (λ k below. near k (omega arith)) (omega (arith, own, sum_near x t, small))
+          ∙ ap Ok grouped
 
-      second_near : (n : ℕ) → AreNear (suc n) → unsigned_abs (number (first + 2 * n + 1)) ≤ 2 ^ 48
-      second_near n near = let place : first + (2 * n + 1) ≡ first + 2 * n + 1 = omega arith in subst (λ i. unsigned_abs (number i) ≤ 2 ^ 48) place (near (2 * n + 1) (omega arith))
-
-      plus_pairs : (n : ℕ) (t : ℤ) → AreNear n → unsigned_abs t + n * 2 ^ 49 < 2 ^ 63 → folded_onto Plus item first (2 * n) (Ok t) ≡ Ok (t +ℤ firsts n +ℤ seconds n)
-      plus_pairs zero t near small = let same : t ≡ t +ℤ pos 0 +ℤ pos 0 = omega (arith, ints) in ap Ok same
-      plus_pairs (suc n) t near small =
-          let place = first + 2 * n in
-          let x = number place in
-          let y = number (place + 1) in
+      minus_pairs : (n : ℕ) (t : ℤ) → AreNear first 2 n → AreNear (first + 1) 2 n → unsigned_abs t + n * 2 ^ 47 < 2 ^ 63
+          → folded_onto Minus item first (2 * n) (Ok t) ≡ Ok (t +ℤ (sum first 2 n -ℤ sum (first + 1) 2 n))
+      minus_pairs zero t firsts_near seconds_near small = let same : t ≡ t +ℤ (pos 0 -ℤ pos 0) = omega (arith, ints) in ap Ok same
+      minus_pairs (suc n) t firsts_near seconds_near small =
+          let x = number (first + n * 2) in
+          let y = number (first + 1 + n * 2) in
           let all : 2 * suc n ≡ 2 * n + suc (suc zero) = omega arith in
-          let left = near (2 * n) (omega arith) in
-          let right = second_near n near in
-          let own = sum_near y t in
-          let both = sum_near x (y +ℤ t) in
-          let sum : (x +ℤ (y +ℤ t)) +ℤ firsts n +ℤ seconds n ≡ t +ℤ (firsts n +ℤ x) +ℤ (seconds n +ℤ y) = omega (arith, ints) in
-          ap (λ m. folded_onto Plus item first m (Ok t)) all ∙ two_runs Plus item first (2 * n) (suc (suc zero)) (Ok t)
-          ∙ ap (folded_onto Plus item first (2 * n)) (plus_pair place (place + 1) t (omega arith) (omega (arith, left, right)))
-          ∙ plus_pairs n (x +ℤ (y +ℤ t)) (λ k below. near k (omega arith)) (omega (arith, left, right, own, both))
-          ∙ ap Ok sum
-
-      minus_pairs : (n : ℕ) (t : ℤ) → AreNear n → unsigned_abs t + n * 2 ^ 49 < 2 ^ 63 → folded_onto Minus item first (2 * n) (Ok t) ≡ Ok (t +ℤ firsts n -ℤ seconds n)
-      minus_pairs zero t near small = let same : t ≡ t +ℤ pos 0 -ℤ pos 0 = omega (arith, ints) in ap Ok same
-      minus_pairs (suc n) t near small =
-          let place = first + 2 * n in
-          let x = number place in
-          let y = number (place + 1) in
-          let all : 2 * suc n ≡ 2 * n + suc (suc zero) = omega arith in
-          let left = near (2 * n) (omega arith) in
-          let right = second_near n near in
+          let place : first + 2 * n ≡ first + n * 2 = omega arith in
+          let left = firsts_near n (omega arith) in
+          let right = seconds_near n (omega arith) in
           let own = difference_near y t in
           let both = difference_near x (y -ℤ t) in
-          let sum : (x -ℤ (y -ℤ t)) +ℤ firsts n -ℤ seconds n ≡ t +ℤ (firsts n +ℤ x) -ℤ (seconds n +ℤ y) = omega (arith, ints) in
+          let grouped : (x -ℤ (y -ℤ t)) +ℤ (sum first 2 n -ℤ sum (first + 1) 2 n) ≡ t +ℤ ((sum first 2 n +ℤ x) -ℤ (sum (first + 1) 2 n +ℤ y)) = omega (arith, ints) in
           ap (λ m. folded_onto Minus item first m (Ok t)) all ∙ two_runs Minus item first (2 * n) (suc (suc zero)) (Ok t)
-          ∙ ap (folded_onto Minus item first (2 * n)) (minus_pair place (place + 1) t (omega arith) (omega (arith, left, right)))
-          ∙ minus_pairs n (x -ℤ (y -ℤ t)) (λ k below. near k (omega arith)) (omega (arith, left, right, own, both))
-          ∙ ap Ok sum
+          ∙ ap (λ i. folded_onto Minus item first (2 * n) (folded_onto Minus item i (suc (suc zero)) (Ok t))) place
+          ∙ ap (folded_onto Minus item first (2 * n)) (minus_pair (first + n * 2) (first + 1 + n * 2) t (omega arith) (omega (arith, left, right, small)))
+          ∙ minus_pairs n (x -ℤ (y -ℤ t)) (λ k below. firsts_near k (omega arith)) (λ k below. seconds_near k (omega arith)) (omega (arith, left, right, own, both, small))
+          ∙ ap Ok grouped
 
-      module _ (pairs : ℕ) (total a b : ℤ) (sums : ArePairSums numbers first pairs a b) (few : pairs ≤ 8192) (near : unsigned_abs total < 2 ^ 62) where
-        pub near_plus : folded_onto Plus item first (2 * pairs) (Ok total) ≡ Ok (total +ℤ a +ℤ b)
-        near_plus = plus_pairs pairs total sums.near (omega arith) ∙ ap (λ z. Ok (total +ℤ z +ℤ seconds pairs)) (sym sums.firsts_are) ∙ ap (λ z. Ok (total +ℤ a +ℤ z)) (sym sums.seconds_are)
+      -- ---- by sums
 
-        pub near_minus : folded_onto Minus item first (2 * pairs) (Ok total) ≡ Ok (total +ℤ a -ℤ b)
-        near_minus = minus_pairs pairs total sums.near (omega arith) ∙ ap (λ z. Ok (total +ℤ z -ℤ seconds pairs)) (sym sums.firsts_are) ∙ ap (λ z. Ok (total +ℤ a -ℤ z)) (sym sums.seconds_are)
+      pub near_plus : (count : ℕ) (added total : ℤ) → count ≤ 65536 → IsNearSum numbers first 1 count added → unsigned_abs total < 2 ^ 62
+          → folded_onto Plus item first count (Ok total) ≡ Ok (total +ℤ added)
+      near_plus count added total few near small = plus_run count total near.near (omega arith) ∙ ap (λ z. Ok (total +ℤ z)) (sym near.is)
+
+      pub near_minus : (pairs : ℕ) (firsts seconds total : ℤ) → pairs ≤ 32768 → IsNearSum numbers first 2 pairs firsts → IsNearSum numbers (first + 1) 2 pairs seconds → unsigned_abs total < 2 ^ 62
+          → folded_onto Minus item first (2 * pairs) (Ok total) ≡ Ok (total +ℤ (firsts -ℤ seconds))
+      near_minus pairs firsts seconds total few left right small =
+          minus_pairs pairs total left.near right.near (omega arith)
+          ∙ ap (λ z. Ok (total +ℤ (z -ℤ sum (first + 1) 2 pairs))) (sym left.is)
+          ∙ ap (λ z. Ok (total +ℤ (firsts -ℤ z))) (sym right.is)

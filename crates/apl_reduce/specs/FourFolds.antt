@@ -1,8 +1,10 @@
 -- Folds of four runs of neighbours that are read side by side. No contract of a public function cites this file.
-use Rattle.std.specs.Prelude.{◌≡◌, ℕ, ℤ, ◌+◌, ◌-◌, ◌≤◌, List, Ok}
+use Rattle.std.specs.Prelude.{◌≡◌, ℕ, ℤ, ◌+◌, ◌-◌, ◌*◌, ◌^◌, ◌<◌, ◌≤◌, ◌+ℤ◌, List, Ok, map, unsigned_abs}
 use Rattle.apl_array.specs.declared.array.Elem.{Elem}
+use Rattle.apl_array.specs.declared.array.Elem.TheVariants.{Int}
 use Rattle.apl_array.specs.declared.function.ScalarFunction.{ScalarFunction}
 use Rattle.apl_reduce.specs.declared.four.Four.{Four}
+use Rattle.apl_reduce.specs.declared.near_sums.NearSum.{NearSum}
 use Rattle.apl_reduce.specs.Folded.{folded, folded_onto, element_along}
 use Rattle.apl_reduce.specs.Items.{item_in}
 
@@ -19,6 +21,25 @@ pub record AreRuns (starts : Four ℕ) (count end : ℕ) : Type 0 where
   pub second : starts.second + count ≤ end
   pub third : starts.third + count ≤ end
   pub fourth : starts.fourth + count ≤ end
+
+-- the same of runs whose elements are `step` apart
+pub record AreSpaced (starts : Four ℕ) (step count end : ℕ) : Type 0 where
+  pub first : (k : ℕ) → k < count → starts.first + k * step < end
+  pub second : (k : ℕ) → k < count → starts.second + k * step < end
+  pub third : (k : ℕ) → k < count → starts.third + k * step < end
+  pub fourth : (k : ℕ) → k < count → starts.fourth + k * step < end
+
+-- a run of numbers near 0 adds this to each total that is near 0
+abbrev pub IsChange : ScalarFunction → List ℤ → (first count : ℕ) → NearSum → Type 0
+IsChange f numbers first count change =
+    change.bits < 2 ^ 47 → (total : ℤ) → unsigned_abs total < 2 ^ 62 → folded_onto f (item_in (map Int numbers)) first count (Ok total) ≡ Ok (total +ℤ change.sum)
+
+-- each of four runs does
+pub record AreChanges (f : ScalarFunction) (numbers : List ℤ) (starts : Four ℕ) (count : ℕ) (changes : Four NearSum) : Type 0 where
+  pub first : IsChange f numbers starts.first count changes.first
+  pub second : IsChange f numbers starts.second count changes.second
+  pub third : IsChange f numbers starts.third count changes.third
+  pub fourth : IsChange f numbers starts.fourth count changes.fourth
 
 -- the right fold of each run of `count` elements onto its total
 pub record AreFourFolds (f : ScalarFunction) (elements : List Elem) (starts : Four ℕ) (count : ℕ) (totals folds : Four ℤ) : Type 0 where

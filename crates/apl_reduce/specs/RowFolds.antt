@@ -12,6 +12,6 @@ abbrev pub AreFoldedOnto : ScalarFunction → List Elem → (first stride count 
 AreFoldedOnto f elements first stride count old new =
     AreWritten (λ j. folded_onto f (element_along elements (first + j) stride) 0 count (Ok (slice_index_or old j (pos 0)))) 0 (length old) new
 
--- the function gives this of a number and a total, and it is at most 2 ^ 48 farther from 0 than the total
+-- the function gives this of a number and a total, and it is at most 2 ^ 46 farther from 0 than the total
 abbrev pub IsNearStep : ScalarFunction → (number total result : ℤ) → Type 0
-IsNearStep f number total result = (dyadic_of f (Int number) (Int total) ≡ Ok result) × (unsigned_abs result ≤ unsigned_abs total + 2 ^ 48)
+IsNearStep f number total result = (dyadic_of f (Int number) (Int total) ≡ Ok result) × (unsigned_abs result ≤ unsigned_abs total + 2 ^ 46)

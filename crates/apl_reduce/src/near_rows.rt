@@ -1,20 +1,17 @@
 //! Right folds of numbers near 0 by `+` and `-`. No step leaves the range, so the numbers are judged and not each result.
-ghost use Rattle.std.specs.Prelude.{◌≡◌, ◌+◌, ◌*◌, ◌<◌, ◌≤◌, ◌^◌, ◌+ℤ◌, ◌-ℤ◌, Ok, length, map, unsigned_abs};
+ghost use Rattle.std.specs.Prelude.{◌≡◌, ◌+◌, ◌*◌, ◌<◌, ◌≤◌, ◌^◌, Ok, length, map, unsigned_abs};
 ghost use Rattle.apl_pool.specs.declared.kernel.TheConstants.{MOST_PLACES};
 ghost use Rattle.apl_reduce.specs.declared.near_rows.TheConstants.{MOST_ROWS};
 ghost use Rattle.apl_reduce.specs.Folded.{folded_onto, element_along};
 ghost use Rattle.apl_reduce.specs.RowFolds.{IsNearStep};
 
 use crate::foldable::Numeric;
-use crate::near_sums::{NEAR, above_least};
+use crate::near_sums::{NEAR, NEAR_TOTAL, above_least, wrapped_difference, wrapped_sum};
 use apl_array::{ScalarFunction, range_is_decided};
 use apl_scalar::function_types::Function;
 
 /// The most rows that are folded at once.
 pub(crate) const MOST_ROWS: usize = 8;
-
-/// Totals are near 0 from the negative of this one up to before it.
-const NEAR_TOTAL: u64 = 1 << 62;
 
 /// Whether there are such folds by the function.
 #[inline(always)]
@@ -22,26 +19,10 @@ pub(crate) fn has_near_rows<F: Function>() -> bool {
     matches!(F::FUNCTION, ScalarFunction::Plus | ScalarFunction::Minus)
 }
 
-/// The sum modulo 2^64.
-#[inline(always)]
-fn wrapped_sum(x: i64, y: i64) -> i64
-    ensures { unsigned_abs (x +ℤ y) < 2 ^ 63 → result ≡ x +ℤ y }
-{
-    x.wrapping_add(y)
-}
-
-/// The difference modulo 2^64.
-#[inline(always)]
-fn wrapped_difference(x: i64, y: i64) -> i64
-    ensures { unsigned_abs (x -ℤ y) < 2 ^ 63 → result ≡ x -ℤ y }
-{
-    x.wrapping_sub(y)
-}
-
 /// What the function gives of a number and a total, modulo 2^64, and how far the number is above the least one that is near 0.
 #[inline(always)]
 fn near_step<F: Function>(number: i64, total: i64) -> (i64, u64)
-    ensures { result.1 < 2 ^ 49 → unsigned_abs total + 2 ^ 48 < 2 ^ 63 → IsNearStep F.FUNCTION number total result.0 }
+    ensures { result.1 < 2 ^ 47 → unsigned_abs total + 2 ^ 46 < 2 ^ 63 → IsNearStep F.FUNCTION number total result.0 }
 {
     range_is_decided();
     match F::FUNCTION {
@@ -54,7 +35,7 @@ fn near_step<F: Function>(number: i64, total: i64) -> (i64, u64)
 /// No bits if all numbers and the total are near 0. The numbers have these bits, each counted from the least one that is near 0.
 #[inline(always)]
 fn doubts(bits: u64, total: i64) -> u64
-    ensures bits { result ≡ 0 → bits < 2 ^ 49 }
+    ensures bits { result ≡ 0 → bits < 2 ^ 47 }
     ensures total { result ≡ 0 → unsigned_abs total ≤ 2 ^ 62 }
 {
     let above = total.cast_unsigned().wrapping_add(NEAR_TOTAL);

@@ -1,128 +1,128 @@
 //! Sums of numbers near 0, so few that 64 bits hold each sum of some of them.
-ghost use Rattle.std.specs.Prelude.{◌≡◌, ℕ, pos, ◌+◌, ◌*◌, ◌^◌, ◌<◌, ◌≤◌, ◌+ℤ◌, ℤ, List, true, length, unsigned_abs};
-ghost use Rattle.apl_reduce.specs.declared.near_sums.TheConstants.{MOST_PAIRS, MOST_QUARTER};
-ghost use Rattle.apl_reduce.specs.FourFolds.{AreRuns};
-ghost use Rattle.apl_reduce.specs.Magnitudes.{ArePairSums, AreAboveSums};
+ghost use Rattle.std.specs.Prelude.{◌≡◌, ℕ, pos, ◌+◌, ◌*◌, ◌^◌, ◌<◌, ◌≤◌, ◌+ℤ◌, ◌-ℤ◌, ℤ, List, length, unsigned_abs};
+ghost use Rattle.apl_array.specs.declared.function.ScalarFunction.TheVariants.{Plus, Minus};
+ghost use Rattle.apl_reduce.specs.declared.near_sums.TheConstants.{MOST_NUMBERS, MOST_PAIRS, MOST_QUARTER};
+ghost use Rattle.apl_reduce.specs.FourFolds.{AreRuns, AreSpaced, IsChange, AreChanges};
+ghost use Rattle.apl_reduce.specs.Magnitudes.{IsSum};
 
 use crate::four::{Four, quarters};
+use apl_array::range_is_decided;
 
-/// The most pairs whose numbers are added in one pass, and the most in each quarter of a run.
+/// The most numbers that are added in one pass.
+pub(crate) const MOST_NUMBERS: usize = 2 * MOST_PAIRS;
+
+/// The most pairs that are, and the most in each quarter of a run.
 pub(crate) const MOST_PAIRS: usize = 4 * MOST_QUARTER;
 
-pub(crate) const MOST_QUARTER: usize = 2048;
+pub(crate) const MOST_QUARTER: usize = 8192;
 
 /// Numbers are near 0 from the negative of this one up to before it.
-pub(crate) const NEAR: u64 = 1 << 48;
+pub(crate) const NEAR: u64 = 1 << 46;
 
-/// The sums of the first numbers of pairs and of the second ones.
-#[derive(Clone, Copy)]
-pub(crate) struct PairSums {
-    pub firsts: i64,
-    pub seconds: i64,
-    /// Whether all numbers are near 0. If not, the sums may have wrapped.
-    pub are_near: bool,
+/// Totals are near 0 if they are less than this far from it.
+pub(crate) const NEAR_TOTAL: u64 = 1 << 62;
+
+/// The sum modulo 2^64.
+#[inline(always)]
+pub(crate) fn wrapped_sum(x: i64, y: i64) -> i64
+    ensures { unsigned_abs (x +ℤ y) < 2 ^ 63 → result ≡ x +ℤ y }
+{
+    x.wrapping_add(y)
+}
+
+/// The difference modulo 2^64.
+#[inline(always)]
+pub(crate) fn wrapped_difference(x: i64, y: i64) -> i64
+    ensures { unsigned_abs (x -ℤ y) < 2 ^ 63 → result ≡ x -ℤ y }
+{
+    x.wrapping_sub(y)
 }
 
 /// How far a number is above the least one that is near 0, modulo 2^64. So those below it are farther than all others.
 #[inline(always)]
 pub(crate) fn above_least(number: i64) -> u64
-    ensures { result < 2 ^ 49 → pos result ≡ number +ℤ pos (2 ^ 48) }
+    ensures { result < 2 ^ 47 → pos result ≡ number +ℤ pos (2 ^ 46) }
 {
     number.cast_unsigned().wrapping_add(NEAR)
 }
 
-/// The sum of `count` numbers near 0, whose distances from the least of these add up to `above`.
-#[inline(always)]
-fn sum_from_above(above: u64, count: usize) -> i64
-    requires { count ≤ MOST_PAIRS }
-    ensures { (sum : ℤ) → unsigned_abs sum ≤ 2 ^ 61 → pos above ≡ sum +ℤ pos (count * 2 ^ 48) → result ≡ sum }
-{
-    above.wrapping_sub(count as u64 * NEAR).cast_signed()
-}
-
-/// What the first and the second numbers of pairs add up to, each counted from the least one that is near 0.
+/// A sum of numbers. If one is far from 0, it may have wrapped.
 #[derive(Clone, Copy)]
-pub(crate) struct AboveSums {
-    pub firsts: u64,
-    pub seconds: u64,
-    /// The bits that one or more of the numbers has, so counted.
+pub(crate) struct NearSum {
+    pub sum: i64,
+    /// The bits that one or more of the numbers has, each counted from the least one that is near 0.
     pub bits: u64,
 }
 
-impl AboveSums {
-    /// The sums of no pair.
+impl NearSum {
+    /// The sum of no number.
     #[inline(always)]
-    fn none() -> AboveSums
-        ensures { (numbers : List ℤ) (first : ℕ) → AreAboveSums numbers first 0 result }
+    fn none() -> NearSum
+        ensures { (numbers : List ℤ) (first step : ℕ) → IsSum numbers first step 0 result }
     {
-        AboveSums {
-            firsts: 0,
-            seconds: 0,
-            bits: 0,
+        NearSum { sum: 0, bits: 0 }
+    }
+
+    /// The sum of one more number than the `count` that it is of.
+    #[inline(always)]
+    fn with_next(&self, numbers: &[i64], first: usize, step: usize, count: usize) -> NearSum
+        requires { first + count * step < length numbers.now }
+        ensures { count < MOST_NUMBERS → IsSum numbers.now first step count self.now → IsSum numbers.now first step (count + 1) result }
+    {
+        let number = numbers[first + count * step];
+        NearSum {
+            sum: wrapped_sum(self.sum, number),
+            bits: self.bits | above_least(number),
         }
     }
 
-    /// The sums with the pair at a place.
+    /// The sum with that of as many numbers that are next.
     #[inline(always)]
-    fn with_pair(&self, numbers: &[i64], place: usize) -> AboveSums
-        requires { place + 2 ≤ length numbers.now }
-        ensures { (first k : ℕ) → place ≡ first + 2 * k → k < MOST_PAIRS → AreAboveSums numbers.now first k self.now → AreAboveSums numbers.now first (k + 1) result }
+    fn joined(&self, next: &NearSum) -> NearSum
+        ensures { (numbers : List ℤ) (first step count : ℕ) → 2 * count ≤ MOST_NUMBERS → IsSum numbers first step count self.now
+            → IsSum numbers (first + count * step) step count next.now → IsSum numbers first step (2 * count) result }
     {
-        let left = above_least(numbers[place]);
-        let right = above_least(numbers[place + 1]);
-        AboveSums {
-            firsts: self.firsts.wrapping_add(left),
-            seconds: self.seconds.wrapping_add(right),
-            bits: self.bits | left | right,
-        }
-    }
-
-    /// The sums with those of as many pairs that are next.
-    #[inline(always)]
-    fn joined(&self, next: &AboveSums) -> AboveSums
-        ensures { (numbers : List ℤ) (first pairs : ℕ) → pairs < MOST_PAIRS → AreAboveSums numbers first pairs self.now → AreAboveSums numbers (first + 2 * pairs) pairs next.now
-            → AreAboveSums numbers first (2 * pairs) result }
-    {
-        AboveSums {
-            firsts: self.firsts.wrapping_add(next.firsts),
-            seconds: self.seconds.wrapping_add(next.seconds),
+        NearSum {
+            sum: wrapped_sum(self.sum, next.sum),
             bits: self.bits | next.bits,
         }
     }
 
-    /// The sums of the numbers themselves.
+    /// What pairs add to a total by `-`, if these are the sums of their first numbers and of their second ones. Each second number is turned
+    /// once, and the total twice.
     #[inline(always)]
-    pub(crate) fn pair_sums(&self, pairs: usize) -> PairSums
-        requires few { pairs ≤ MOST_PAIRS }
-        ensures { (numbers : List ℤ) (first : ℕ) → AreAboveSums numbers first pairs self.now → result.are_near ≡ true → ArePairSums numbers first pairs result.firsts result.seconds }
+    fn less(&self, seconds: &NearSum) -> NearSum
+        ensures { (numbers : List ℤ) (first pairs : ℕ) → pairs ≤ MOST_PAIRS → IsSum numbers first 2 pairs self.now → IsSum numbers (first + 1) 2 pairs seconds.now
+            → IsChange Minus numbers first (2 * pairs) result }
     {
-        PairSums {
-            firsts: sum_from_above(self.firsts, pairs),
-            seconds: sum_from_above(self.seconds, pairs),
-            are_near: self.bits < 2 * NEAR,
+        range_is_decided();
+        NearSum {
+            sum: wrapped_difference(self.sum, seconds.sum),
+            bits: self.bits | seconds.bits,
         }
     }
 }
 
-/// The sums of four runs of pairs of neighbours. A turn takes a pair of each run. The loop has no branches, and a processor adds several
-/// pairs at once.
-pub(crate) fn four_sums(numbers: &[i64], starts: Four<usize>, pairs: usize) -> Four<AboveSums>
-    requires within { AreRuns starts (2 * pairs) (length numbers.now) }
-    requires few { pairs ≤ MOST_PAIRS }
-    ensures first { AreAboveSums numbers.now starts.first pairs result.first }
-    ensures second { AreAboveSums numbers.now starts.second pairs result.second }
-    ensures third { AreAboveSums numbers.now starts.third pairs result.third }
-    ensures fourth { AreAboveSums numbers.now starts.fourth pairs result.fourth }
+/// The sums of four runs of numbers that are `step` apart. A turn takes a number of each run. The loop has no branches, and a processor adds
+/// several numbers at once if `step` is constant.
+#[inline(always)]
+fn four_sums(numbers: &[i64], starts: Four<usize>, step: usize, count: usize) -> Four<NearSum>
+    requires within { AreSpaced starts step count (length numbers.now) }
+    requires few { count ≤ MOST_NUMBERS }
+    ensures first { IsSum numbers.now starts.first step count result.first }
+    ensures second { IsSum numbers.now starts.second step count result.second }
+    ensures third { IsSum numbers.now starts.third step count result.third }
+    ensures fourth { IsSum numbers.now starts.fourth step count result.fourth }
 {
-    let mut one = AboveSums::none();
-    let mut two = AboveSums::none();
-    let mut three = AboveSums::none();
-    let mut four = AboveSums::none();
-    for k in 0..pairs {
-        one = one.with_pair(numbers, starts.first + 2 * k);
-        two = two.with_pair(numbers, starts.second + 2 * k);
-        three = three.with_pair(numbers, starts.third + 2 * k);
-        four = four.with_pair(numbers, starts.fourth + 2 * k);
+    let mut one = NearSum::none();
+    let mut two = NearSum::none();
+    let mut three = NearSum::none();
+    let mut four = NearSum::none();
+    for k in 0..count {
+        one = one.with_next(numbers, starts.first, step, k);
+        two = two.with_next(numbers, starts.second, step, k);
+        three = three.with_next(numbers, starts.third, step, k);
+        four = four.with_next(numbers, starts.fourth, step, k);
     }
     Four {
         first: one,
@@ -132,14 +132,84 @@ pub(crate) fn four_sums(numbers: &[i64], starts: Four<usize>, pairs: usize) -> F
     }
 }
 
-/// The sums of pairs of neighbours, from a place on, as many in each quarter of the run.
-pub(crate) fn quarter_sums(numbers: &[i64], first: usize, quarter: usize) -> PairSums
-    requires within { first + 8 * quarter ≤ length numbers.now }
-    requires few { quarter ≤ MOST_QUARTER }
-    ensures { result.are_near ≡ true → ArePairSums numbers.now first (2 * (2 * quarter)) result.firsts result.seconds }
+/// The sums of four runs of neighbours.
+fn run_sums(numbers: &[i64], starts: Four<usize>, count: usize) -> Four<NearSum>
+    requires within { AreRuns starts count (length numbers.now) }
+    requires few { count ≤ MOST_NUMBERS }
+    ensures first { IsSum numbers.now starts.first 1 count result.first }
+    ensures second { IsSum numbers.now starts.second 1 count result.second }
+    ensures third { IsSum numbers.now starts.third 1 count result.third }
+    ensures fourth { IsSum numbers.now starts.fourth 1 count result.fourth }
 {
-    let sums = four_sums(numbers, quarters(first, 2 * quarter), quarter);
+    four_sums(numbers, starts, 1, count)
+}
+
+/// The sums of the first numbers and of the second ones of pairs of neighbours, in one run and in another one.
+fn pair_sums(numbers: &[i64], one: usize, other: usize, pairs: usize) -> Four<NearSum>
+    requires one { one + 2 * pairs ≤ length numbers.now }
+    requires other { other + 2 * pairs ≤ length numbers.now }
+    requires few { pairs ≤ MOST_PAIRS }
+    ensures first { IsSum numbers.now one 2 pairs result.first }
+    ensures second { IsSum numbers.now (one + 1) 2 pairs result.second }
+    ensures third { IsSum numbers.now other 2 pairs result.third }
+    ensures fourth { IsSum numbers.now (other + 1) 2 pairs result.fourth }
+{
+    let starts = Four {
+        first: one,
+        second: one + 1,
+        third: other,
+        fourth: other + 1,
+    };
+    four_sums(numbers, starts, 2, pairs)
+}
+
+/// What four quarters of neighbours add to a total by `+`.
+pub(crate) fn quarters_added(numbers: &[i64], first: usize, quarter: usize) -> NearSum
+    requires within { first + 4 * quarter ≤ length numbers.now }
+    requires few { quarter ≤ 2 * MOST_QUARTER }
+    ensures { IsChange Plus numbers.now first (2 * (2 * quarter)) result }
+{
+    range_is_decided();
+    let sums = run_sums(numbers, quarters(first, quarter), quarter);
     let low = sums.first.joined(&sums.second);
     let high = sums.third.joined(&sums.fourth);
-    low.joined(&high).pair_sums(4 * quarter)
+    low.joined(&high)
+}
+
+/// What both halves of neighbours add to a total by `-`. A half has `pairs` pairs.
+pub(crate) fn halves_turned(numbers: &[i64], first: usize, pairs: usize) -> NearSum
+    requires within { first + 4 * pairs ≤ length numbers.now }
+    requires few { 2 * pairs ≤ MOST_PAIRS }
+    ensures { IsChange Minus numbers.now first (2 * (2 * pairs)) result }
+{
+    let sums = pair_sums(numbers, first, first + 2 * pairs, pairs);
+    let firsts = sums.first.joined(&sums.third);
+    let seconds = sums.second.joined(&sums.fourth);
+    firsts.less(&seconds)
+}
+
+/// What four runs of neighbours add to totals by `+`.
+pub(crate) fn runs_added(numbers: &[i64], starts: Four<usize>, count: usize) -> Four<NearSum>
+    requires within { AreRuns starts count (length numbers.now) }
+    requires few { count ≤ MOST_NUMBERS }
+    ensures { AreChanges Plus numbers.now starts count result }
+{
+    range_is_decided();
+    run_sums(numbers, starts, count)
+}
+
+/// What four runs of pairs of neighbours add to totals by `-`.
+pub(crate) fn runs_turned(numbers: &[i64], starts: Four<usize>, pairs: usize) -> Four<NearSum>
+    requires within { AreRuns starts (2 * pairs) (length numbers.now) }
+    requires few { pairs ≤ MOST_PAIRS }
+    ensures { AreChanges Minus numbers.now starts (2 * pairs) result }
+{
+    let low = pair_sums(numbers, starts.first, starts.second, pairs);
+    let high = pair_sums(numbers, starts.third, starts.fourth, pairs);
+    Four {
+        first: low.first.less(&low.second),
+        second: low.third.less(&low.fourth),
+        third: high.first.less(&high.second),
+        fourth: high.third.less(&high.fourth),
+    }
 }

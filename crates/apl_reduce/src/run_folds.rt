@@ -1,25 +1,26 @@
 //! Right folds of neighbouring numbers by `+ - × ⌈ ⌊ ∧ ∨`, run by run from the last one.
-ghost use Rattle.std.specs.Prelude.{◌≡◌, ℕ, ℤ, List, ◌+◌, ◌*◌, ◌<◌, ◌≤◌, ◌+ℤ◌, ◌-ℤ◌, true, IfSome, Ok, length, map};
+ghost use Rattle.std.specs.Prelude.{◌≡◌, ℕ, ℤ, List, ◌+◌, ◌*◌, ◌<◌, ◌≤◌, ◌+ℤ◌, IfSome, Ok, length, map};
 ghost use Rattle.apl_array.specs.declared.array.Elem.TheVariants.{Int};
+ghost use Rattle.apl_array.specs.declared.function.ScalarFunction.{ScalarFunction};
 ghost use Rattle.apl_pool.specs.declared.kernel.TheConstants.{MOST_PLACES};
-ghost use Rattle.apl_reduce.specs.declared.near_sums.TheConstants.{MOST_PAIRS, MOST_QUARTER};
+ghost use Rattle.apl_reduce.specs.declared.four.Four.{Four};
+ghost use Rattle.apl_reduce.specs.declared.near_sums.TheConstants.{MOST_QUARTER};
 ghost use Rattle.apl_reduce.specs.Folded.{folded_onto};
-ghost use Rattle.apl_reduce.specs.FourFolds.{AreRuns, AreFourFolds};
+ghost use Rattle.apl_reduce.specs.FourFolds.{AreRuns, AreFourFolds, IsChange, AreChanges};
 ghost use Rattle.apl_reduce.specs.Items.{item_in};
-ghost use Rattle.apl_reduce.specs.Magnitudes.{ArePairSums};
 
 use crate::bit_folds::bit_fold;
 use crate::extreme_folds::{extreme_fold, extreme_folds};
 use crate::folding::fold_items;
 use crate::four::Four;
-use crate::near_sums::{MOST_PAIRS, MOST_QUARTER, PairSums, four_sums, quarter_sums};
+use crate::near_sums::{
+    MOST_PAIRS, MOST_QUARTER, NEAR, NEAR_TOTAL, NearSum, halves_turned, quarters_added, runs_added,
+    runs_turned,
+};
 use crate::run_products::times_fold;
-use apl_array::{ScalarFunction, range_is_decided};
+use apl_array::ScalarFunction;
 use apl_pool::Fault;
 use apl_scalar::function_types::Function;
-
-/// Totals are near 0 if they are less than this far from it.
-const NEAR_TOTAL: u64 = 1 << 62;
 
 /// The sum of two numbers, if it is in the range.
 #[inline(always)]
@@ -29,36 +30,38 @@ fn checked_sum(x: i64, y: i64) -> Option<i64>
     x.checked_add(y)
 }
 
-/// The difference of two numbers, if it is in the range.
+/// The total with what near numbers add to it, if these and the total are so near 0 that no step leaves the range.
 #[inline(always)]
-fn checked_difference(x: i64, y: i64) -> Option<i64>
-    ensures { IfSome result (λ z. z ≡ x -ℤ y) }
+fn near_total(change: NearSum, total: i64) -> Option<i64>
+    ensures { IfSome result (λ z. (f : ScalarFunction) (numbers : List ℤ) (first count : ℕ) → IsChange f numbers first count change
+        → folded_onto f (item_in (map Int numbers)) first count (Ok total) ≡ Ok z) }
 {
-    x.checked_sub(y)
-}
-
-/// The fold of pairs of neighbours onto a total, by their sums, if all numbers and the total are so near 0 that no step leaves the range.
-/// Each second number is turned by `-`, and the total that comes in to it twice.
-#[inline(always)]
-fn near_total<F: Function>(sums: PairSums, total: i64) -> Option<i64>
-    ensures { IfSome result (λ z. (numbers : List ℤ) (first pairs : ℕ) → pairs ≤ MOST_PAIRS → (sums.are_near ≡ true → ArePairSums numbers first pairs sums.firsts sums.seconds)
-        → folded_onto F.FUNCTION (item_in (map Int numbers)) first (2 * pairs) (Ok total) ≡ Ok z) }
-{
-    range_is_decided();
-    if !sums.are_near || total.unsigned_abs() >= NEAR_TOTAL {
+    if change.bits >= 2 * NEAR || total.unsigned_abs() >= NEAR_TOTAL {
         return None;
     }
-    let folded = checked_sum(total, sums.firsts)?;
-    match F::FUNCTION {
-        ScalarFunction::Plus => checked_sum(folded, sums.seconds),
-        ScalarFunction::Minus => checked_difference(folded, sums.seconds),
-        _ => None,
-    }
+    checked_sum(total, change.sum)
 }
 
-/// The folds of four runs of pairs of neighbours onto their totals, if all numbers and the totals are near 0.
+/// The totals of four runs, each with what its numbers add to it, if all numbers and the totals are near 0.
+fn near_folds(changes: Four<NearSum>, totals: Four<i64>) -> Option<Four<i64>>
+    ensures { IfSome result (λ folds. (f : ScalarFunction) (numbers : List ℤ) (starts : Four ℕ) (count : ℕ) → AreChanges f numbers starts count changes
+        → AreFourFolds f (map Int numbers) starts count totals folds) }
+{
+    let first = near_total(changes.first, totals.first)?;
+    let second = near_total(changes.second, totals.second)?;
+    let third = near_total(changes.third, totals.third)?;
+    let fourth = near_total(changes.fourth, totals.fourth)?;
+    Some(Four {
+        first,
+        second,
+        third,
+        fourth,
+    })
+}
+
+/// The folds of four runs of pairs of neighbours onto their totals at once, unless one is in doubt, or this is not quicker, as of long runs.
 #[inline(always)]
-fn near_folds<F: Function>(
+pub(crate) fn quick_folds<F: Function>(
     numbers: &[i64],
     starts: Four<usize>,
     pairs: usize,
@@ -70,34 +73,9 @@ fn near_folds<F: Function>(
     if pairs > MOST_PAIRS {
         return None;
     }
-    let sums = four_sums(numbers, starts, pairs);
-    let first = near_total::<F>(sums.first.pair_sums(pairs), totals.first)?;
-    let second = near_total::<F>(sums.second.pair_sums(pairs), totals.second)?;
-    let third = near_total::<F>(sums.third.pair_sums(pairs), totals.third)?;
-    let fourth = near_total::<F>(sums.fourth.pair_sums(pairs), totals.fourth)?;
-    Some(Four {
-        first,
-        second,
-        third,
-        fourth,
-    })
-}
-
-/// The folds of four runs of pairs of neighbours onto their totals at once, unless one is in doubt or this is not quicker.
-#[inline(always)]
-pub(crate) fn quick_folds<F: Function>(
-    numbers: &[i64],
-    starts: Four<usize>,
-    pairs: usize,
-    totals: Four<i64>,
-) -> Option<Four<i64>>
-    requires within { AreRuns starts (2 * pairs) (length numbers.now) }
-    ensures { IfSome result (λ folds. AreFourFolds F.FUNCTION (map Int numbers.now) starts (2 * pairs) totals folds) }
-{
     match F::FUNCTION {
-        ScalarFunction::Plus | ScalarFunction::Minus => near_folds::<F>(
-            numbers, starts, pairs, totals,
-        ),
+        ScalarFunction::Plus => near_folds(runs_added(numbers, starts, 2 * pairs), totals),
+        ScalarFunction::Minus => near_folds(runs_turned(numbers, starts, pairs), totals),
         _ => extreme_folds::<F>(numbers, starts, 2 * pairs, totals),
     }
 }
@@ -125,9 +103,8 @@ fn quick_fold<F: Function>(numbers: &[i64], first: usize, quarter: usize, total:
     ensures { IfSome result (λ z. folded_onto F.FUNCTION (item_in (map Int numbers.now)) first (2 * (2 * (2 * quarter))) (Ok total) ≡ Ok z) }
 {
     match F::FUNCTION {
-        ScalarFunction::Plus | ScalarFunction::Minus => {
-            near_total::<F>(quarter_sums(numbers, first, quarter), total)
-        }
+        ScalarFunction::Plus => near_total(quarters_added(numbers, first, 2 * quarter), total),
+        ScalarFunction::Minus => near_total(halves_turned(numbers, first, 2 * quarter), total),
         ScalarFunction::Ceiling | ScalarFunction::Floor => {
             extreme_fold::<F>(numbers, first, 2 * quarter, total)
         }

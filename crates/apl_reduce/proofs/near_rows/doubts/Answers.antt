@@ -6,9 +6,9 @@ use Rattle.apl_reduce.proofs.near_rows.doubts.Goals as goal
 pub returns-clause-bits : goal.returns-clause-bits
 returns-clause-bits c = λ none.
     let above = (c.cast_unsigned-above.result + 2 ^ 62) % 2 ^ 64 in
-    omega (arith, none, le_or_l (c.args.bits / 2 ^ 49) (above / 2 ^ 63))
+    omega (arith, none, le_or_l (c.args.bits / 2 ^ 47) (above / 2 ^ 63))
 
 pub returns-clause-total : goal.returns-clause-total
 returns-clause-total c = λ none.
     let above = (c.cast_unsigned-above.result + 2 ^ 62) % 2 ^ 64 in
-    omega (arith, ints, none, le_or_r (c.args.bits / 2 ^ 49) (above / 2 ^ 63), c.cast_unsigned-above.ensures)
+    omega (arith, ints, none, le_or_r (c.args.bits / 2 ^ 47) (above / 2 ^ 63), c.cast_unsigned-above.ensures)

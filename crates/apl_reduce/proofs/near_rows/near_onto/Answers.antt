@@ -37,13 +37,13 @@ loop-done-preserved g c =
       sum = λ low near.
           let both = both_low c.loop-done.bits next.1 low in
           let before = kept.sum both.0 near in
-          let few : unsigned_abs sum + 2 ^ 48 < 2 ^ 63 = omega (arith, before.1, c.loop-done-test.true, c.requires.few) in
+          let few : unsigned_abs sum + 2 ^ 46 < 2 ^ 63 = omega (arith, before.1, c.loop-done-test.true, c.requires.few) in
           let step = c.near_step-next.ensures both.1 few in (
             ap (λ (z : ℤ). Ok z) stored
                 ∙ sym step.0
                 ∙ ap (λ z. dyadic_of f (Int z) (Int sum)) (to_z-of_z w64 x fits)
                 ∙ one_onto f (element_along elements first stride) k (c.args.count - m) m (m + 1) (Int x) (Ok sum) (Ok (to_z w64 (of_z w64 c.args.total))) (omega (arith, left)) done
                 (read ∙ reached elements first stride k here place) before.0,
-            subst (λ z. unsigned_abs z ≤ 2 ^ 62 + (m + 1) * 2 ^ 48) (sym stored) (omega (arith, step.1, before.1)),
+            subst (λ z. unsigned_abs z ≤ 2 ^ 62 + (m + 1) * 2 ^ 46) (sym stored) (omega (arith, step.1, before.1)),
           );
     }
