@@ -1,6 +1,7 @@
 -- A fold of numbers onto the last one.
 use Rattle.std.proofs.Common.{◌≡◌, ℕ, zero, suc, ◌+◌, ◌-◌, ◌*◌, ◌/◌, ◌%◌, ◌<◌, ◌≤◌, ℤ, pos, List, [], ◌∷◌, length, map, slice_index_or, Result, Ok, Err, refl, sym, ap, subst, ◌∙◌, arith}
 use Rattle.std.proofs.Math.ListN.{get_or-map}
+use Rattle.std.proofs.lemmas.List.{get_or-map as get_or-map_inside}
 use Rattle.apl_array.specs.declared.array.Elem.{Elem}
 use Rattle.apl_array.specs.declared.array.Elem.TheVariants.{Int}
 use Rattle.apl_array.specs.declared.function.ScalarFunction.{ScalarFunction}
@@ -9,7 +10,8 @@ use Rattle.apl_pool.specs.Pool.{AreValues}
 use Rattle.apl_pool.specs.Summaries.{and_then, fold_onto}
 use Rattle.apl_scalar.specs.Scalar.{dyadic_of, dyadic_numbers}
 use Rattle.apl_summary.specs.RowFolds.{IsRowFold}
-use Rattle.apl_reduce.specs.Folded.{number_step, folded, element_along, number_of_axis, fold_at}
+use Rattle.apl_reduce.specs.Folded.{number_step, folded, folded_onto, element_along, number_of_axis, fold_at}
+use Rattle.apl_reduce.proofs.Folds.{reached, one_onto}
 
 module _ (f : ScalarFunction) where
   step_onto : (x : ℤ) (r : Result ℤ Fault) → number_step f (Int x) r ≡ and_then r (dyadic_numbers f x)
@@ -82,3 +84,17 @@ module _ {T : Type 0} (elem_of : T → Elem) (number_in : T → ℤ) (is : (x : 
       let numbers = map number_in xs in
       let Is : List Elem → Type 0 = λ es. IsRowFold (dyadic_numbers f) (λ k. Ok (number_of_axis numbers block inner place k)) (items - 1) (Ok (number_of_axis numbers block inner place (items - 1))) (fold_at f es items block inner place) in
       subst Is (elements_are xs) (number_row f numbers items block inner place two)
+
+  -- the number at a place that a step back leads to, onto what those after it gave
+  pub one_number_onto : (f : ScalarFunction) (xs : List T) (first stride count done here : ℕ) (element : T) (x total : ℤ) (start : Result ℤ Fault) → done < count
+      → here ≡ first + (count - (done + 1)) * stride → here < length xs → element ≡ slice_index_or xs here element → x ≡ number_in element
+      → Ok total ≡ folded_onto f (element_along (map elem_of xs) first stride) (count - done) done start
+      → dyadic_of f (Int x) (Int total) ≡ folded_onto f (element_along (map elem_of xs) first stride) (count - (done + 1)) (done + 1) start
+  one_number_onto f xs first stride count done here element x total start below place inside found number so_far =
+      let k = count - (done + 1) in
+      let left : count - done ≡ suc k = omega (arith, below) in
+      let more : done + 1 ≡ suc done = omega arith in
+      let read : Int x ≡ slice_index_or (map elem_of xs) here (Int (pos 0)) =
+      ap Int number ∙ sym (is element) ∙ ap elem_of found ∙ sym (get_or-map_inside elem_of xs here element (Int (pos 0)) inside) in
+      one_onto f (element_along (map elem_of xs) first stride) k (count - done) done (done + 1) (Int x) (Ok total) start left more
+      (read ∙ reached (map elem_of xs) first stride k here place) so_far

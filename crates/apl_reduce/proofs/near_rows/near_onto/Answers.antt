@@ -1,34 +1,25 @@
-use Rattle.std.proofs.Common.{◌≡◌, suc, ◌+◌, ◌-◌, ◌*◌, ◌^◌, ◌<◌, ◌≤◌, length, map, ℤ, pos, Ok, slice_index_or, FitsSigned, to_z, of_z, w64, sym, ap, subst, ◌∙◌, rules, arith}
+use Rattle.std.proofs.Common.{◌≡◌, ◌+◌, ◌-◌, ◌*◌, ◌^◌, ◌<◌, ◌≤◌, length, ℤ, Ok, FitsSigned, to_z, of_z, w64, sym, ap, subst, ◌∙◌, rules, arith}
 use Rattle.std.specs.Prelude.{unsigned_abs}
 use Rattle.std.proofs.lemmas.Int.{to_z-of_z}
-use Rattle.std.proofs.lemmas.List.{get_or-map}
 use Rattle.apl_array.specs.declared.array.Elem.TheVariants.{Int}
 use Rattle.apl_scalar.specs.Scalar.{dyadic_of}
-use Rattle.apl_reduce.specs.Folded.{element_along}
-use Rattle.apl_reduce.proofs.Folds.{reached, one_onto, one_step_less}
+use Rattle.apl_reduce.proofs.Folds.{one_step_less}
 use Rattle.apl_reduce.proofs.NearSums.{both_low}
+use Rattle.apl_reduce.proofs.Onto.{one_number_onto}
 use Rattle.apl_reduce.proofs.near_rows.near_onto.Goals as goal
 
 pub loop-done-preserved : goal.loop-done-preserved
 loop-done-preserved g c =
-    let f = g.F.Function.FUNCTION in
-    let elem_of = g.T.ElementType.elem_of in
-    let elements = map elem_of c.args.numbers.now in
-    let first = c.args.first in
-    let stride = c.args.stride in
-    let m = c.loop-done._done in
+    let numbers = c.args.numbers.now in
+    let count = c.args.count in
+    let done = c.loop-done._done in
     let kept = c.loop-done.invariant in
-    let done : m + 1 ≡ suc m = omega arith in
-    let k = c.args.count - (m + 1) in
-    let left : c.args.count - m ≡ k + 1 = omega (arith, c.loop-done-test.true) in
-    let here = c.loop-done.place - stride in
-    let place = one_step_less first (c.args.count - m) k stride c.loop-done.place left kept.place in
-    let inside : here < length c.args.numbers.now = search rules in
-    let element = c.index-numbers-place.result in
+    let left : count - done ≡ count - (done + 1) + 1 = omega (arith, c.loop-done-test.true) in
+    let here = c.loop-done.place - c.args.stride in
+    let place = one_step_less c.args.first (count - done) (count - (done + 1)) c.args.stride c.loop-done.place left kept.place in
+    let inside : here < length numbers = search rules in
     let x = c.number.result in
     let fits : FitsSigned w64 x = search rules in
-    let read : Int x ≡ slice_index_or elements here (Int (pos 0)) =
-    ap Int c.number.ensures ∙ sym (g.met.T.Numeric.is_number element) ∙ ap elem_of c.index-numbers-place.is ∙ sym (get_or-map elem_of c.args.numbers.now here element (Int (pos 0)) inside) in
     let next = c.near_step-next.result in
     let stored : to_z w64 (of_z w64 next.0) ≡ next.0 = search rules in
     let sum = to_z w64 c.loop-done.sum-bits in
@@ -41,9 +32,9 @@ loop-done-preserved g c =
           let step = c.near_step-next.ensures both.1 few in (
             ap (λ (z : ℤ). Ok z) stored
                 ∙ sym step.0
-                ∙ ap (λ z. dyadic_of f (Int z) (Int sum)) (to_z-of_z w64 x fits)
-                ∙ one_onto f (element_along elements first stride) k (c.args.count - m) m (m + 1) (Int x) (Ok sum) (Ok (to_z w64 (of_z w64 c.args.total))) (omega (arith, left)) done
-                (read ∙ reached elements first stride k here place) before.0,
-            subst (λ z. unsigned_abs z ≤ 2 ^ 62 + (m + 1) * 2 ^ 46) (sym stored) (omega (arith, step.1, before.1)),
+                ∙ ap (λ z. dyadic_of g.F.Function.FUNCTION (Int z) (Int sum)) (to_z-of_z w64 x fits)
+                ∙ one_number_onto g.T.ElementType.elem_of g.T.Numeric.number_in g.met.T.Numeric.is_number g.F.Function.FUNCTION numbers c.args.first c.args.stride count done here _ x sum _
+                c.loop-done-test.true place inside c.index-numbers-place.is c.number.ensures before.0,
+            subst (λ z. unsigned_abs z ≤ 2 ^ 62 + (done + 1) * 2 ^ 46) (sym stored) (omega (arith, step.1, before.1)),
           );
     }
