@@ -135,11 +135,15 @@ impl Sums<'_> {
 impl Lined for Sums<'_> {
     type Out = i64;
 
+    type Start = ();
+
     ghost place_count = { λ s. s.layout.now.count };
 
     ghost extent = { λ s. s.layout.now.columns };
 
     ghost value = { λ s line column. sum_in s.layout.now s.left.now s.right.now line column };
+
+    ghost is_start = { λ _ _ _. Unit {0} };
 
     fn count(&self) -> usize {
         self.layout.count
@@ -166,8 +170,12 @@ impl Lined for Sums<'_> {
         self.sum_at(line, column)
     }
 
+    fn start_of(&self, _line: usize) {}
+
+    fn next_start(&self, _line: usize, _start: ()) {}
+
     #[inline(always)]
-    fn write(&self, line: usize, from: usize, count: usize, room: &mut [i64]) {
+    fn write(&self, line: usize, _start: (), from: usize, count: usize, room: &mut [i64]) {
         if self.is_narrow && count == TURN {
             let sums = self.narrow_sums_at(line, from);
             return put_four(sums, room);

@@ -53,6 +53,16 @@ abbrev pub walked : List Map → ℕ → Option ℕ
 walked [] place = Some 0
 walked (m ∷ ms) place = and_step (map_step m (place % map_extent m)) (walked ms (place / map_extent m))
 
+-- how many indexes the first axis has
+abbrev pub first_extent : List Map → ℕ
+first_extent [] = 1
+first_extent (m ∷ ms) = map_extent m
+
+-- what the index list at a place adds along the axes after the first one
+abbrev pub walked_after : List Map → ℕ → Option ℕ
+walked_after [] place = Some 0
+walked_after (m ∷ ms) place = walked ms (place / map_extent m)
+
 -- the same with one more axis before the others
 abbrev pub walked_with : List Map → Map → ℕ → Option ℕ
 walked_with maps m place = and_step (walked maps place) (map_step m (place / extent_of maps % map_extent m))

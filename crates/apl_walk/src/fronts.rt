@@ -23,10 +23,7 @@ pub(crate) fn write_near<T: Copy>(elements: &[T], count: usize, room: &mut [T])
     ensures each { (k : ℕ) (d : T) → k < count → slice_index_or room.new k d ≡ slice_index_or elements.now k d }
     ensures len { length room.new ≡ length room.old }
 {
-    let part = &elements[..count];
-    for k in 0..count {
-        room[k] = part[k];
-    }
+    room[..count].copy_from_slice(&elements[..count]);
 }
 
 /// Those that are `stride` apart, also neighbours.

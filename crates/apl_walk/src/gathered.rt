@@ -4,9 +4,11 @@ ghost use Rattle.apl_pool.specs.declared.kernel.TheConstants.{MOST_PLACES};
 ghost use Rattle.apl_answer.specs.Arguments.{fill_of};
 ghost use Rattle.apl_array.specs.Shape.{count_of};
 ghost use Rattle.apl_answer.specs.Pointwise.{IsArrayAt};
+ghost use Rattle.apl_walk.specs.declared.map.TheConstants.{MOST_STEP};
 ghost use Rattle.apl_walk.specs.declared.maps.TheConstants.{MOST_MAPS};
 ghost use Rattle.apl_walk.specs.Gathered.{value_or, filled_at};
-ghost use Rattle.apl_walk.specs.Maps.{extent_of, walked};
+ghost use Rattle.apl_walk.specs.Maps.{extent_of, first_extent, walked};
+ghost use Rattle.apl_walk.specs.Starts.{IsStart};
 ghost use Rattle.apl_walk.specs.Steps.{and_step};
 ghost use Rattle.apl_walk.specs.Walks.{maps_of};
 
@@ -14,6 +16,7 @@ use crate::fronts::{element_or, write_same};
 use crate::lined::{ByLines, Lined};
 use crate::map::AxisMap;
 use crate::maps::{MOST_MAPS, Map, start_at, with_kind};
+use crate::starts::{Start, first_extent};
 use crate::walk::Walk;
 use apl_answer::{ElementType, OpFault, fill_array};
 use apl_array::{Array, Elements, Shape};
@@ -29,9 +32,16 @@ pub struct Gathered<'a, T, M: AxisMap> {
     pub fill: T,
     /// The other axes, the last one first.
     pub outer: &'a [Map<'a>],
+    /// How many indexes the first of these has.
+    pub first: usize,
     pub last: M,
+    /// The most that an index of the last axis adds.
+    pub reach: usize,
     pub count: usize,
     ghost few: { length outer.now ≤ MOST_MAPS },
+    ghost first_is: { first ≡ first_extent outer.now },
+    ghost reach_is: { reach ≡ M.reach last },
+    ghost reach_most: { reach ≤ MOST_STEP },
     ghost extent_most: { M.extent last ≤ MOST_PLACES },
     ghost all: { count ≡ extent_of outer.now * M.extent last },
     ghost most: { count ≤ MOST_PLACES },
@@ -53,7 +63,9 @@ impl<'a, T: ElementType, M: AxisMap> Gathered<'a, T, M> {
             elements,
             fill: T::fill(),
             outer,
+            first: first_extent(outer),
             last,
+            reach: last.reach(),
             count: lines * last.extent(),
         }
     }
@@ -62,11 +74,15 @@ impl<'a, T: ElementType, M: AxisMap> Gathered<'a, T, M> {
 impl<T: ElementType, M: AxisMap> Lined for Gathered<'_, T, M> {
     type Out = T;
 
+    type Start = Start;
+
     ghost place_count = { λ g. g.count };
 
     ghost extent = { λ g. M.extent g.last };
 
     ghost value = { λ g line index. value_or g.elements.now g.fill (and_step (M.step g.last index) (walked g.outer.now line)) };
+
+    ghost is_start = { λ g line start. IsStart g.outer.now line start };
 
     fn count(&self) -> usize {
         self.count
@@ -93,12 +109,22 @@ impl<T: ElementType, M: AxisMap> Lined for Gathered<'_, T, M> {
     }
 
     #[inline(always)]
-    fn write(&self, line: usize, from: usize, count: usize, room: &mut [T]) {
-        let Some(start) = start_at(self.outer, line) else {
+    fn start_of(&self, line: usize) -> Start {
+        Start::new(self.outer, line)
+    }
+
+    #[inline(always)]
+    fn next_start(&self, line: usize, start: Start) -> Start {
+        start.next(self.outer, self.first, line)
+    }
+
+    #[inline(always)]
+    fn write(&self, line: usize, start: Start, from: usize, count: usize, room: &mut [T]) {
+        let Some(place) = start.place(self.outer, line) else {
             return write_same(self.fill, count, room);
         };
-        let rest = &self.elements[start.min(self.elements.len())..];
-        if self.last.reach() < rest.len() {
+        if place + self.reach < self.elements.len() {
+            let rest = &self.elements[place..];
             return self.last.write_line(rest, from, count, self.fill, room);
         }
         let element = |k: usize| -> T

@@ -15,6 +15,7 @@ mod map;
 mod maps;
 mod ones;
 mod rotated_lines;
+mod starts;
 mod stretches;
 mod turned;
 mod walk;

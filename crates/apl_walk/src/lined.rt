@@ -12,6 +12,9 @@ pub trait Lined {
     /// What there is at an index.
     type Out;
 
+    /// What is known where a line begins, and carried on to the next line.
+    type Start: Copy;
+
     // How many places all lines have: the last line may end early.
     ghost place_count: { Self → ℕ };
 
@@ -20,6 +23,9 @@ pub trait Lined {
 
     // What there is at an index of a line.
     ghost value: { Self → ℕ → ℕ → Self.Out };
+
+    // Whether this is what is known where a line begins.
+    ghost is_start: { Self → ℕ → Self.Start → Type 0 };
 
     fn count(&self) -> usize
         ensures value { result ≡ place_count self.now }
@@ -43,9 +49,27 @@ pub trait Lined {
         requires place { line * extent self.now + index < place_count self.now }
         ensures { result ≡ value self.now line index };
 
+    fn start_of(&self, line: usize) -> Self::Start
+        requires { line ≤ MOST_PLACES }
+        ensures { is_start self.now line result };
+
+    /// The start of the line after this one.
+    fn next_start(&self, line: usize, start: Self::Start) -> Self::Start
+        requires line { line < MOST_PLACES }
+        requires start { is_start self.now line start }
+        ensures { is_start self.now (line + 1) result };
+
     /// Writes the values at `count` indexes from `from` on to the front of a room.
-    fn write(&self, line: usize, from: usize, count: usize, room: &mut [Self::Out])
+    fn write(
+        &self,
+        line: usize,
+        start: Self::Start,
+        from: usize,
+        count: usize,
+        room: &mut [Self::Out],
+    )
         requires line { line ≤ MOST_PLACES }
+        requires start { is_start self.now line start }
         requires within { from + count ≤ extent self.now }
         requires places { line * extent self.now + (from + count) ≤ place_count self.now }
         requires room { count ≤ length room.old }
@@ -88,7 +112,7 @@ impl<L: Lined> ByLines<L> {
         requires within { end ≤ L.extent self.now.lines }
         ensures end { result.1 < end }
         ensures low { from ≤ result.0 * L.extent self.now.lines + result.1 }
-        ensures few { result.0 ≤ from + 1 }
+        ensures few { result.0 ≤ from }
         ensures most { result.0 * L.extent self.now.lines ≤ from + L.extent self.now.lines }
         ensures once { result.0 * L.extent self.now.lines + result.1 ≤ max from (result.0 * L.extent self.now.lines + first) }
         ensures earlier { (place : ℕ) → from ≤ place → place < result.0 * L.extent self.now.lines → end ≤ place % L.extent self.now.lines }
@@ -116,14 +140,16 @@ impl<L: Lined> ByLines<L> {
     {
         let extent = self.extent.number();
         let (mut line, mut index) = self.begin(from, first, end);
+        let mut start = self.lines.start_of(line);
         let mut place = line * extent + index;
         while place < to {
             let count = (end - index).min(to - place);
             let done = place - from;
             // The first tiles of lines come before all others, so that they may write past their own places.
             let end_of_room = if first == 0 { room.len() } else { done + count };
-            self.lines
-                .write(line, index, count, &mut room[done..end_of_room]);
+            let rest = &mut room[done..end_of_room];
+            self.lines.write(line, start, index, count, rest);
+            start = self.lines.next_start(line, start);
             line += 1;
             index = first;
             place = line * extent + index;

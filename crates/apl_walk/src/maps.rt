@@ -76,7 +76,7 @@ pub const MOST_MAPS: usize = 16;
 
 /// The index on an axis, and the place on the axes before it. Few places need a division.
 #[inline(always)]
-fn divided(place: u32, extent: u32) -> (u32, u32)
+pub(crate) fn divided(place: u32, extent: u32) -> (u32, u32)
     requires { 0 < extent }
     ensures index { result.0 ≡ place % extent }
     ensures rest { result.1 ≡ place / extent }

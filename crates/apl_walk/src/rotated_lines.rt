@@ -44,11 +44,15 @@ pub struct RotatedRows<'a, T> {
 impl<T: Copy> Lined for RotatedRows<'_, T> {
     type Out = T;
 
+    type Start = ();
+
     ghost place_count = { λ r. r.count };
 
     ghost extent = { λ r. r.rotations.length };
 
     ghost value = { λ r line index. slice_index_or r.elements.now (rotated_place r.rotations.length r.rotations.by.now line line index) r.past };
+
+    ghost is_start = { λ _ _ _. Unit {0} };
 
     fn count(&self) -> usize {
         self.count
@@ -64,8 +68,12 @@ impl<T: Copy> Lined for RotatedRows<'_, T> {
         element_or(self.elements, place, self.past)
     }
 
+    fn start_of(&self, _line: usize) {}
+
+    fn next_start(&self, _line: usize, _start: ()) {}
+
     #[inline(always)]
-    fn write(&self, line: usize, from: usize, count: usize, room: &mut [T]) {
+    fn write(&self, line: usize, _start: (), from: usize, count: usize, room: &mut [T]) {
         if count == 0 {
             return;
         }
@@ -112,11 +120,15 @@ impl<T: Copy> RotatedColumns<'_, T> {
 impl<T: Copy> Lined for RotatedColumns<'_, T> {
     type Out = T;
 
+    type Start = ();
+
     ghost place_count = { λ r. r.count };
 
     ghost extent = { λ r. r.inner };
 
     ghost value = { λ r row column. slice_index_or r.elements.now (rotated_column r.rotations.length r.rotations.by.now r.inner row column) r.past };
+
+    ghost is_start = { λ _ _ _. Unit {0} };
 
     fn count(&self) -> usize {
         self.count
@@ -132,8 +144,12 @@ impl<T: Copy> Lined for RotatedColumns<'_, T> {
         self.at_column(outer, self.length.remainder(row), column)
     }
 
+    fn start_of(&self, _line: usize) {}
+
+    fn next_start(&self, _line: usize, _start: ()) {}
+
     #[inline(always)]
-    fn write(&self, row: usize, from: usize, count: usize, room: &mut [T]) {
+    fn write(&self, row: usize, _start: (), from: usize, count: usize, room: &mut [T]) {
         let outer = self.length.quotient(row);
         let index = self.length.remainder(row);
         let element = |k: usize| -> T

@@ -45,11 +45,15 @@ impl<'a, T: Copy> Cyclic<'a, T> {
 impl<T: Copy> Lined for Cyclic<'_, T> {
     type Out = T;
 
+    type Start = ();
+
     ghost place_count = { λ r. r.count };
 
     ghost extent = { λ r. r.extent };
 
     ghost value = { λ r line index. slice_index_or r.elements.now index r.past };
+
+    ghost is_start = { λ _ _ _. Unit {0} };
 
     fn count(&self) -> usize {
         self.count
@@ -64,8 +68,12 @@ impl<T: Copy> Lined for Cyclic<'_, T> {
         element_or(self.elements, index, self.past)
     }
 
+    fn start_of(&self, _line: usize) {}
+
+    fn next_start(&self, _line: usize, _start: ()) {}
+
     #[inline(always)]
-    fn write(&self, _line: usize, from: usize, count: usize, room: &mut [T]) {
+    fn write(&self, _line: usize, _start: (), from: usize, count: usize, room: &mut [T]) {
         write_or(self.elements, self.past, from, count, room);
     }
 }
@@ -109,11 +117,15 @@ pub struct Joined<'a, T> {
 impl<T: Copy> Lined for Joined<'_, T> {
     type Out = T;
 
+    type Start = ();
+
     ghost place_count = { λ j. j.count };
 
     ghost extent = { λ j. j.left.length + j.right.length };
 
     ghost value = { λ j line index. joined_value j.left.elements.now j.right.elements.now j.left.past j.right.past j.left.length j.right.length line index };
+
+    ghost is_start = { λ _ _ _. Unit {0} };
 
     fn count(&self) -> usize {
         self.count
@@ -133,8 +145,12 @@ impl<T: Copy> Lined for Joined<'_, T> {
         element_or(part.elements, line * part.length + index, part.past)
     }
 
+    fn start_of(&self, _line: usize) {}
+
+    fn next_start(&self, _line: usize, _start: ()) {}
+
     #[inline(always)]
-    fn write(&self, line: usize, from: usize, count: usize, room: &mut [T]) {
+    fn write(&self, line: usize, _start: (), from: usize, count: usize, room: &mut [T]) {
         let Joined { left, right, .. } = self;
         let first = count.min(left.length.saturating_sub(from));
         let start = line * left.length + from;

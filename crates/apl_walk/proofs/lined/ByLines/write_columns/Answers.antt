@@ -29,6 +29,7 @@ loop-place-preserved g c =
       low = omega (arith, next, there);
       index = omega (arith, next, there);
       inside = omega arith;
+      start = c.next_start-start.ensures;
       all = written.0;
       several = written.1;
     }

@@ -10,6 +10,7 @@ invariant-loop-place g l = let extent = g.L.Lined.extent l.self.lines in record 
   low : l.from ≤ l.place;
   index : l.place ≤ max l.from (l.line * extent + l.first);
   inside : l.index < l.end;
+  start : g.L.Lined.is_start l.self.lines l.line l.start;
   all : HasColumns (g.L.Lined.value l.self.lines) extent l.from l.to l.first l.room;
   several : HasColumns (g.L.Lined.value l.self.lines) extent l.from (min (l.line * extent) l.to) l.end l.room;
 }
