@@ -23,7 +23,10 @@ pub(crate) fn write_near<T: Copy>(elements: &[T], count: usize, room: &mut [T])
     ensures each { (k : ℕ) (d : T) → k < count → slice_index_or room.new k d ≡ slice_index_or elements.now k d }
     ensures len { length room.new ≡ length room.old }
 {
-    room[..count].copy_from_slice(&elements[..count]);
+    let part = &elements[..count];
+    for k in 0..count {
+        room[k] = part[k];
+    }
 }
 
 /// Those that are `stride` apart, also neighbours.
