@@ -5,8 +5,10 @@ use Rattle.apl_array.specs.declared.array.Elem.TheVariants.{Int}
 use Rattle.apl_array.specs.declared.function.ScalarFunction.{ScalarFunction}
 use Rattle.apl_reduce.specs.declared.four.Four.{Four}
 use Rattle.apl_reduce.specs.declared.near_sums.NearSum.{NearSum}
+use Rattle.apl_reduce.specs.declared.near_sums.PairSums.{PairSums}
 use Rattle.apl_reduce.specs.Folded.{folded, folded_onto, element_along}
 use Rattle.apl_reduce.specs.Items.{item_in}
+use Rattle.apl_reduce.specs.Magnitudes.{IsSum}
 
 -- what there is at four neighbouring places
 pub record AreNeighbours {T : Type 0} (number : ℕ → T) (place : ℕ) (four : Four T) : Type 0 where
@@ -22,12 +24,10 @@ pub record AreRuns (starts : Four ℕ) (count end : ℕ) : Type 0 where
   pub third : starts.third + count ≤ end
   pub fourth : starts.fourth + count ≤ end
 
--- the same of runs whose elements are `step` apart
-pub record AreSpaced (starts : Four ℕ) (step count end : ℕ) : Type 0 where
-  pub first : (k : ℕ) → k < count → starts.first + k * step < end
-  pub second : (k : ℕ) → k < count → starts.second + k * step < end
-  pub third : (k : ℕ) → k < count → starts.third + k * step < end
-  pub fourth : (k : ℕ) → k < count → starts.fourth + k * step < end
+-- the sums of the first numbers of these pairs, which are neighbours from place `first` on, and of the second ones
+pub record ArePairSums (numbers : List ℤ) (first pairs : ℕ) (sums : PairSums) : Type 0 where
+  pub firsts : IsSum numbers first 2 pairs sums.firsts
+  pub seconds : IsSum numbers (first + 1) 2 pairs sums.seconds
 
 -- a run of numbers near 0 adds this to each total that is near 0
 abbrev pub IsChange : ScalarFunction → List ℤ → (first count : ℕ) → NearSum → Type 0

@@ -2,7 +2,7 @@
 ghost use Rattle.std.specs.Prelude.{◌≡◌, ℕ, pos, ◌+◌, ◌*◌, ◌^◌, ◌<◌, ◌≤◌, ◌+ℤ◌, ◌-ℤ◌, ℤ, List, length, unsigned_abs};
 ghost use Rattle.apl_array.specs.declared.function.ScalarFunction.TheVariants.{Plus, Minus};
 ghost use Rattle.apl_reduce.specs.declared.near_sums.TheConstants.{MOST_NUMBERS, MOST_PAIRS, MOST_QUARTER};
-ghost use Rattle.apl_reduce.specs.FourFolds.{AreRuns, AreSpaced, IsChange, AreChanges};
+ghost use Rattle.apl_reduce.specs.FourFolds.{AreRuns, IsChange, AreChanges, ArePairSums};
 ghost use Rattle.apl_reduce.specs.Magnitudes.{IsSum};
 
 use crate::four::{Four, quarters};
@@ -103,26 +103,25 @@ impl NearSum {
     }
 }
 
-/// The sums of four runs of numbers that are `step` apart. A turn takes a number of each run. The loop has no branches, and a processor adds
-/// several numbers at once if `step` is constant.
-#[inline(always)]
-fn four_sums(numbers: &[i64], starts: Four<usize>, step: usize, count: usize) -> Four<NearSum>
-    requires within { AreSpaced starts step count (length numbers.now) }
+/// The sums of four runs of neighbours. A turn takes a number of each run. The loop has no branches, and a processor adds several numbers at
+/// once.
+fn four_sums(numbers: &[i64], starts: Four<usize>, count: usize) -> Four<NearSum>
+    requires within { AreRuns starts count (length numbers.now) }
     requires few { count ≤ MOST_NUMBERS }
-    ensures first { IsSum numbers.now starts.first step count result.first }
-    ensures second { IsSum numbers.now starts.second step count result.second }
-    ensures third { IsSum numbers.now starts.third step count result.third }
-    ensures fourth { IsSum numbers.now starts.fourth step count result.fourth }
+    ensures first { IsSum numbers.now starts.first 1 count result.first }
+    ensures second { IsSum numbers.now starts.second 1 count result.second }
+    ensures third { IsSum numbers.now starts.third 1 count result.third }
+    ensures fourth { IsSum numbers.now starts.fourth 1 count result.fourth }
 {
     let mut one = NearSum::none();
     let mut two = NearSum::none();
     let mut three = NearSum::none();
     let mut four = NearSum::none();
     for k in 0..count {
-        one = one.with_next(numbers, starts.first, step, k);
-        two = two.with_next(numbers, starts.second, step, k);
-        three = three.with_next(numbers, starts.third, step, k);
-        four = four.with_next(numbers, starts.fourth, step, k);
+        one = one.with_next(numbers, starts.first, 1, k);
+        two = two.with_next(numbers, starts.second, 1, k);
+        three = three.with_next(numbers, starts.third, 1, k);
+        four = four.with_next(numbers, starts.fourth, 1, k);
     }
     Four {
         first: one,
@@ -132,35 +131,86 @@ fn four_sums(numbers: &[i64], starts: Four<usize>, step: usize, count: usize) ->
     }
 }
 
-/// The sums of four runs of neighbours.
-fn run_sums(numbers: &[i64], starts: Four<usize>, count: usize) -> Four<NearSum>
-    requires within { AreRuns starts count (length numbers.now) }
-    requires few { count ≤ MOST_NUMBERS }
-    ensures first { IsSum numbers.now starts.first 1 count result.first }
-    ensures second { IsSum numbers.now starts.second 1 count result.second }
-    ensures third { IsSum numbers.now starts.third 1 count result.third }
-    ensures fourth { IsSum numbers.now starts.fourth 1 count result.fourth }
-{
-    four_sums(numbers, starts, 1, count)
+/// The sums of the first numbers of pairs of neighbours, and of the second ones.
+#[derive(Clone, Copy)]
+pub(crate) struct PairSums {
+    pub firsts: NearSum,
+    pub seconds: NearSum,
 }
 
-/// The sums of the first numbers and of the second ones of pairs of neighbours, in one run and in another one.
-fn pair_sums(numbers: &[i64], one: usize, other: usize, pairs: usize) -> Four<NearSum>
-    requires one { one + 2 * pairs ≤ length numbers.now }
-    requires other { other + 2 * pairs ≤ length numbers.now }
+impl PairSums {
+    ghost use Rattle.apl_reduce.specs.FourFolds.{ArePairSums};
+
+    /// The sums of no pair.
+    #[inline(always)]
+    fn none() -> PairSums
+        ensures { (numbers : List ℤ) (first : ℕ) → ArePairSums numbers first 0 result }
+    {
+        PairSums {
+            firsts: NearSum::none(),
+            seconds: NearSum::none(),
+        }
+    }
+
+    /// The sums of one more pair than the `count` that they are of.
+    #[inline(always)]
+    fn with_pair(&self, numbers: &[i64], first: usize, count: usize) -> PairSums
+        requires { first + 2 * (count + 1) ≤ length numbers.now }
+        ensures { count < MOST_PAIRS → ArePairSums numbers.now first count self.now → ArePairSums numbers.now first (count + 1) result }
+    {
+        PairSums {
+            firsts: self.firsts.with_next(numbers, first, 2, count),
+            seconds: self.seconds.with_next(numbers, first + 1, 2, count),
+        }
+    }
+
+    /// The sums with those of as many pairs that are next.
+    #[inline(always)]
+    fn both(&self, next: &PairSums) -> PairSums
+        ensures { (numbers : List ℤ) (first pairs : ℕ) → 2 * pairs ≤ MOST_PAIRS → ArePairSums numbers first pairs self.now
+            → ArePairSums numbers (first + 2 * pairs) pairs next.now → ArePairSums numbers first (2 * pairs) result }
+    {
+        PairSums {
+            firsts: self.firsts.joined(&next.firsts),
+            seconds: self.seconds.joined(&next.seconds),
+        }
+    }
+
+    /// What the pairs add to a total by `-`.
+    #[inline(always)]
+    fn turned(&self) -> NearSum
+        ensures { (numbers : List ℤ) (first pairs : ℕ) → pairs ≤ MOST_PAIRS → ArePairSums numbers first pairs self.now → IsChange Minus numbers first (2 * pairs) result }
+    {
+        self.firsts.less(&self.seconds)
+    }
+}
+
+/// The sums of four runs of pairs of neighbours. A turn takes a pair of each run.
+#[inline(always)]
+fn pair_sums(numbers: &[i64], starts: Four<usize>, pairs: usize) -> Four<PairSums>
+    requires within { AreRuns starts (2 * pairs) (length numbers.now) }
     requires few { pairs ≤ MOST_PAIRS }
-    ensures first { IsSum numbers.now one 2 pairs result.first }
-    ensures second { IsSum numbers.now (one + 1) 2 pairs result.second }
-    ensures third { IsSum numbers.now other 2 pairs result.third }
-    ensures fourth { IsSum numbers.now (other + 1) 2 pairs result.fourth }
+    ensures first { ArePairSums numbers.now starts.first pairs result.first }
+    ensures second { ArePairSums numbers.now starts.second pairs result.second }
+    ensures third { ArePairSums numbers.now starts.third pairs result.third }
+    ensures fourth { ArePairSums numbers.now starts.fourth pairs result.fourth }
 {
-    let starts = Four {
+    let mut one = PairSums::none();
+    let mut two = PairSums::none();
+    let mut three = PairSums::none();
+    let mut four = PairSums::none();
+    for k in 0..pairs {
+        one = one.with_pair(numbers, starts.first, k);
+        two = two.with_pair(numbers, starts.second, k);
+        three = three.with_pair(numbers, starts.third, k);
+        four = four.with_pair(numbers, starts.fourth, k);
+    }
+    Four {
         first: one,
-        second: one + 1,
-        third: other,
-        fourth: other + 1,
-    };
-    four_sums(numbers, starts, 2, pairs)
+        second: two,
+        third: three,
+        fourth: four,
+    }
 }
 
 /// What four quarters of neighbours add to a total by `+`.
@@ -170,22 +220,22 @@ pub(crate) fn quarters_added(numbers: &[i64], first: usize, quarter: usize) -> N
     ensures { IsChange Plus numbers.now first (2 * (2 * quarter)) result }
 {
     range_is_decided();
-    let sums = run_sums(numbers, quarters(first, quarter), quarter);
+    let sums = four_sums(numbers, quarters(first, quarter), quarter);
     let low = sums.first.joined(&sums.second);
     let high = sums.third.joined(&sums.fourth);
     low.joined(&high)
 }
 
-/// What both halves of neighbours add to a total by `-`. A half has `pairs` pairs.
-pub(crate) fn halves_turned(numbers: &[i64], first: usize, pairs: usize) -> NearSum
-    requires within { first + 4 * pairs ≤ length numbers.now }
-    requires few { 2 * pairs ≤ MOST_PAIRS }
-    ensures { IsChange Minus numbers.now first (2 * (2 * pairs)) result }
+/// What four quarters of neighbours add to a total by `-`. A quarter has `quarter` pairs.
+pub(crate) fn quarters_turned(numbers: &[i64], first: usize, quarter: usize) -> NearSum
+    requires within { first + 8 * quarter ≤ length numbers.now }
+    requires few { quarter ≤ MOST_QUARTER }
+    ensures { IsChange Minus numbers.now first (2 * (2 * (2 * quarter))) result }
 {
-    let sums = pair_sums(numbers, first, first + 2 * pairs, pairs);
-    let firsts = sums.first.joined(&sums.third);
-    let seconds = sums.second.joined(&sums.fourth);
-    firsts.less(&seconds)
+    let sums = pair_sums(numbers, quarters(first, 2 * quarter), quarter);
+    let low = sums.first.both(&sums.second);
+    let high = sums.third.both(&sums.fourth);
+    low.both(&high).turned()
 }
 
 /// What four runs of neighbours add to totals by `+`.
@@ -195,7 +245,7 @@ pub(crate) fn runs_added(numbers: &[i64], starts: Four<usize>, count: usize) -> 
     ensures { AreChanges Plus numbers.now starts count result }
 {
     range_is_decided();
-    run_sums(numbers, starts, count)
+    four_sums(numbers, starts, count)
 }
 
 /// What four runs of pairs of neighbours add to totals by `-`.
@@ -204,12 +254,11 @@ pub(crate) fn runs_turned(numbers: &[i64], starts: Four<usize>, pairs: usize) ->
     requires few { pairs ≤ MOST_PAIRS }
     ensures { AreChanges Minus numbers.now starts (2 * pairs) result }
 {
-    let low = pair_sums(numbers, starts.first, starts.second, pairs);
-    let high = pair_sums(numbers, starts.third, starts.fourth, pairs);
+    let sums = pair_sums(numbers, starts, pairs);
     Four {
-        first: low.first.less(&low.second),
-        second: low.third.less(&low.fourth),
-        third: high.first.less(&high.second),
-        fourth: high.third.less(&high.fourth),
+        first: sums.first.turned(),
+        second: sums.second.turned(),
+        third: sums.third.turned(),
+        fourth: sums.fourth.turned(),
     }
 }

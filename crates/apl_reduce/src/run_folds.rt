@@ -14,8 +14,8 @@ use crate::extreme_folds::{extreme_fold, extreme_folds};
 use crate::folding::fold_items;
 use crate::four::Four;
 use crate::near_sums::{
-    MOST_PAIRS, MOST_QUARTER, NEAR, NEAR_TOTAL, NearSum, halves_turned, quarters_added, runs_added,
-    runs_turned,
+    MOST_PAIRS, MOST_QUARTER, NEAR, NEAR_TOTAL, NearSum, quarters_added, quarters_turned,
+    runs_added, runs_turned,
 };
 use crate::run_products::times_fold;
 use apl_array::ScalarFunction;
@@ -70,12 +70,19 @@ pub(crate) fn quick_folds<F: Function>(
     requires within { AreRuns starts (2 * pairs) (length numbers.now) }
     ensures { IfSome result (λ folds. AreFourFolds F.FUNCTION (map Int numbers.now) starts (2 * pairs) totals folds) }
 {
-    if pairs > MOST_PAIRS {
-        return None;
-    }
     match F::FUNCTION {
-        ScalarFunction::Plus => near_folds(runs_added(numbers, starts, 2 * pairs), totals),
-        ScalarFunction::Minus => near_folds(runs_turned(numbers, starts, pairs), totals),
+        ScalarFunction::Plus => {
+            if pairs > MOST_PAIRS {
+                return None;
+            }
+            near_folds(runs_added(numbers, starts, 2 * pairs), totals)
+        }
+        ScalarFunction::Minus => {
+            if pairs > MOST_PAIRS {
+                return None;
+            }
+            near_folds(runs_turned(numbers, starts, pairs), totals)
+        }
         _ => extreme_folds::<F>(numbers, starts, 2 * pairs, totals),
     }
 }
@@ -104,7 +111,7 @@ fn quick_fold<F: Function>(numbers: &[i64], first: usize, quarter: usize, total:
 {
     match F::FUNCTION {
         ScalarFunction::Plus => near_total(quarters_added(numbers, first, 2 * quarter), total),
-        ScalarFunction::Minus => near_total(halves_turned(numbers, first, 2 * quarter), total),
+        ScalarFunction::Minus => near_total(quarters_turned(numbers, first, quarter), total),
         ScalarFunction::Ceiling | ScalarFunction::Floor => {
             extreme_fold::<F>(numbers, first, 2 * quarter, total)
         }

@@ -23,19 +23,19 @@ loop-k-preserved c =
 pub returns-clause-first : goal.returns-clause-first
 returns-clause-first c =
     let all : c.loop-k.k ≡ c.args.count = omega (arith, c.loop-k-test.false, c.loop-k.auto.k-end) in
-    subst (λ k. IsSum c.args.numbers.now c.args.starts.first c.args.step k c.loop-k.one) all c.loop-k.invariant.first
+    subst (λ k. IsSum c.args.numbers.now c.args.starts.first 1 k c.loop-k.one) all c.loop-k.invariant.first
 
 pub returns-clause-second : goal.returns-clause-second
 returns-clause-second c =
     let all : c.loop-k.k ≡ c.args.count = omega (arith, c.loop-k-test.false, c.loop-k.auto.k-end) in
-    subst (λ k. IsSum c.args.numbers.now c.args.starts.second c.args.step k c.loop-k.two) all c.loop-k.invariant.second
+    subst (λ k. IsSum c.args.numbers.now c.args.starts.second 1 k c.loop-k.two) all c.loop-k.invariant.second
 
 pub returns-clause-third : goal.returns-clause-third
 returns-clause-third c =
     let all : c.loop-k.k ≡ c.args.count = omega (arith, c.loop-k-test.false, c.loop-k.auto.k-end) in
-    subst (λ k. IsSum c.args.numbers.now c.args.starts.third c.args.step k c.loop-k.three) all c.loop-k.invariant.third
+    subst (λ k. IsSum c.args.numbers.now c.args.starts.third 1 k c.loop-k.three) all c.loop-k.invariant.third
 
 pub returns-clause-fourth : goal.returns-clause-fourth
 returns-clause-fourth c =
     let all : c.loop-k.k ≡ c.args.count = omega (arith, c.loop-k-test.false, c.loop-k.auto.k-end) in
-    subst (λ k. IsSum c.args.numbers.now c.args.starts.fourth c.args.step k c.loop-k.four) all c.loop-k.invariant.fourth
+    subst (λ k. IsSum c.args.numbers.now c.args.starts.fourth 1 k c.loop-k.four) all c.loop-k.invariant.fourth

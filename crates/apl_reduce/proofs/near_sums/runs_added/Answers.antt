@@ -6,7 +6,7 @@ pub returns : goal.returns
 returns c =
     let few : c.args.count ≤ 65536 = omega (arith, c.requires.few) in
     let of = near_plus c.range_is_decided.ensures.decided c.range_is_decided.ensures.bits c.args.numbers.now in
-    let sums = c.run_sums.ensures in
+    let sums = c.four_sums.ensures in
     record {
       first = λ low total small. of _ c.args.count _ total few (sums.first low) small;
       second = λ low total small. of _ c.args.count _ total few (sums.second low) small;

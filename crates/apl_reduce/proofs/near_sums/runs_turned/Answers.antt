@@ -4,11 +4,10 @@ pub returns : goal.returns
 returns c =
     let numbers = c.args.numbers.now in
     let few = c.requires.few in
-    let low = c.pair_sums-low.ensures in
-    let high = c.pair_sums-high.ensures in
+    let sums = c.pair_sums-sums.ensures in
     record {
-      first = c.less.ensures numbers _ _ few low.first low.second;
-      second = c.less-2.ensures numbers _ _ few low.third low.fourth;
-      third = c.less-3.ensures numbers _ _ few high.first high.second;
-      fourth = c.less-4.ensures numbers _ _ few high.third high.fourth;
+      first = c.turned.ensures numbers _ _ few sums.first;
+      second = c.turned-2.ensures numbers _ _ few sums.second;
+      third = c.turned-3.ensures numbers _ _ few sums.third;
+      fourth = c.turned-4.ensures numbers _ _ few sums.fourth;
     }

@@ -29,4 +29,4 @@ returns-in-Minus g c =
     IfSome_then c.near_total-in-Minus.result c.near_total-in-Minus.ensures (λ z all.
     ap (λ f. folded_onto f item first count (Ok c.args.total)) named
     ∙ ap (λ (t : ℤ). folded_onto Minus item first count (Ok t)) (sym read)
-    ∙ all Minus c.args.numbers.now first count c.halves_turned.ensures)
+    ∙ all Minus c.args.numbers.now first count c.quarters_turned.ensures)
