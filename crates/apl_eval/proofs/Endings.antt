@@ -5,6 +5,7 @@ use Rattle.std.specs.List.{slice_get}
 use Rattle.std.proofs.lemmas.List.{length-append}
 use Rattle.std.proofs.lemmas.Option.{slice_get-get_or}
 use Rattle.std.proofs.Math.Seq.{get_or-append_seam}
+use Rattle.apl_grammar.specs.declared.program.IndexedName.{IndexedName}
 use Rattle.apl_grammar.specs.declared.program.Operation.{Operation}
 use Rattle.apl_grammar.specs.declared.program.Operation.TheVariants as op
 use Rattle.apl_grammar.specs.Tree.{Expr, value, dyadic, monadic, assign, assign_at, constant, name, group, index, brackets, indexed_name, axis_brackets, semicolons, operations, operand_operations, list_operations, axis_operations}
@@ -41,3 +42,8 @@ assigns-last e ops found program is =
     let x = ends e in
     let all : ops ≡ x.front ++ x.end ∷ [] = sym program ∙ x.split in
     ap assigns (is ∙ ap (λ os. slice_get os (length os - 1)) all ∙ last_of x.front x.end) ∙ x.is
+
+pub is_assignment_at_end : (e : Expr) (ops before : List Operation) (target : IndexedName) → operations e ≡ ops → ops ≡ before ++ op.AssignAt target ∷ [] → is_assignment e ≡ true
+is_assignment_at_end e ops before target program split =
+    let found : slice_get ops (length ops - 1) ≡ Some (op.AssignAt target) = ap (λ os. slice_get os (length os - 1)) split ∙ last_of before (op.AssignAt target) in
+    sym (assigns-last e ops (Some (op.AssignAt target)) program (sym found))

@@ -1,11 +1,11 @@
 -- A hash map's names as a finite map, and maps laid over one another.
-use Rattle.std.proofs.Common.{◌≡◌, ◌≤◌, ◌+◌, ℕ, List, [], ◌∷◌, ◌++◌, length, map, Option, Some, None, refl, sym, ap, ◌∙◌, subst, arith, Bor, ◌⊎◌, inl, inr}
-use Rattle.std.specs.Prelude.{Bool, true, false, cond, string_bytes, String, option_map, option_copied, MatchOption, string_eq, bytes_eq}
+use Rattle.std.proofs.Common.{Result, Ok, Err, OnOk, OnErr, IfErr, IsSome, ◌≡◌, ◌≤◌, ◌+◌, ℕ, List, [], ◌∷◌, ◌++◌, length, map, Option, Some, None, refl, sym, ap, ◌∙◌, subst, arith, Bor, ◌⊎◌, inl, inr}
+use Rattle.std.specs.Prelude.{is_some, Bool, true, false, cond, string_bytes, String, option_map, option_copied, MatchOption, string_eq, bytes_eq}
 use Rattle.std.specs.Ordering.{nat_cmp, eq_by_cmp}
 use Rattle.std.specs.Cmp.Lexicographic.{slice_cmp, nat_list_cmp_total}
 use Rattle.std.specs.Cmp.{eq_by_cmp_equiv}
 use Rattle.std.specs.FinMap.{find, entries, get, insert, empty, get-from_entries, get-entries, get-insert, get-empty, same_map, slice_cmp-IsAntisymmetric, nat_cmp-IsAntisymmetric}
-use Rattle.std.specs.HashMap.{HashMap, get_by_text, IsUnique, UpdatesBy, spare}
+use Rattle.std.specs.HashMap.{HashMap, get_by_text, IsUnique, UpdatesBy, WritesThrough, spare}
 use Rattle.std.specs.HashMap.{get as hash_get}
 use Rattle.std.specs.Map.{lookup, keys_of}
 use Rattle.std.specs.List.{IsDistinct, AllByRecursion}
@@ -13,7 +13,15 @@ use Rattle.std.specs.declared.rc.Rc.{Rc}
 use Rattle.std.proofs.lemmas.Slice.Eq.{bytes_eq-Decides}
 use Rattle.std.proofs.lemmas.Map.Text.{is_eq-slice_cmp, hash_map_updates_text}
 use Rattle.apl_array.specs.Array.{ArrayValue}
+use Rattle.apl_answer.specs.declared.fault.OpFault.{OpFault}
+use Rattle.apl_answer.specs.declared.fault.OpFault.TheVariants as faults
+use Rattle.apl_answer.specs.Pointwise.{IsAnswerOf}
 use Rattle.apl_eval.specs.Workspace.{NameValues}
+use Rattle.apl_print.specs.declared.reports.Report.{Report}
+use Rattle.apl_eval.specs.declared.functions.FunctionRefusal.{FunctionRefusal}
+use Rattle.apl_eval.specs.declared.functions.FunctionRefusal.TheVariants.{Error}
+use Rattle.apl_eval.specs.Functions.{result_of}
+use Rattle.apl_eval.specs.Refusals.{refusal_of, Answers}
 use Rattle.apl_eval.specs.Names.{named, names_in, overlaid}
 
 abbrev pub or_else : Option ArrayValue → Option ArrayValue → Option ArrayValue
@@ -54,6 +62,75 @@ get-overlaid_second s m q (Some v) e is = get-overlaid s m q ∙ ap (λ x. or_el
 
 pub overlaid-empty : (m : NameValues) → overlaid empty m ≡ m
 overlaid-empty m = same_names _ m (λ q. get-overlaid empty m q ∙ ap (λ o. or_else o (get m q)) (get-empty (slice_cmp nat_cmp) q))
+
+or_else-none : (o : Option ArrayValue) → or_else o None ≡ o
+or_else-none (Some v) = refl
+or_else-none None = refl
+
+pub overlaid-nothing : (m : NameValues) → overlaid m empty ≡ m
+overlaid-nothing m = same_names _ m (λ q. get-overlaid m empty q ∙ ap (or_else (get m q)) (get-empty (slice_cmp nat_cmp) q) ∙ or_else-none (get m q))
+
+-- a name that gets the value that it has
+pub insert_same : (m : NameValues) (k : List ℕ) (v : ArrayValue) → get m k ≡ Some v → insert m k v ≡ m
+insert_same m k v has = same_names _ m (λ q. get-insert_name m k v q ∙ by_test q (is_name q k) refl)
+  where
+    by_test : (q : List ℕ) (b : Bool) → is_name q k ≡ b → cond b (Some v) (get m q) ≡ get m q
+    by_test q true e =
+        let same : q ≡ k = (bytes_eq-Decides q k).0 (sym (is_eq-slice_cmp q k) ∙ e) in
+        sym has ∙ ap (get m) (sym same)
+    by_test q false e = refl
+
+pub get-insert_own : (m : NameValues) (k : List ℕ) (v : ArrayValue) → get (insert m k v) k ≡ Some v
+get-insert_own m k v = get-insert_name m k v k ∙ ap (λ b. cond b (Some v) (get m k)) ((eq_by_cmp_equiv nat_list_cmp_total).refl k)
+
+-- ---- a line that shares what a workspace has
+
+pub shared_first : {Z : Type 0} (s m : NameValues) (q : List ℕ) (r : Option (Bor (Rc ArrayValue Z))) → MatchOption r (get s q ≡ None) (λ v. get s q ≡ Some v.now.value) → is_some r ≡ true → get s q ≡ get (overlaid s m) q
+shared_first s m q None is some = absurd cc
+shared_first s m q (Some v) is some = is ∙ sym (get-overlaid_first s m q v.now.value is)
+
+pub only_second : {Z : Type 0} (s m : NameValues) (q : List ℕ) (v : ArrayValue) (r : Option (Bor (Rc ArrayValue Z))) → MatchOption r (get s q ≡ None) (λ v. get s q ≡ Some v.now.value) → is_some r ≡ false → get m q ≡ Some v → get (overlaid s m) q ≡ Some v
+only_second s m q v None none some there = get-overlaid s m q ∙ ap (λ o. or_else o (get m q)) none ∙ there
+only_second s m q v (Some x) none some there = absurd cc
+
+pub none_second : (s m : NameValues) (q : List ℕ) → get m q ≡ None → get s q ≡ get (overlaid s m) q
+none_second s m q none = sym (get-overlaid s m q ∙ ap (or_else (get s q)) none ∙ or_else-none (get s q))
+
+-- ---- what is refused
+
+pub refused : (wanted : Result ArrayValue OpFault) (fault : OpFault) → IsAnswerOf wanted (Err fault) → Answers (result_of wanted) (Err (refusal_of fault))
+refused wanted fault (inl is) = subst (λ answer. Answers (result_of answer) (Err (refusal_of fault))) is (own fault)
+  where
+    own : (fault : OpFault) → Answers (result_of (Err fault)) (Err (refusal_of fault))
+    own faults.Rank = refl
+    own faults.Length = refl
+    own faults.Index = refl
+    own faults.Domain = refl
+    own faults.Limit = refl
+    own faults.Memory = tt
+refused wanted faults.Memory (inr is) = tt
+refused wanted faults.Rank (inr is) = absurd cc
+refused wanted faults.Length (inr is) = absurd cc
+refused wanted faults.Index (inr is) = absurd cc
+refused wanted faults.Domain (inr is) = absurd cc
+refused wanted faults.Limit (inr is) = absurd cc
+
+pub told : {X : Type 0} (wanted : Result ArrayValue Report) (r : Result X FunctionRefusal) (report : Report) → r ≡ Err (Error report) → IfErr r (λ refusal. Answers wanted (Err refusal)) → wanted ≡ Err report
+told wanted r report is h = subst (λ r. IfErr r (λ refusal. Answers wanted (Err refusal))) is h
+
+pub err_of : {X : Type 0} (r : Result X FunctionRefusal) (f g : Result ArrayValue Report) → f ≡ g → IfErr r (λ refusal. Answers f (Err refusal)) → IfErr r (λ refusal. Answers g (Err refusal))
+err_of r f g same h = subst (λ wanted. IfErr r (λ refusal. Answers wanted (Err refusal))) same h
+
+pub at_err : {X E P : Type 0} (r : Result X E) (e : E) → r ≡ Err e → OnErr r P → P
+at_err {P = P} r e is h = subst (λ r. OnErr r P) is h
+
+pub on_ok : {X E P Q : Type 0} (r : Result X E) → (P → Q) → OnOk r P → OnOk r Q
+on_ok (Ok x) f h = f h
+on_ok (Err e) f h = h
+
+pub on_err : {X E P Q : Type 0} (r : Result X E) → (P → Q) → OnErr r P → OnErr r Q
+on_err (Ok x) f h = h
+on_err (Err e) f h = f h
 
 or_else-cond : (b : Bool) (v : ArrayValue) (o p : Option ArrayValue) → or_else (cond b (Some v) o) p ≡ cond b (Some v) (or_else o p)
 or_else-cond true v o p = refl
@@ -117,6 +194,21 @@ module _ {Y Z S : Type 0} where
   pub found_value : (m : HashMap (String Y) (Rc ArrayValue Z) S) (q : List ℕ) (r : Option (Bor (Rc ArrayValue Z))) → option_copied r ≡ get_by_text m q → MatchOption r (get (names_in m) q ≡ None) (λ v. get (names_in m) q ≡ Some v.now.value)
   found_value m q None e = get-names_in m q ∙ ap (option_map value_in) (sym e)
   found_value m q (Some v) e = get-names_in m q ∙ ap (option_map value_in) (sym e)
+
+  pub found_here : (m : HashMap (String Y) (Rc ArrayValue Z) S) (k : List ℕ) (held : Rc ArrayValue Z) → Some held ≡ get_by_text m k → get (names_in m) k ≡ Some held.value
+  found_here m k held found = get-names_in m k ∙ ap (option_map value_in) (sym found)
+
+  -- a value written through what a look-up lent
+  pub names_in-written : (m n : HashMap (String Y) (Rc ArrayValue Z) S) (k : List ℕ) (held v : Rc ArrayValue Z) → Some held ≡ get_by_text m k → WritesThrough string_eq (text_is k) m v n → names_in n ≡ insert (names_in m) k v.value
+  names_in-written m n k held v found h = names_in-updates m n k v (h.3 (subst IsSome found refl))
+
+  -- nothing is changed by the value that is there
+  pub names_in-unwritten : (m n : HashMap (String Y) (Rc ArrayValue Z) S) (k : List ℕ) (held v : Rc ArrayValue Z) → Some held ≡ get_by_text m k → v.value ≡ held.value → WritesThrough string_eq (text_is k) m v n → names_in n ≡ names_in m
+  names_in-unwritten m n k held v found same h =
+      names_in-written m n k held v found h ∙ ap (insert (names_in m) k) same ∙ insert_same (names_in m) k held.value (found_here m k held found)
+
+  pub not_found : (m : HashMap (String Y) (Rc ArrayValue Z) S) (k : List ℕ) → None ≡ get_by_text m k → get (names_in m) k ≡ None
+  not_found m k none = get-names_in m k ∙ ap (option_map value_in) (sym none)
 
   -- entries in another order
   text_reordered : (m n : HashMap (String Y) (Rc ArrayValue Z) S) → ((k : String Y) → hash_get string_eq n k ≡ hash_get string_eq m k) → (q : List ℕ) → get_by_text n q ≡ get_by_text m q

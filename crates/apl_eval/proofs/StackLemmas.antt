@@ -12,7 +12,7 @@ use Rattle.std.specs.declared.rc.Rc.{Rc}
 use Rattle.apl_array.specs.Array.{ArrayValue}
 use Rattle.apl_eval.specs.Workspace.{NameValues, WorkspaceValue, with_names, assigned}
 use Rattle.apl_eval.specs.Steps.{Item, State, stuck, onto, step, item_of, stack_of, with_value, with_axis, with_slots, under_axis, HasValueAbove, HasValue, HasAxisAbove, HasAxis, HasSlotsAbove, staged_in}
-use Rattle.apl_eval.proofs.NameLemmas.{overlaid-empty, overlaid-insert}
+use Rattle.apl_eval.proofs.NameLemmas.{overlaid-empty, overlaid-nothing, overlaid-insert}
 use Rattle.std.specs.FinMap.{empty, insert}
 
 pub stack_of-push : {Z : Type 0} (xs : List (Option (Rc ArrayValue Z))) (x : Option (Rc ArrayValue Z)) → stack_of (xs ++ x ∷ []) ≡ item_of x ∷ stack_of xs
@@ -180,3 +180,7 @@ staged_in-empty w = ap (λ names. with_names names w) (overlaid-empty w.names)
 
 pub staged_in-insert : (staged : NameValues) (w : WorkspaceValue) (name : List ℕ) (v : ArrayValue) → staged_in (insert staged name v) w ≡ assigned name v (staged_in staged w)
 staged_in-insert staged w name v = ap (λ names. with_names names w) (overlaid-insert staged w.names name v)
+
+-- a workspace without names, and names over it
+pub staged_in-nameless : (names : NameValues) (w : WorkspaceValue) → staged_in names (with_names empty w) ≡ with_names names w
+staged_in-nameless names w = ap (λ all. with_names all w) (overlaid-nothing names)

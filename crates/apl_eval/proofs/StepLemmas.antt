@@ -1,14 +1,16 @@
 -- The operations of a tree, carried out one after another, come to the tree's meaning.
-use Rattle.std.proofs.Common.{◌≡◌, ◌≢◌, ◌+◌, ◌<◌, ◌≤◌, ℕ, List, [], ◌∷◌, ◌++◌, length, drop, get_or, refl, sym, ◌∙◌, ap, subst, append_assoc, drop-cons, add-one, Option, Some, None, Err, arith}
+use Rattle.std.proofs.Common.{◌≡◌, ◌≢◌, ◌+◌, ◌<◌, ◌≤◌, ℕ, List, [], ◌∷◌, ◌++◌, length, drop, get_or, refl, sym, ◌∙◌, ap, subst, append_assoc, drop-cons, add-one, Option, Some, None, Result, Ok, Err, arith}
 use Rattle.std.proofs.lemmas.List.{append-nil, drop_all, length-append}
 use Rattle.apl_array.specs.Array.{ArrayValue}
+use Rattle.apl_grammar.specs.declared.program.IndexedName.{IndexedName}
 use Rattle.apl_grammar.specs.declared.program.Operation.{Operation}
 use Rattle.apl_grammar.specs.declared.program.Operation.TheVariants as op
 use Rattle.apl_grammar.specs.Tree.{Expr, value, dyadic, monadic, assign, assign_at, Operand, constant, name, group, index, Slots, last, more, Slot, nothing, given, none, along, brackets, indexed_name, semicolons, operations, operand_operations, list_operations, slot_operations, IsProgram}
 use Rattle.apl_print.specs.declared.reports.Report.{Report}
 use Rattle.apl_eval.specs.Workspace.{WorkspaceValue}
 use Rattle.apl_eval.specs.Meaning.{Outcome, Evaluation, done, failed, then, index_outcome, assign_at_outcome, meaning_of, meaning_of_operand, meaning_of_slots, meaning_of_slot}
-use Rattle.apl_eval.specs.Steps.{Item, State, HasValue, leaves, waiting, ended, stuck, onto, with_value, step, go_on, steps, IsOutcome, IsState}
+use Rattle.apl_eval.specs.Evaluates.{Evaluates}
+use Rattle.apl_eval.specs.Steps.{Item, State, HasValue, leaves, waiting, ended, stuck, onto, with_value, step, go_on, steps, last_assign_at, IsState}
 use Rattle.apl_eval.proofs.StackLemmas.{with_slots-above}
 use Rattle.apl_eval.specs.declared.statement.EvalStop.{EvalStop}
 use Rattle.apl_eval.specs.declared.statement.EvalStop.TheVariants.{Error, Memory}
@@ -155,6 +157,40 @@ only : (m : Outcome ArrayValue) (v : ArrayValue) (below : List Item) (w : Worksp
 only (done x u) v below w e = cc
 only (failed r d u) v below w e = absurd cc
 
+module _ (ops : List Operation) (start : WorkspaceValue) where
+  of_tree : (e : Expr) → operations e ≡ ops → onto [] (meaning_of e start) ≡ steps ops [] start
+  of_tree e program = sym (steps-program e start) ∙ ap (λ os. steps os [] start) program
+
+  program_possible : IsProgram ops → steps ops [] start ≢ stuck
+  program_possible program e = not_stuck (meaning_of program.0 start) (of_tree program.0 program.2 ∙ e)
+
+  -- what all operations come to
+  pub leaves_value : IsProgram ops → (items : List Item) (u : WorkspaceValue) → steps ops [] start ≡ waiting items u → HasValue items
+  leaves_value program items u is = has_value (meaning_of program.0 start) items u (of_tree program.0 program.2 ∙ is)
+
+  pub means : (e : Expr) → operations e ≡ ops → (items : List Item) (u : WorkspaceValue) → steps ops [] start ≡ waiting items u → (v : ArrayValue) (below : List Item) → items ≡ Some v ∷ below → meaning_of e start ≡ done v u
+  means e program items u is v below top = only (meaning_of e start) v below u (of_tree e program ∙ is ∙ ap (λ items. waiting items u) top)
+
+  pub ends_with : (e : Expr) → operations e ≡ ops → (report : Report) (c : ℕ) (u : WorkspaceValue) → steps ops [] start ≡ ended report c u → meaning_of e start ≡ failed report c u
+  ends_with e program report c u is = fails (meaning_of e start) report c u (of_tree e program ∙ is)
+
+pub went_on : {T : Type 0} (state : State) (items : List Item) (u : WorkspaceValue) (r : Result T EvalStop) (x : T) → r ≡ Ok x → IsState state items u r → state ≡ waiting items u
+went_on state items u r x is h = subst (IsState state items u) is h
+
+pub stopped_with : {T : Type 0} (state : State) (items : List Item) (u : WorkspaceValue) (r : Result T EvalStop) (stop : EvalStop) → r ≡ Err stop → IsState state items u r → IsState {T = T} state items u (Err stop)
+stopped_with state items u r stop is h = subst (IsState state items u) is h
+
+pub ended_with : {T : Type 0} (state : State) (items : List Item) (u : WorkspaceValue) (r : Result T EvalStop) (report : Report) (c : ℕ) → r ≡ Err (Error report c) → IsState state items u r → state ≡ ended report c u
+ended_with state items u r report c is h = subst (IsState state items u) is h
+
+-- what a statement answers that is refused, and leaves the workspace as it was
+pub stops_so : (T : Type 0) (ops : List Operation) (w : WorkspaceValue) (e : Expr) → operations e ≡ ops → (items : List Item) (new : WorkspaceValue) (stop : EvalStop) → new ≡ w
+    → IsState {T = T} (steps ops [] w) items new (Err stop) → Evaluates e w new (Err stop)
+stops_so T ops w e program items new Memory unchanged is = unchanged
+stops_so T ops w e program items new (Error report c) unchanged is = ends_with ops w e program report c new is
+
+-- ---- operations one after another
+
 -- what the loop keeps: what is left of the operations comes to the same state
 pub record ComesTo (ops : List Operation) (start : WorkspaceValue) (place : ℕ) (values : List Item) (w : WorkspaceValue) : Type 0 where
   pub left : steps (drop place ops) values w ≡ steps ops [] start
@@ -163,30 +199,56 @@ module _ (ops : List Operation) (start : WorkspaceValue) (place : ℕ) (values :
   here : place < length ops → o ≡ get_or ops place o → steps (drop place ops) values w ≡ go_on (step o values w) (steps (drop (place + 1) ops))
   here inside is = ap (λ os. steps os values w) (drop-cons ops place o inside) ∙ (λ i. go_on (step (sym is i) values w) (steps (drop (sym (add-one place) i) ops)))
 
-  pub is_possible : IsProgram ops → place < length ops → o ≡ get_or ops place o → ComesTo ops start place values w → step o values w ≢ stuck
-  is_possible program inside is h e =
-      let whole : steps ops [] start ≡ onto [] (meaning_of program.0 start) = ap (λ os. steps os [] start) (sym program.2) ∙ steps-program program.0 start in
-      not_stuck (meaning_of program.0 start) (sym whole ∙ sym h.left ∙ here inside is ∙ ap (λ s. go_on s (steps (drop (place + 1) ops))) e)
+  pub is_possible : steps ops [] start ≢ stuck → place < length ops → o ≡ get_or ops place o → ComesTo ops start place values w → step o values w ≢ stuck
+  is_possible whole inside is h e = whole (sym h.left ∙ here inside is ∙ ap (λ s. go_on s (steps (drop (place + 1) ops))) e)
 
   pub ComesTo-more : place < length ops → o ≡ get_or ops place o → ComesTo ops start place values w → (next : List Item) (u : WorkspaceValue) → step o values w ≡ waiting next u → ComesTo ops start (place + 1) next u
   ComesTo-more inside is h next u e = record { left = sym (ap (λ s. go_on s (steps (drop (place + 1) ops))) e) ∙ sym (here inside is) ∙ h.left }
 
-  pub ends_with : (e : Expr) → operations e ≡ ops → place < length ops → o ≡ get_or ops place o → ComesTo ops start place values w → (report : Report) (c : ℕ) (u : WorkspaceValue) → step o values w ≡ ended report c u → meaning_of e start ≡ failed report c u
-  ends_with e program inside is h report c u fault =
-      fails (meaning_of e start) report c u
-      (sym (ap (λ os. steps os [] start) (sym program) ∙ steps-program e start) ∙ sym h.left ∙ here inside is ∙ ap (λ s. go_on s (steps (drop (place + 1) ops))) fault)
+  pub stops_with : (T : Type 0) → place < length ops → o ≡ get_or ops place o → ComesTo ops start place values w → (next : List Item) (u : WorkspaceValue) (stop : EvalStop) → IsState {T = T} (step o values w) next u (Err stop) → IsState {T = T} (steps ops [] start) next u (Err stop)
+  stops_with T inside is h next u Memory fault = tt
+  stops_with T inside is h next u (Error report column) fault = sym h.left ∙ here inside is ∙ ap (λ s. go_on s (steps (drop (place + 1) ops))) fault
 
-  pub stops_with : (T Z : Type 0) (e : Expr) → operations e ≡ ops → place < length ops → o ≡ get_or ops place o → ComesTo ops start place values w → (next : List Item) (u : WorkspaceValue) (stop : EvalStop) → IsState {T = T} (step o values w) next u (Err stop) → IsOutcome {Z = Z} (meaning_of e start) u (Err stop)
-  stops_with T Z e program inside is h next u Memory fault = tt
-  stops_with T Z e program inside is h next u (Error report column) fault = ends_with e program inside is h report column u fault
+pub at_end : (ops : List Operation) (start : WorkspaceValue) (place : ℕ) (values : List Item) (w : WorkspaceValue) → length ops ≤ place → ComesTo ops start place values w → steps ops [] start ≡ waiting values w
+at_end ops start place values w past h = sym h.left ∙ ap (λ os. steps os values w) (drop_all place ops past)
 
-module _ (ops : List Operation) (start : WorkspaceValue) (place : ℕ) (values : List Item) (w : WorkspaceValue) where
-  at_end : length ops ≤ place → ComesTo ops start place values w → (e : Expr) → operations e ≡ ops → onto [] (meaning_of e start) ≡ waiting values w
-  at_end past h e program =
-      sym (steps-program e start) ∙ ap (λ os. steps os [] start) program ∙ sym h.left ∙ ap (λ os. steps os values w) (drop_all place ops past)
+-- ---- an indexed assignment at the end
 
-  pub one_left : length ops ≤ place → ComesTo ops start place values w → IsProgram ops → HasValue values
-  one_left past h program = has_value (meaning_of program.0 start) values w (at_end past h program.0 program.2)
+steps-append : (before later : List Operation) (values : List Item) (w : WorkspaceValue) → steps (before ++ later) values w ≡ go_on (steps before values w) (steps later)
+steps-append [] later values w = refl
+steps-append (o ∷ before) later values w = by_state (step o values w) (λ items u. steps-append before later items u)
+  where
+    by_state : (s : State) → ((items : List Item) (u : WorkspaceValue) → steps (before ++ later) items u ≡ go_on (steps before items u) (steps later)) → go_on s (steps (before ++ later)) ≡ go_on (go_on s (steps before)) (steps later)
+    by_state (waiting items u) rest = rest items u
+    by_state (ended report c u) rest = refl
+    by_state stuck rest = refl
 
-  pub means : length ops ≤ place → ComesTo ops start place values w → (e : Expr) → operations e ≡ ops → (v : ArrayValue) (below : List Item) → values ≡ Some v ∷ below → meaning_of e start ≡ done v w
-  means past h e program v below is = only (meaning_of e start) v below w (at_end past h e program ∙ ap (λ vs. waiting vs w) is)
+no_more : (s : State) → go_on s (steps []) ≡ s
+no_more (waiting items u) = refl
+no_more (ended report c u) = refl
+no_more stuck = refl
+
+module _ (before : List Operation) (target : Option IndexedName) (start : WorkspaceValue) where
+  pub front_possible : (all : List Operation) → IsProgram all → all ≡ before ++ last_assign_at target → steps before [] start ≢ stuck
+  front_possible all program split e =
+      program_possible all start program (ap (λ os. steps os [] start) split ∙ steps-append before (last_assign_at target) [] start ∙ ap (λ s. go_on s (steps (last_assign_at target))) e)
+
+  pub front_stops : (T : Type 0) (all : List Operation) → all ≡ before ++ last_assign_at target → (next : List Item) (u : WorkspaceValue) (stop : EvalStop)
+      → IsState {T = T} (steps before [] start) next u (Err stop) → IsState {T = T} (steps all [] start) next u (Err stop)
+  front_stops T all split next u Memory fault = tt
+  front_stops T all split next u (Error report c) fault =
+      ap (λ os. steps os [] start) split ∙ steps-append before (last_assign_at target) [] start ∙ ap (λ s. go_on s (steps (last_assign_at target))) fault
+
+pub nothing_after : (before : List Operation) (start : WorkspaceValue) (all : List Operation) → all ≡ before ++ last_assign_at None → steps all [] start ≡ steps before [] start
+nothing_after before start all split = ap (λ os. steps os [] start) (split ∙ append-nil before)
+
+-- all of them come to what the last one does
+pub last_step : (before : List Operation) (target : IndexedName) (start : WorkspaceValue) (all : List Operation) → all ≡ before ++ last_assign_at (Some target) → (items : List Item) (u : WorkspaceValue)
+    → steps before [] start ≡ waiting items u → steps all [] start ≡ step (op.AssignAt target) items u
+last_step before target start all split items u is =
+    ap (λ os. steps os [] start) split ∙ steps-append before (op.AssignAt target ∷ []) [] start ∙ ap (λ s. go_on s (steps (op.AssignAt target ∷ []))) is
+    ∙ no_more (step (op.AssignAt target) items u)
+
+pub last_possible : (before : List Operation) (target : IndexedName) (start : WorkspaceValue) (all : List Operation) → IsProgram all → all ≡ before ++ last_assign_at (Some target) → (items : List Item) (u : WorkspaceValue)
+    → steps before [] start ≡ waiting items u → step (op.AssignAt target) items u ≢ stuck
+last_possible before target start all program split items u is e = program_possible all start program (last_step before target start all split items u is ∙ e)

@@ -3,6 +3,7 @@ use Rattle.std.specs.Prelude.{◌≡◌, ℕ, ◌+◌, zero, suc, List, [], ◌�
 use Rattle.std.specs.declared.rc.Rc.{Rc}
 use Rattle.apl_array.specs.Array.{ArrayValue}
 use Rattle.apl_grammar.specs.declared.program.Brackets.{Brackets}
+use Rattle.apl_grammar.specs.declared.program.IndexedName.{IndexedName}
 use Rattle.apl_grammar.specs.declared.program.Operation.{Operation}
 use Rattle.apl_grammar.specs.declared.program.Operation.TheVariants as op
 use Rattle.apl_print.specs.declared.reports.Report.{Report}
@@ -63,6 +64,11 @@ step (op.Monadic f axis) items w =
     with_axis axis items (λ axis items. with_value items (λ right below. onto below (monadic_outcome f axis right w)))
 step (op.Dyadic f axis) items w =
     with_value items (λ left items. with_axis axis items (λ axis items. with_value items (λ right below. onto below (dyadic_outcome f axis left right w))))
+
+-- an indexed assignment at the end of the operations, if there is one
+abbrev pub last_assign_at : Option IndexedName → List Operation
+last_assign_at (Some target) = op.AssignAt target ∷ []
+last_assign_at None = []
 
 abbrev pub go_on : State → (List Item → WorkspaceValue → State) → State
 go_on (waiting items w) next = next items w

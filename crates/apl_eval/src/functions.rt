@@ -1,5 +1,5 @@
 //! Functions of arrays.
-ghost use Rattle.std.specs.Prelude.{◌≡◌, Result, map, option_copied};
+ghost use Rattle.std.specs.Prelude.{◌≡◌, Result, Ok, Err, Some, IfOk, IfErr, OnOk, OnErr, map, option_copied};
 ghost use Rattle.apl_array.specs.declared.axis.Axis.TheVariants.{At};
 ghost use Rattle.apl_array.specs.Array.{ArrayValue};
 ghost use Rattle.apl_answer.specs.declared.fault.OpFault.{OpFault};
@@ -19,7 +19,7 @@ use apl_grammar::{
 use apl_pool::{Crew, Pool};
 use apl_print::Report;
 use apl_struct::axis_number;
-use std::alloc::Global;
+use std::alloc::{AllocError, AllocFailed, Global};
 use std::rc::Rc;
 
 /// Why a function has no value.
@@ -44,6 +44,28 @@ impl From<OpFault> for FunctionRefusal {
             OpFault::Limit => FunctionRefusal::Error(Report::Limit),
             OpFault::Memory => FunctionRefusal::Memory,
         }
+    }
+}
+
+impl From<AllocError> for FunctionRefusal {
+    ghost use Rattle.std.specs.Prelude.{◌≡◌};
+    ghost use Rattle.apl_eval.specs.declared.functions.FunctionRefusal.TheVariants.{Memory};
+
+    ghost from_gives = { λ _ r. r ≡ Memory };
+
+    fn from(_error: AllocError) -> FunctionRefusal {
+        FunctionRefusal::Memory
+    }
+}
+
+impl<T: Drop> From<AllocFailed<T>> for FunctionRefusal {
+    ghost use Rattle.std.specs.Prelude.{◌≡◌};
+    ghost use Rattle.apl_eval.specs.declared.functions.FunctionRefusal.TheVariants.{Memory};
+
+    ghost from_gives = { λ _ r. r ≡ Memory };
+
+    fn from(_error: AllocFailed<T>) -> FunctionRefusal {
+        FunctionRefusal::Memory
     }
 }
 
@@ -386,23 +408,38 @@ impl<'a, W: Crew> Context<'a, W> {
         result_of(apl_struct::select(rt, alloc, pool, array, slots, origin))
     }
 
-    /// A name's array, if it has one, with the value in the place of the elements that the slots choose.
+    /// Puts the value in the place of the elements of an array that the slots choose. After an error the array is as it was.
     #[tactic(auto, unfolding(crate::specs::Functions::assign_at_result))]
     pub(crate) fn assign_at(
         &self,
-        array: Option<&Array>,
+        array: &mut Array,
         slots: &[Option<&Array>],
         value: &Array,
-    ) -> Result<Array, FunctionRefusal>
-        ensures { Answers (assign_at_result self.now.workspace.now.origin (option_copied array.entry) (map option_copied slots.now) value.now) result }
+    ) -> Result<(), FunctionRefusal>
+        ensures ok { OnOk result (assign_at_result self.now.workspace.now.origin (Some array.old) (map option_copied slots.now) value.now ≡ Ok array.new) }
+        ensures err { IfErr result (λ refusal. Answers (assign_at_result self.now.workspace.now.origin (Some array.old) (map option_copied slots.now) value.now) (Err refusal)) }
+        ensures unchanged { OnErr result (array.new ≡ array.old) }
     {
         let (rt, alloc, pool) = self.parts();
         let origin = self.workspace.origin();
-        match array {
-            Some(array) => result_of(apl_struct::replace(
-                rt, alloc, pool, array, slots, value, origin,
-            )),
-            None => Err(FunctionRefusal::Error(Report::Value)),
+        match apl_struct::replace(rt, alloc, pool, array, slots, value, origin) {
+            Ok(()) => Ok(()),
+            Err(fault) => Err(FunctionRefusal::from(fault)),
         }
+    }
+
+    /// A copy of an array, with the value in the place of the elements that the slots choose.
+    pub(crate) fn changed_copy(
+        &self,
+        array: &Array,
+        slots: &[Option<&Array>],
+        value: &Array,
+    ) -> Result<Rc<Array>, FunctionRefusal>
+        ensures ok { IfOk result (λ changed. assign_at_result self.now.workspace.now.origin (Some array.now) (map option_copied slots.now) value.now ≡ Ok changed.value) }
+        ensures err { IfErr result (λ refusal. Answers (assign_at_result self.now.workspace.now.origin (Some array.now) (map option_copied slots.now) value.now) (Err refusal)) }
+    {
+        let mut copy = array.copy(self.alloc())?;
+        self.assign_at(&mut copy, slots, value)?;
+        Ok(Rc::new(self.alloc(), copy)?)
     }
 }

@@ -1,8 +1,8 @@
 //! Statements evaluated in a workspace.
-ghost use Rattle.std.specs.Prelude.{◌≡◌, ◌≢◌, ◌≤◌, ◌+◌, length, Some, None, option_copied, MatchOption, Result, IfOk};
-ghost use Rattle.std.specs.FinMap.{empty};
+ghost use Rattle.std.specs.Prelude.{◌≡◌, ◌≢◌, ◌≤◌, ◌+◌, ◌++◌, [], length, Some, None, option_copied, MatchOption, Result, IfOk, OnErr};
+ghost use Rattle.std.specs.FinMap.{empty, get};
 ghost use Rattle.apl_array.specs.Array.{ArrayValue};
-ghost use Rattle.apl_grammar.specs.Tree.{Expr, operations};
+ghost use Rattle.apl_grammar.specs.Tree.{Expr, IsProgram, operations};
 ghost use Rattle.apl_grammar.specs.declared.program.Operation.TheVariants as op;
 ghost use Rattle.apl_print.specs.Width.{least_width, most_width};
 ghost use Rattle.apl_print.specs.declared.reports.Report.{Report};
@@ -10,7 +10,7 @@ ghost use Rattle.apl_eval.specs.Workspace.{WorkspaceValue, value_of};
 ghost use Rattle.apl_eval.specs.Meaning.{Outcome, done, outcome_at, name_outcome, assign_at_column, meaning_of, is_assignment};
 ghost use Rattle.apl_eval.specs.Evaluates.{Evaluates, IsShownAs};
 ghost use Rattle.apl_eval.specs.Refusals.{Answers};
-ghost use Rattle.apl_eval.specs.Steps.{step, stuck, onto, staged_in, HasValue, HasValueAbove, HasAxisAbove, HasSlotsAbove, IsOutcome, IsState};
+ghost use Rattle.apl_eval.specs.Steps.{step, steps, stuck, onto, last_assign_at, staged_in, HasValue, HasValueAbove, HasAxisAbove, HasSlotsAbove, IsOutcome, IsState};
 
 use crate::functions::{Context, FunctionRefusal, dyadic_column, monadic_column};
 use crate::names::Names;
@@ -21,7 +21,7 @@ use apl_array::Array;
 use apl_grammar::{
     AxisBrackets, Brackets, Columns, DyadicForm, IndexedName, MonadicForm, Operation, Program,
 };
-use apl_pool::{Crew, Cut, Gate, Pool, Workers};
+use apl_pool::{Crew, Cut, Gate, KeptLists, Pool, Workers};
 use apl_print::{Report, print};
 use apl_tokens::Constant;
 use std::alloc::{AllocError, AllocFailed, Global};
@@ -82,16 +82,6 @@ fn look_up<'a>(workspace: &'a Workspace, staged: &'a Names, name: &str) -> Optio
     match staged.get(name) {
         Some(value) => Some(value),
         None => workspace.names().get(name),
-    }
-}
-
-/// The array that is the value of a name.
-fn array_named<'a>(workspace: &'a Workspace, staged: &'a Names, name: &str) -> Option<&'a Array>
-    ensures { option_copied result ≡ value_of name.now (staged_in staged.now workspace.now) }
-{
-    match look_up(workspace, staged, name) {
-        Some(value) => Some(value.as_ref()),
-        None => None,
     }
 }
 
@@ -213,7 +203,26 @@ fn assign_at_column(target: &IndexedName, report: Report) -> usize
     }
 }
 
-/// Gives a name its array with the value on the stack in the place of the chosen elements; the value stays on the stack.
+/// Has the line's assignments share the array of a name, if the workspace has it and they do not.
+fn share_array<W: Crew>(
+    context: &Context<'_, W>,
+    staged: &mut Names,
+    name: &str,
+) -> Result<(), AllocError>
+    ensures value { IfOk result (λ u. get staged.new name.now ≡ value_of name.now (staged_in staged.old context.now.workspace.now)) }
+    ensures same { staged_in staged.new context.now.workspace.now ≡ staged_in staged.old context.now.workspace.now }
+{
+    if staged.get(name).is_some() {
+        return Ok(());
+    }
+    if let Some(array) = context.workspace.names().get(name) {
+        let array = array.clone()?;
+        staged.insert(context.alloc(), name, array)?;
+    }
+    Ok(())
+}
+
+/// Changes the array of a name: the value on the stack goes in the place of the chosen elements. The value stays on the stack.
 fn apply_assign_at<W: Crew>(
     context: &Context<'_, W>,
     staged: &mut Names,
@@ -221,24 +230,40 @@ fn apply_assign_at<W: Crew>(
     target: &IndexedName,
 ) -> Result<(), EvalStop>
     requires { HasSlotsAbove HasValue (length target.now.semicolons + 1) stack.old }
-    ensures { IsState (step (op.AssignAt target.now) stack.old (staged_in staged.old context.now.workspace.now)) stack.new (staged_in staged.new context.now.workspace.now) result }
+    ensures state { IsState (step (op.AssignAt target.now) stack.old (staged_in staged.old context.now.workspace.now)) stack.new (staged_in staged.new context.now.workspace.now) result }
+    ensures unchanged { OnErr result (staged_in staged.new context.now.workspace.now ≡ staged_in staged.old context.now.workspace.now) }
 {
     let slots = stack.pop_slots(context.alloc(), &target.semicolons)?;
     let chosen = slots.arrays(context.alloc())?;
     let name = target.name.as_str();
-    let array = array_named(context.workspace, staged, name);
+    share_array(context, staged, name)?;
     let value = stack.top_value();
-    match context.assign_at(array, chosen.as_slice(), value) {
-        Ok(changed) => {
-            let changed = Rc::new(context.alloc(), changed)?;
-            Ok(staged.insert(context.alloc(), name, changed)?)
-        }
+    match staged.assign_at(context, name, chosen.as_slice(), value) {
+        Ok(()) => Ok(()),
         Err(FunctionRefusal::Error(report)) => Err(EvalStop::Error {
             report,
             column: assign_at_column(target, report),
         }),
         Err(FunctionRefusal::Memory) => Err(EvalStop::Memory),
     }
+}
+
+/// Changes the array of a name of the workspace. It is not copied, unless something else has it as well.
+fn assign_at_in_workspace<W: Crew>(
+    workers: &W,
+    workspace: &mut Workspace,
+    stack: &mut Stack,
+    target: &IndexedName,
+) -> Result<(), EvalStop>
+    requires { HasSlotsAbove HasValue (length target.now.semicolons + 1) stack.old }
+    ensures state { IsState (step (op.AssignAt target.now) stack.old workspace.old) stack.new workspace.new result }
+    ensures unchanged { OnErr result (workspace.new ≡ workspace.old) }
+{
+    let mut names = workspace.take_names(workers.alloc());
+    let context = Context { workers, workspace };
+    let answer = apply_assign_at(&context, &mut names, stack, target);
+    workspace.put_names(names);
+    answer
 }
 
 /// Carries out one operation. The line's assignments are staged, and read before the workspace's names.
@@ -275,23 +300,36 @@ fn carry_out<W: Crew>(
     }
 }
 
-/// The value of a program. The line's assignments are staged.
-fn run<W: Crew>(
+/// Carries out the operations of a line, one after another. Its assignments are staged.
+fn carry_out_all<W: Crew>(
     context: &Context<'_, W>,
     staged: &mut Names,
-    program: &Program,
-) -> Result<Rc<Array>, EvalStop>
-    requires { staged.old ≡ empty }
-    ensures { (tree : Expr) → operations tree ≡ program.now → IsOutcome (meaning_of tree context.now.workspace.now) (staged_in staged.new context.now.workspace.now) result }
+    stack: &mut Stack,
+    operations: &[Operation],
+) -> Result<(), EvalStop>
+    requires staged { staged.old ≡ empty }
+    requires stack { stack.old ≡ [] }
+    requires possible { steps operations.now [] context.now.workspace.now ≢ stuck }
+    ensures { IsState (steps operations.now [] context.now.workspace.now) stack.new (staged_in staged.new context.now.workspace.now) result }
 {
-    let mut stack = Stack::new(context.alloc());
-    'operations: for operation in program.operations() {
-        match carry_out(context, staged, &mut stack, operation) {
+    'operations: for operation in operations {
+        match carry_out(context, staged, stack, operation) {
             Ok(()) => {}
             Err(stop) => return Err(stop),
         }
     }
-    Ok(stack.pop_value())
+    Ok(())
+}
+
+/// The operations of a program without an indexed assignment at their end, and what that assigns to.
+fn without_last_assign_at(program: &Program) -> (&[Operation], Option<&IndexedName>)
+    ensures all { program.now ≡ result.0.now ++ last_assign_at (option_copied result.1) }
+    ensures of_a_tree { IsProgram program.now }
+{
+    match program.operations() {
+        [first @ .., Operation::AssignAt(target)] => (first, Some(target.indexed_name())),
+        operations => (operations, None),
+    }
 }
 
 /// Whether the statement is an assignment.
@@ -316,6 +354,37 @@ fn text_of(alloc: Global, program: &Program, value: &Array, width: u8) -> Result
     Ok(Shown::Text(print(alloc, value, width)?))
 }
 
+/// Keeps the assignments of a line whose operations have been carried out, and answers what it shows or its error.
+fn finish(
+    workspace: &mut Workspace,
+    alloc: Global,
+    kept: &KeptLists,
+    program: &Program,
+    staged: Names,
+    stack: Stack,
+    carried: Result<(), EvalStop>,
+) -> Result<Shown, EvalStop>
+    requires { IsState (steps program.now [] workspace.old) stack (staged_in staged workspace.old) carried }
+    ensures { (tree : Expr) → operations tree ≡ program.now → Evaluates tree workspace.old workspace.new result }
+{
+    let mut stack = stack;
+    let _of_a_tree = program.operations();
+    match carried {
+        Ok(()) => {
+            let value = stack.pop_value();
+            let shown = text_of(alloc, program, &value, workspace.width())?;
+            workspace.keep(staged, kept)?;
+            let_go(kept, value);
+            Ok(shown)
+        }
+        Err(EvalStop::Error { report, column }) => {
+            workspace.keep(staged, kept)?;
+            Err(EvalStop::Error { report, column })
+        }
+        Err(EvalStop::Memory) => Err(EvalStop::Memory),
+    }
+}
+
 /// Evaluates a statement in a workspace.
 ///
 /// An assignment shows nothing, and another statement the text of its value, printed at the workspace's width. After an error the
@@ -331,22 +400,36 @@ pub fn eval<R: Threads + Sync, C: Cut + Sync, G: Gate + Sync>(
     ensures { (tree : Expr) → operations tree ≡ program.now → Evaluates tree workspace.old workspace.new result }
 {
     let mut staged = Names::new(alloc);
-    let workers = Workers { rt, alloc, pool };
-    let context = Context {
-        workers: &workers,
-        workspace,
+    let mut stack = Stack::new(alloc);
+    let workers = &Workers { rt, alloc, pool };
+    let (first, target) = without_last_assign_at(program);
+    let carried = carry_out_all(
+        &Context { workers, workspace },
+        &mut staged,
+        &mut stack,
+        first,
+    );
+    let carried = match (carried, target) {
+        (Ok(()), Some(target)) if staged.is_empty() => {
+            // Nothing comes after it that could be refused.
+            assign_at_in_workspace(workers, workspace, &mut stack, target)?;
+            let_go(pool.kept(), stack.pop_value());
+            return Ok(Shown::Silent);
+        }
+        (Ok(()), Some(target)) => {
+            let context = Context { workers, workspace };
+            apply_assign_at(&context, &mut staged, &mut stack, target)
+        }
+        (Ok(()), None) => Ok(()),
+        (Err(stop), _) => Err(stop),
     };
-    match run(&context, &mut staged, program) {
-        Ok(value) => {
-            let shown = text_of(alloc, program, &value, workspace.width())?;
-            workspace.keep(staged, pool.kept())?;
-            let_go(pool.kept(), value);
-            Ok(shown)
-        }
-        Err(EvalStop::Error { report, column }) => {
-            workspace.keep(staged, pool.kept())?;
-            Err(EvalStop::Error { report, column })
-        }
-        Err(EvalStop::Memory) => Err(EvalStop::Memory),
-    }
+    finish(
+        workspace,
+        alloc,
+        pool.kept(),
+        program,
+        staged,
+        stack,
+        carried,
+    )
 }

@@ -1,5 +1,6 @@
 //! Workspaces.
 ghost use Rattle.std.specs.Prelude.{◌≡◌, ◌≤◌, option_copied, OnOk, OnErr};
+ghost use Rattle.std.specs.FinMap.{empty};
 ghost use Rattle.apl_eval.specs.Workspace.{value_of, with_names, with_origin, with_width, opening_workspace};
 ghost use Rattle.apl_print.specs.Width.{least_width, most_width};
 ghost use Rattle.apl_eval.specs.Names.{overlaid};
@@ -9,6 +10,7 @@ use apl_array::{Array, Origin};
 use apl_pool::KeptLists;
 use std::alloc::{AllocError, Global};
 use std::marker::Model;
+use std::mem::replace;
 
 /// The width of printed lines at first, in characters.
 const FIRST_WIDTH: u8 = 120;
@@ -105,6 +107,21 @@ impl Workspace {
         ensures { result.now ≡ self.now.names }
     {
         &self.names
+    }
+
+    /// Takes all names and their values.
+    pub(crate) fn take_names(&mut self, alloc: Global) -> Names
+        ensures names { result ≡ self.old.names }
+        ensures others { self.new ≡ with_names empty self.old }
+    {
+        replace(&mut self.names, Names::new(alloc))
+    }
+
+    /// Puts names and their values in the place of those that are there.
+    pub(crate) fn put_names(&mut self, names: Names)
+        ensures { self.new ≡ with_names names self.old }
+    {
+        self.names = names;
     }
 
     /// Gives the staged names their values: all of them, or none where room is refused. Those that they had before are let go.

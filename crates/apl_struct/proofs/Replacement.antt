@@ -1,6 +1,6 @@
 -- The number at each place is that of the last choice of its index list.
-use Rattle.std.proofs.Common.{◌≡◌, ℕ, pos, zero, suc, ◌+◌, ◌-◌, ◌*◌, ◌%◌, ◌<◌, ◌≤◌, Bool, true, false, List, [], ◌∷◌, length, take, drop, map, Option, Some, None, Result, Ok, slice_index_or, refl, ap, sym, ◌∙◌, arith}
-use Rattle.std.specs.Prelude.{nat_eq, ◌||◌, if◌then◌else◌}
+use Rattle.std.proofs.Common.{◌≡◌, ℕ, pos, zero, suc, ◌+◌, ◌-◌, ◌*◌, ◌<◌, ◌≤◌, Bool, true, false, List, [], ◌∷◌, length, take, drop, map, Option, Some, None, Ok, slice_index_or, inl, refl, ap, sym, ◌∙◌, arith}
+use Rattle.std.specs.Prelude.{nat_eq, ◌||◌, ◌↔◌, if◌then◌else◌}
 use Rattle.std.proofs.lemmas.Bool.{eq-eqb, eqb-true}
 use Rattle.std.proofs.lemmas.Bool.Decides.{same_from_decides}
 use Rattle.std.proofs.lemmas.Slice.Eq.{bytes_eq-Decides}
@@ -8,19 +8,19 @@ use Rattle.std.proofs.lemmas.Grind.{get_or-set_at}
 use Rattle.std.proofs.lemmas.List.{get_or-set_other, get_or_default, take_rest}
 use Rattle.std.proofs.lemmas.Nat.{mod-mul-add, div-mul-add}
 use Rattle.std.proofs.Math.ListN.{set, get_or-map}
-use Rattle.std.proofs.Math.Nat.{mod-eq_of_lt}
 use Rattle.apl_array.specs.declared.array.Elem.TheVariants.{Int}
 use Rattle.apl_array.specs.declared.array.Elem.{Elem}
+use Rattle.apl_array.specs.declared.array.Kind.{Kind}
 use Rattle.apl_array.specs.declared.axis.Origin.{Origin}
 use Rattle.apl_array.specs.Shape.{IsIndexOf, count_of, place_of, index_at}
-use Rattle.apl_array.specs.Array.{ArrayValue, IsArray}
+use Rattle.apl_array.specs.Array.{ArrayValue, IsArray, element_at}
 use Rattle.apl_answer.specs.Arguments.{fill_of, has_one_element, is_same_shape}
+use Rattle.apl_answer.specs.Elements.{array_with}
+use Rattle.apl_answer.specs.Pointwise.{Outcomes, answer_of, IsAnswerOf, IsArrayAt, IsArrayOf}
 use Rattle.apl_struct.specs.Indexing.{Slots, last_choice, replaced_element}
 use Rattle.apl_walk.specs.declared.maps.Map.{Map}
 use Rattle.apl_walk.specs.Steps.{and_step}
 use Rattle.apl_walk.specs.Maps.{map_extent, map_step, walked}
-use Rattle.apl_pool.specs.declared.kernel.Fault.{Fault}
-use Rattle.apl_pool.specs.Pool.{AreValues}
 use Rattle.apl_struct.specs.Numbering.{IsReached, last_number, value_numbered, element_numbered, value_step, IsReplacement}
 use Rattle.apl_struct.specs.Selecting.{chosen_index, chosen_place}
 use Rattle.apl_struct.proofs.Elements.{own_element}
@@ -61,21 +61,6 @@ not_reached n None is = is
 
 -- ---- lists of values
 
-same_value : {T : Type 0} (x y : T) (r : Result T Fault) → r ≡ Ok x → r ≡ Ok y → x ≡ y
-same_value x y r first second = cc
-
--- all elements, once
-pub copied_each : {T : Type 0} (elements : List T) (fill past : T) (extent : ℕ) (values source : List T) (other : T) (wide count : ℕ) → source ≡ elements → other ≡ past → wide ≡ extent
-    → count ≡ length elements
-    → ((place : ℕ) → place < length elements → slice_index_or elements (place % extent) past ≡ slice_index_or elements (place % length elements) fill)
-    → AreValues (λ place. Ok (slice_index_or source (place % wide) other)) count values
-    → (p : ℕ) (d : T) → p < length elements → slice_index_or values p d ≡ slice_index_or elements p d
-copied_each elements fill past extent values source other wide count same again round long are_same are p d inside =
-    let given = rw (same, again, round) at are in
-    let own : p % length elements ≡ p = mod-eq_of_lt inside in
-    same_value _ _ (Ok (slice_index_or elements (p % extent) past)) (given.each p d (omega (arith, long, inside))) refl
-    ∙ are_same p inside ∙ ap (λ q. slice_index_or elements q fill) own ∙ get_or_default elements p fill d inside
-
 pub numbered_element : {T : Type 0} (elem_of : T → Elem) (elements first values : List T) (fill : T) (blank : Elem) (number place : ℕ) → elem_of fill ≡ blank
     → slice_index_or first place fill ≡ slice_index_or elements place fill → elem_of (value_numbered first values fill number place) ≡ value_numbered (map elem_of elements) (map elem_of values) blank number place
 numbered_element elem_of elements first values fill blank zero place is same = ap elem_of same ∙ sym (get_or-map elem_of elements place fill) ∙ ap (slice_index_or (map elem_of elements) place) is
@@ -86,6 +71,32 @@ numbered_element elem_of elements first values fill blank (suc number) place is 
 one_of_two : {X Y : Type 0} (f : X → Elem) (g : Y → Elem) (t : Bool) (x y : X) (u v : Y) → f x ≡ g u → f y ≡ g v → f (if t then x else y) ≡ g (if t then u else v)
 one_of_two f g true x y u v here there = here
 one_of_two f g false x y u v here there = there
+
+-- the array of a list is the answer that has the same element at each place
+pub list_answer : {T : Type 0}
+    → ((shape : List ℕ) (outcome : Outcomes) (kind : Kind) (a : ArrayValue) → IsArray a → (answer_of shape outcome kind ≡ Ok a) ↔ IsArrayOf shape outcome kind a)
+    → ((shape index : List ℕ) → IsIndexOf shape index → place_of shape index < count_of shape)
+    → ((shape index : List ℕ) → IsIndexOf shape index → index_at shape (place_of shape index) ≡ index)
+    → (f : T → Elem) (shape : List ℕ) (kind : Kind) (room : List T) (fill : T) (at_place : ℕ → Elem) (a : ArrayValue) → IsArray a → a ≡ array_with f kind shape room
+    → ((place : ℕ) → place < count_of shape → f (slice_index_or room place fill) ≡ at_place place) → IsArrayAt shape kind at_place (Ok a)
+list_answer answers below inverse f shape kind room fill at_place a array is each element same =
+    inl (sym ((answers shape (λ index. Ok (element index)) kind a array).1 (record {
+      shape_is = ap (λ v. v.shape) is;
+      kind_is = ap (λ v. v.kind) is;
+      each = λ index lawful.
+          let place = place_of shape index in
+          let inside = below shape index lawful in
+          let len : length (map f room) ≡ count_of shape = rw is at array.len in
+          ap Ok
+          (sym (ap element (inverse shape index lawful)) ∙ (sym (same place inside) ∙ (sym (each place inside)
+          ∙ (sym (get_or-map f room place fill) ∙ (get_or_default (map f room) place (f fill) (Int (pos 0)) (omega (arith, len, inside)) ∙ ap (λ v. element_at v index) (sym is))))));
+    })))
+
+-- the array that no choice changes
+pub own_answer : ((shape : List ℕ) (outcome : Outcomes) (kind : Kind) (a : ArrayValue) → IsArray a → (answer_of shape outcome kind ≡ Ok a) ↔ IsArrayOf shape outcome kind a)
+    → (a : ArrayValue) → IsArray a → IsAnswerOf (answer_of a.shape (λ index. Ok (element_at a index)) a.kind) (Ok a)
+own_answer answers a array =
+    inl (sym ((answers a.shape (λ index. Ok (element_at a index)) a.kind a array).1 (record { shape_is = refl; kind_is = refl; each = λ index lawful. refl })))
 
 -- two index lists of a shape are the same where their places are
 same_test : ((shape index : List ℕ) → IsIndexOf shape index → index_at shape (place_of shape index) ≡ index)

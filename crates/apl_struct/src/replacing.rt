@@ -1,9 +1,13 @@
 //! Elements in the place of chosen ones.
-ghost use Rattle.std.specs.Prelude.{◌≡◌, ℕ, ◌+◌, ◌<◌, ◌≤◌, ◌∷◌, Ok, Some, IfOk, IfErr, length, map, option_copied, slice_index_or, vec_len};
+ghost use Rattle.std.specs.Prelude.{◌≡◌, ℕ, ◌+◌, ◌<◌, ◌≤◌, ◌∷◌, Ok, Err, Some, IfOk, IfErr, OnOk, OnErr, length, map, option_copied, vec_len};
+ghost use Rattle.apl_array.specs.declared.array.Elem.TheVariants.{Int};
+ghost use Rattle.apl_array.specs.declared.array.Kind.TheVariants.{Number};
 ghost use Rattle.apl_array.specs.Shape.{count_of};
-ghost use Rattle.apl_array.specs.Array.{IsArray};
+ghost use Rattle.apl_array.specs.Array.{ArrayValue, IsArray};
+ghost use Rattle.apl_array.specs.ArrayView.{array_of};
+ghost use Rattle.apl_array.specs.Elements.{AreElementsOf};
 ghost use Rattle.apl_pool.specs.declared.kernel.TheConstants.{MOST_PLACES};
-ghost use Rattle.apl_pool.specs.declared.kernel.Stop.TheVariants.{Memory};
+ghost use Rattle.apl_answer.specs.declared.fault.OpFault.TheVariants.{Memory};
 ghost use Rattle.apl_answer.specs.Arguments.{fill_of};
 ghost use Rattle.apl_answer.specs.Pointwise.{answer_of, IsAnswerOf, IsArrayAt};
 ghost use Rattle.apl_answer.specs.Rows.{Answers};
@@ -15,14 +19,15 @@ ghost use Rattle.apl_struct.specs.Selecting.{IsCheckedResult, IsSelection};
 ghost use Rattle.apl_struct.specs.Numbering.{place_or_zero, chosen_at, number_at, AreWithin, HaveValues, AreWrittenOver, AreWrittenUpTo, IsReached, value_numbered, element_numbered, replacement_checks, value_step, IsReplacement};
 
 use crate::arguments::{TURN, numbers_among};
-use crate::building::unchanged;
+use crate::building::lawful_shape;
 use crate::indexing::selection;
 use crate::selecting::{NumberArray, selected_walk};
-use apl_answer::{ElementType, OpFault, array_from_fill};
-use apl_array::{Array, Elements, Origin, Shape, places_match_index_lists};
-use apl_pool::{Crew, Cut, Gate, Pool, Stop, Workers, fill};
-use apl_walk::{AxisMap, ByLines, Cyclic, Map, element_or, start_at};
-use std::alloc::Global;
+use apl_answer::{ElementType, Numbers, OpFault, answer_is_each_outcome};
+use apl_array::{Array, Elements, Origin, Ravel, Shape, places_match_index_lists};
+use apl_pool::{Crew, Cut, Gate, Pool, Workers};
+use apl_walk::{AxisMap, Map, element_or, start_at};
+use std::alloc::{AllocError, Global};
+use std::mem;
 use std::thread::Threads;
 
 /// A line of choices.
@@ -147,68 +152,140 @@ fn write_lines<T: Copy>(choices: Choices, values: &[T], fill: T, room: &mut [T])
     }
 }
 
-/// The elements again.
-fn copied<T: ElementType + Send + Sync, W: Crew>(
-    workers: &W,
-    elements: &[T],
-) -> Result<Vec<T>, Stop>
-    requires some { 0 < length elements.now }
-    requires most { length elements.now ≤ MOST_PLACES }
-    ensures len { IfOk result (λ v. vec_len v ≡ length elements.now) }
-    ensures each { IfOk result (λ v. (p : ℕ) (d : T) → p < length elements.now → slice_index_or v.items p d ≡ slice_index_or elements.now p d) }
-    ensures memory { IfErr result (λ stop. stop ≡ Memory) }
-{
-    let kernel = ByLines::new(Cyclic::new(elements, T::fill(), elements.len()));
-    fill(workers, &kernel)
-}
-
-/// The elements, but at each place that is chosen the value of the last choice of it.
-fn replace_elements<T: ElementType + Send + Sync, W: Crew>(
-    workers: &W,
-    shape: Shape,
-    elements: &[T],
-    values: &[T],
-    choices: Choices,
-) -> Result<Array, OpFault>
-    requires all { length elements.now ≡ count_of shape }
-    requires some { 0 < count_of shape }
+/// The array of a list, but at each place that is chosen the value of the last choice of it. The values are written into the list.
+fn written<T: ElementType>(shape: Shape, list: Vec<T>, values: &[T], choices: Choices) -> Array
+    requires all { vec_len list ≡ count_of shape }
     requires within { AreWithin (count_of shape) (choices.last ∷ choices.outer.now) }
-    ensures { IsArrayAt shape T.kind (λ place. value_numbered (map T.elem_of elements.now) (map T.elem_of values.now) (fill_of T.kind) (number_at (choices.entry.last ∷ choices.entry.outer.now) choices.entry.step place) place) result }
+    ensures { IsArrayAt shape T.kind (λ place. value_numbered (map T.elem_of list.items) (map T.elem_of values.now) (fill_of T.kind) (number_at (choices.entry.last ∷ choices.entry.outer.now) choices.entry.step place) place) (Ok result) }
 {
-    let mut all = copied(workers, elements)?;
-    write_lines(choices, values, T::fill(), all.as_mut_slice());
-    array_from_fill(shape, Ok(all))
+    places_match_index_lists();
+    answer_is_each_outcome();
+    let mut list = list;
+    write_lines(choices, values, T::fill(), list.as_mut_slice());
+    let array = T::array(shape, list);
+    // An array that was asked something is known to be lawful.
+    let _kind = array.kind();
+    array
 }
 
-/// The same of arrays.
-fn replace_chosen<W: Crew>(
-    workers: &W,
+/// The same of a list and values that are held alike. Where they are not, it is the array of the list as it was.
+fn written_alike(
     shape: Shape,
+    ravel: Ravel,
+    values: Elements,
+    choices: Choices,
+) -> Result<Array, Array>
+    requires lawful { IsArray (array_of shape ravel) }
+    requires within { AreWithin (count_of shape) (choices.last ∷ choices.outer.now) }
+    ensures written { (b : ArrayValue) → AreElementsOf b values.entry → let a = array_of shape ravel in
+        IfOk result (λ array. IsArrayAt shape a.kind (λ place. element_numbered a b (number_at (choices.entry.last ∷ choices.entry.outer.now) choices.entry.step place) place) (Ok array)) }
+    ensures back { IfErr result (λ array. array ≡ array_of shape ravel) }
+    ensures numbers { (b : ArrayValue) → AreElementsOf b values.entry → (array_of shape ravel).kind ≡ b.kind → OnErr result (b.kind ≡ Number) }
+{
+    match (ravel, values) {
+        (Ravel::Numbers(list), Elements::Numbers(values)) => {
+            Ok(written(shape, list, values, choices))
+        }
+        (Ravel::Truths(list), Elements::Truths(values)) => {
+            Ok(written(shape, list, values, choices))
+        }
+        (Ravel::Characters(list), Elements::Characters(values)) => {
+            Ok(written(shape, list, values, choices))
+        }
+        (Ravel::Numbers(list), _) => Err(Array::ints(shape, list)),
+        (Ravel::Truths(list), _) => Err(Array::truths(shape, list)),
+        (Ravel::Characters(list), _) => Err(Array::chars(shape, list)),
+    }
+}
+
+/// The numbers of an array of numbers, in a list of their own.
+fn own_numbers<W: Crew>(workers: &W, a: &Array) -> Result<Vec<i64>, OpFault>
+    requires { a.now.kind ≡ Number }
+    ensures ok { IfOk result (λ list. a.now.ravel ≡ map Int list.items) }
+    ensures err { IfErr result (λ fault. fault ≡ Memory) }
+{
+    match numbers_among(workers, a)? {
+        Numbers::Held(numbers) => Ok(Vec::from_slice(workers.alloc(), numbers)?),
+        Numbers::Made(list) => Ok(list),
+    }
+}
+
+/// The array of numbers with these values at the places that are chosen, in a list of its own.
+fn with_numbers<W: Crew>(
+    workers: &W,
     a: &Array,
     b: &Array,
     choices: Choices,
 ) -> Result<Array, OpFault>
-    requires all { count_of a.now.shape ≡ count_of shape }
-    requires some { 0 < count_of shape }
-    requires within { AreWithin (count_of shape) (choices.last ∷ choices.outer.now) }
-    requires kinds { a.now.kind ≡ b.now.kind }
-    ensures { IsArrayAt shape a.now.kind (λ place. element_numbered a.now b.now (number_at (choices.entry.last ∷ choices.entry.outer.now) choices.entry.step place) place) result }
+    requires within { AreWithin (count_of a.now.shape) (choices.last ∷ choices.outer.now) }
+    requires elements { a.now.kind ≡ Number }
+    requires values { b.now.kind ≡ Number }
+    ensures ok { IfOk result (λ array. IsArrayAt a.now.shape a.now.kind (λ place. element_numbered a.now b.now (number_at (choices.entry.last ∷ choices.entry.outer.now) choices.entry.step place) place) (Ok array)) }
+    ensures err { IfErr result (λ fault. fault ≡ Memory) }
 {
-    // An array that was asked something is known to be lawful.
-    let _kind = a.kind();
-    match (a.elements(), b.elements()) {
-        (Elements::Characters(elements), Elements::Characters(values)) => replace_elements(
-            workers, shape, elements, values, choices,
-        ),
-        (Elements::Truths(elements), Elements::Truths(values)) => replace_elements(
-            workers, shape, elements, values, choices,
-        ),
-        _ => {
-            let elements = numbers_among(workers, a)?;
-            let values = numbers_among(workers, b)?;
-            let (elements, values) = (elements.as_slice(), values.as_slice());
-            replace_elements(workers, shape, elements, values, choices)
+    let shape = a.shape().copy(workers.alloc())?;
+    let list = own_numbers(workers, a)?;
+    let values = numbers_among(workers, b)?;
+    Ok(written(shape, list, values.as_slice(), choices))
+}
+
+/// An array without elements.
+fn hollow(alloc: Global) -> Result<Array, AllocError>
+    ensures { IfOk result (λ array. count_of array.shape ≡ 0) }
+{
+    let shape = lawful_shape(alloc, &[0])?;
+    Ok(Array::ints(shape, Vec::new(alloc)))
+}
+
+/// Writes values into the list of an array, each at the place that is chosen for it. Truth values alone are no list for other numbers:
+/// then the array gets a list of numbers. After an error it is as it was.
+fn write_values<W: Crew>(
+    workers: &W,
+    a: &mut Array,
+    b: &Array,
+    values: Elements,
+    choices: Choices,
+) -> Result<(), OpFault>
+    requires within { AreWithin (count_of a.old.shape) (choices.last ∷ choices.outer.now) }
+    requires kinds { a.old.kind ≡ b.now.kind }
+    requires values { AreElementsOf b.now values }
+    ensures ok { OnOk result (IsArrayAt a.old.shape a.old.kind (λ place. element_numbered a.old b.now (number_at (choices.entry.last ∷ choices.entry.outer.now) choices.entry.step place) place) (Ok a.new)) }
+    ensures err { IfErr result (λ fault. fault ≡ Memory) }
+    ensures unchanged { OnErr result (a.new ≡ a.old) }
+{
+    let shape = a.shape().copy(workers.alloc())?;
+    let hollow = hollow(workers.alloc())?;
+    let ravel = mem::replace(a, hollow).into_ravel();
+    match written_alike(shape, ravel, values, choices) {
+        Ok(array) => *a = array,
+        Err(array) => {
+            *a = array;
+            *a = with_numbers(workers, a, b, choices)?;
         }
+    }
+    Ok(())
+}
+
+/// The same of the values of an array. Truth values become numbers where the list is of numbers.
+fn write_chosen<W: Crew>(
+    workers: &W,
+    a: &mut Array,
+    b: &Array,
+    choices: Choices,
+) -> Result<(), OpFault>
+    requires within { AreWithin (count_of a.old.shape) (choices.last ∷ choices.outer.now) }
+    requires kinds { a.old.kind ≡ b.now.kind }
+    ensures ok { OnOk result (IsArrayAt a.old.shape a.old.kind (λ place. element_numbered a.old b.now (number_at (choices.entry.last ∷ choices.entry.outer.now) choices.entry.step place) place) (Ok a.new)) }
+    ensures err { IfErr result (λ fault. fault ≡ Memory) }
+    ensures unchanged { OnErr result (a.new ≡ a.old) }
+{
+    match (a.elements(), b.elements()) {
+        (Elements::Numbers(_), Elements::Truths(_)) => {
+            let numbers = numbers_among(workers, b)?;
+            let values = Elements::Numbers(numbers.as_slice());
+            write_values(workers, a, b, values, choices)
+        }
+        (_, values) => write_values(workers, a, b, values, choices),
     }
 }
 
@@ -239,27 +316,31 @@ fn value_step(b: &Array) -> usize
     if b.shape().count() == 1 { 0 } else { 1 }
 }
 
-/// The array with the values in the place of the elements that the slots choose.
+/// Writes the values in the place of the elements that the slots choose. After an error the array is as it was.
 fn replace_selected<W: Crew>(
     workers: &W,
-    a: &Array,
+    a: &mut Array,
     slots: &[Option<NumberArray>],
     b: &Array,
     origin: Origin,
-    selected: Shape,
-) -> Result<Array, OpFault>
-    requires selection { IsSelection a.now slots.now origin selected }
-    requires values { IsReplacement a.now b.now selected }
-    ensures { IsAnswerOf (answer_of a.now.shape
-        (λ index. Ok (replaced_element a.now b.now index (last_choice origin slots.now selected index (count_of selected)))) a.now.kind) result }
+    selected: &Shape,
+) -> Result<(), OpFault>
+    requires selection { IsSelection a.old slots.now origin selected.now }
+    requires values { IsReplacement a.old b.now selected.now }
+    ensures ok { OnOk result (IsAnswerOf (answer_of a.old.shape
+        (λ index. Ok (replaced_element a.old b.now index (last_choice origin slots.now selected.now index (count_of selected.now)))) a.old.kind) (Ok a.new)) }
+    ensures err { IfErr result (λ fault. fault ≡ Memory) }
+    ensures unchanged { OnErr result (a.new ≡ a.old) }
 {
+    places_match_index_lists();
+    answer_is_each_outcome();
+    // An array that was asked something is known to be lawful.
+    let _kind = a.kind();
     let count = selected.count();
     if count == 0 {
-        return unchanged(workers, a);
+        return Ok(());
     }
-    places_match_index_lists();
-    let shape = a.shape().copy(workers.alloc())?;
-    let walk = selected_walk(workers.alloc(), a, slots, origin, &selected)?;
+    let walk = selected_walk(workers.alloc(), a, slots, origin, selected)?;
     let maps = walk.into_maps()?;
     let step = value_step(b);
     match maps.as_slice() {
@@ -271,29 +352,31 @@ fn replace_selected<W: Crew>(
                 lines,
                 step,
             };
-            replace_chosen(workers, shape, a, b, choices)
+            write_chosen(workers, a, b, choices)
         }
         [] => unreachable!(),
     }
 }
 
-/// `A[I;J]←B`, indexed assignment: `A` with the values of `B` in the place of the elements that the slots choose.
+/// `A[I;J]←B`, indexed assignment: `A` gets the values of `B` in the place of the elements that the slots choose.
 /// Shape and kind: those of `A`. One value serves all; of an element that is chosen twice the later value stays.
-/// Errors in order: those of indexing; then RANK and LENGTH of `B`, and DOMAIN of its kind.
+/// Errors in order: those of indexing; then RANK and LENGTH of `B`, and DOMAIN of its kind. After an error `A` is as it was.
 /// Source: APL\360 User's Manual, indexing; the order of errors is this calculator's own.
 pub fn replace<R: Threads + Sync, C: Cut + Sync, G: Gate + Sync>(
     rt: &R,
     alloc: Global,
     pool: &Pool<C, G>,
-    a: &Array,
+    a: &mut Array,
     slots: &[Option<&Array>],
     b: &Array,
     origin: Origin,
-) -> Result<Array, OpFault>
-    ensures { Answers (replace_row a.now (map option_copied slots.now) b.now origin) result }
+) -> Result<(), OpFault>
+    ensures ok { OnOk result (Answers (replace_row a.old (map option_copied slots.now) b.now origin) (Ok a.new)) }
+    ensures err { IfErr result (λ fault. Answers (replace_row a.old (map option_copied slots.now) b.now origin) (Err fault)) }
+    ensures unchanged { OnErr result (a.new ≡ a.old) }
 {
     let workers = Workers { rt, alloc, pool };
     let (slots, selected) = selection(&workers, a, slots, origin)?;
     judge_values(a, b, &selected)?;
-    replace_selected(&workers, a, slots.as_slice(), b, origin, selected)
+    replace_selected(&workers, a, slots.as_slice(), b, origin, &selected)
 }

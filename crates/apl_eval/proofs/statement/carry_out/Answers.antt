@@ -60,7 +60,7 @@ apply_assign_at-requires g c =
 pub returns-in-AssignAt : goal.returns-in-AssignAt
 returns-in-AssignAt g c =
     let is : c.args.operation.now ≡ op.AssignAt c.indexed_name.result.now = cc in
-    rw is c.apply_assign_at.ensures
+    rw is c.apply_assign_at.ensures.state
 
 pub returns-in_ok-insert-in-Assign : goal.returns-in_ok-insert-in-Assign
 returns-in_ok-insert-in-Assign g c =
