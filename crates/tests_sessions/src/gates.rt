@@ -291,10 +291,6 @@ const STRUCTURES: &str = r"
     M[;A] → 1 1⏎
     M[;] → 1 1⏎
     (M)[A;1] → 1 1⏎
-    A[1]←1 →
-    A[A]←A →
-    M[1;]←A →
-    M[;]←1 →
     ";
 
 /// What the reductions get: some items for each element of `A`, as rows and as columns.
@@ -648,13 +644,13 @@ fn each_scalar_function_uses_the_pool(rt: HostRuntime) -> Result<(), Fail> {
 #[test]
 fn each_structural_function_uses_the_pool(rt: HostRuntime) -> Result<(), Fail> {
     let alloc = rt.alloc();
-    let table = (STRUCTURES, 52);
+    let table = (STRUCTURES, 48);
     let few = format!(in alloc; "A←1 1\nN←2\nS←1 2\nT←0 2\n{ARGUMENTS}")?;
     meet_at_two(&rt, alloc, few.as_str(), table, ("⍴M", "1 2\n"))?;
     let more = ones(alloc, 2048, "N←2048\nS←1 2048\nT←0 2048\n", ARGUMENTS)?;
     meet_at_some(&rt, alloc, more.as_str(), table)?;
     let largest = ones(alloc, 2 * HALF, "", "")?;
-    let many = ("B←⌽A →\nB←A,'' →\nB←A[A] →\nA[1]←2 →", 4);
+    let many = ("B←⌽A →\nB←A,'' →\nB←A[A] →", 3);
     meet_at_many(&rt, alloc, largest.as_str(), many)
 }
 
