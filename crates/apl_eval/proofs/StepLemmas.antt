@@ -7,11 +7,12 @@ use Rattle.apl_grammar.specs.declared.program.Operation.{Operation}
 use Rattle.apl_grammar.specs.declared.program.Operation.TheVariants as op
 use Rattle.apl_grammar.specs.Tree.{Expr, value, dyadic, monadic, assign, assign_at, Operand, constant, name, group, index, Slots, last, more, Slot, nothing, given, none, along, brackets, indexed_name, semicolons, operations, operand_operations, list_operations, slot_operations, IsProgram}
 use Rattle.apl_print.specs.declared.reports.Report.{Report}
-use Rattle.apl_eval.specs.Workspace.{WorkspaceValue}
+use Rattle.apl_eval.specs.Workspace.{NameValues, WorkspaceValue}
 use Rattle.apl_eval.specs.Meaning.{Outcome, Evaluation, done, failed, then, index_outcome, assign_at_outcome, meaning_of, meaning_of_operand, meaning_of_slots, meaning_of_slot}
 use Rattle.apl_eval.specs.Evaluates.{Evaluates}
-use Rattle.apl_eval.specs.Steps.{Item, State, HasValue, leaves, waiting, ended, stuck, onto, with_value, step, go_on, steps, last_assign_at, IsState}
-use Rattle.apl_eval.proofs.StackLemmas.{with_slots-above}
+use Rattle.std.specs.FinMap.{empty}
+use Rattle.apl_eval.specs.Steps.{Item, State, HasValue, leaves, waiting, ended, stuck, onto, with_value, step, go_on, steps, last_assign_at, staged_in, IsState}
+use Rattle.apl_eval.proofs.StackLemmas.{with_slots-above, staged_in-empty}
 use Rattle.apl_eval.specs.declared.statement.EvalStop.{EvalStop}
 use Rattle.apl_eval.specs.declared.statement.EvalStop.TheVariants.{Error, Memory}
 
@@ -252,3 +253,26 @@ last_step before target start all split items u is =
 pub last_possible : (before : List Operation) (target : IndexedName) (start : WorkspaceValue) (all : List Operation) → IsProgram all → all ≡ before ++ last_assign_at (Some target) → (items : List Item) (u : WorkspaceValue)
     → steps before [] start ≡ waiting items u → step (op.AssignAt target) items u ≢ stuck
 last_possible before target start all program split items u is e = program_possible all start program (last_step before target start all split items u is ∙ e)
+
+-- what is known where the operations before an indexed assignment at the end have been carried out
+pub record IsBeforeLast (before : List Operation) (target : IndexedName) (start : WorkspaceValue) (all : List Operation) (items : List Item) (u : WorkspaceValue) : Type 0 where
+  pub split : all ≡ before ++ last_assign_at (Some target)
+  pub whole : steps all [] start ≡ step (op.AssignAt target) items u
+  pub is_possible : IsProgram all → step (op.AssignAt target) items u ≢ stuck
+
+module _ {T : Type 0} {before : List Operation} {given : Option IndexedName} {target : IndexedName} {start : WorkspaceValue} {all : List Operation} {items : List Item} (r : Result T EvalStop) {x : T} where
+  pub before_last : {u : WorkspaceValue} → all ≡ before ++ last_assign_at given → given ≡ Some target → r ≡ Ok x → IsState (steps before [] start) items u r → IsBeforeLast before target start all items u
+  before_last {u} divided is ok h =
+      let split : all ≡ before ++ last_assign_at (Some target) = divided ∙ ap (λ t. before ++ last_assign_at t) is in
+      let came = went_on (steps before [] start) items u r x ok h in
+      record {
+        split = split;
+        whole = last_step before target start all split items u came;
+        is_possible = λ program. last_possible before target start all program split items u came;
+      }
+
+  -- the same of a line that has assigned nothing
+  pub before_last_alone : {staged : NameValues} → staged ≡ empty → all ≡ before ++ last_assign_at given → given ≡ Some target → r ≡ Ok x → IsState (steps before [] start) items (staged_in staged start) r
+      → IsBeforeLast before target start all items start
+  before_last_alone {staged} unassigned divided is ok h =
+      subst (IsBeforeLast before target start all items) (ap (λ staged. staged_in staged start) unassigned ∙ staged_in-empty start) (before_last divided is ok h)

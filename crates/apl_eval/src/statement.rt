@@ -402,18 +402,15 @@ pub fn eval<R: Threads + Sync, C: Cut + Sync, G: Gate + Sync>(
     let mut staged = Names::new(alloc);
     let mut stack = Stack::new(alloc);
     let workers = &Workers { rt, alloc, pool };
+    let kept = pool.kept();
     let (first, target) = without_last_assign_at(program);
-    let carried = carry_out_all(
-        &Context { workers, workspace },
-        &mut staged,
-        &mut stack,
-        first,
-    );
+    let context = Context { workers, workspace };
+    let carried = carry_out_all(&context, &mut staged, &mut stack, first);
     let carried = match (carried, target) {
         (Ok(()), Some(target)) if staged.is_empty() => {
             // Nothing comes after it that could be refused.
             assign_at_in_workspace(workers, workspace, &mut stack, target)?;
-            let_go(pool.kept(), stack.pop_value());
+            let_go(kept, stack.pop_value());
             return Ok(Shown::Silent);
         }
         (Ok(()), Some(target)) => {
@@ -423,13 +420,5 @@ pub fn eval<R: Threads + Sync, C: Cut + Sync, G: Gate + Sync>(
         (Ok(()), None) => Ok(()),
         (Err(stop), _) => Err(stop),
     };
-    finish(
-        workspace,
-        alloc,
-        pool.kept(),
-        program,
-        staged,
-        stack,
-        carried,
-    )
+    finish(workspace, alloc, kept, program, staged, stack, carried)
 }

@@ -60,6 +60,15 @@ impl<C: Cut + Sync, G: Gate + Sync> Pool<C, G> {
         }
     }
 
+    /// How many workers there are, from 1 to 64.
+    pub fn workers(&self) -> u8
+        ensures workers { result ≡ self.now.workers }
+        ensures some { 1 ≤ result }
+        ensures most { result ≤ MOST_WORKERS }
+    {
+        self.workers
+    }
+
     /// The lists that were let go last.
     pub fn kept(&self) -> &KeptLists {
         &self.kept

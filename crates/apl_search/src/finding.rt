@@ -11,7 +11,8 @@ use crate::replies::{Reply, write_replies};
 use crate::sorting::{Keyed, Placed, in_order};
 use crate::table::Table;
 use apl_answer::ElementType;
-use std::alloc::{AllocError, Global};
+use apl_pool::Crew;
+use std::alloc::AllocError;
 
 /// An element that is found by a number: elements are the same exactly where their numbers are.
 pub(crate) trait Searchable: ElementType + Keyed {
@@ -57,15 +58,15 @@ fn place_in_order(placed: &[Placed], number: i64) -> usize
 
 impl Places {
     /// The places of a list's numbers: in a table if these span less than `most`.
-    fn new<T: Keyed>(alloc: Global, elements: &[T], most: u64) -> Result<Places, AllocError>
+    fn new<T: Keyed, W: Crew>(workers: &W, elements: &[T], most: u64) -> Result<Places, AllocError>
         requires count { length elements.now ≤ MOST_PLACES }
         requires most { most < 2 ^ 34 }
         ensures { IfOk result (ArePlaces (map T.key elements.now)) }
     {
-        if let Some(table) = Table::new(alloc, elements, most)? {
+        if let Some(table) = Table::new(workers.alloc(), elements, most)? {
             return Ok(Places::InTable(table));
         }
-        let placed = in_order(alloc, elements)?;
+        let placed = in_order(workers, elements)?;
         Ok(Places::InOrder(placed))
     }
 
@@ -93,13 +94,17 @@ pub(crate) struct Finder<'a, T: Searchable> {
 impl<'a, T: Searchable> Finder<'a, T> {
     /// The list, in which so many elements are looked for. It gets a table if its numbers span less than four for each of its elements and
     /// one for each of those.
-    pub(crate) fn new(alloc: Global, elements: &'a [T], searched: usize) -> Result<Self, AllocError>
+    pub(crate) fn new<W: Crew>(
+        workers: &W,
+        elements: &'a [T],
+        searched: usize,
+    ) -> Result<Self, AllocError>
         requires count { length elements.now ≤ MOST_PLACES }
         requires searched { searched ≤ MOST_PLACES }
         ensures { IfOk result (λ s. s.elements.now ≡ elements.now) }
     {
         let most = 4 * elements.len() as u64 + searched as u64;
-        let places = Places::new(alloc, elements, most)?;
+        let places = Places::new(workers, elements, most)?;
         Ok(Finder { elements, places })
     }
 

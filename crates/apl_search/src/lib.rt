@@ -11,6 +11,7 @@ mod laws;
 mod ordering;
 mod replies;
 mod searching;
+mod shares;
 mod sorting;
 mod table;
 

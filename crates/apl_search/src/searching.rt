@@ -105,7 +105,7 @@ fn first_places<T: Searchable + Sync, W: Crew>(
 {
     places_match_index_lists();
     let shape = b.shape().copy(workers.alloc())?;
-    let list = Finder::new(workers.alloc(), list, elements.len())?;
+    let list = Finder::new(workers, list, elements.len())?;
     let first = origin.number() as usize;
     let kernel = Searched {
         elements,
@@ -128,7 +128,7 @@ fn membership<T: Searchable + Sync, W: Crew>(
 {
     places_match_index_lists();
     let shape = a.shape().copy(workers.alloc())?;
-    let list = Finder::new(workers.alloc(), list, elements.len())?;
+    let list = Finder::new(workers, list, elements.len())?;
     let kernel = Searched {
         elements,
         list,

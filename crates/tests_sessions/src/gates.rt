@@ -291,6 +291,7 @@ const STRUCTURES: &str = r"
     M[;A] → 1 1⏎
     M[;] → 1 1⏎
     (M)[A;1] → 1 1⏎
+    A[A]←A →
     ";
 
 /// What the reductions get: some items for each element of `A`, as rows and as columns.
@@ -644,7 +645,7 @@ fn each_scalar_function_uses_the_pool(rt: HostRuntime) -> Result<(), Fail> {
 #[test]
 fn each_structural_function_uses_the_pool(rt: HostRuntime) -> Result<(), Fail> {
     let alloc = rt.alloc();
-    let table = (STRUCTURES, 48);
+    let table = (STRUCTURES, 49);
     let few = format!(in alloc; "A←1 1\nN←2\nS←1 2\nT←0 2\n{ARGUMENTS}")?;
     meet_at_two(&rt, alloc, few.as_str(), table, ("⍴M", "1 2\n"))?;
     let more = ones(alloc, 2048, "N←2048\nS←1 2048\nT←0 2048\n", ARGUMENTS)?;

@@ -156,7 +156,8 @@ fn several_workers_share_several_pieces(rt: HostRuntime) {
         (3, 1, 0, false),
         (4, 4096, 1 << 30, true),
     ] {
-        assert!(rt; Pool::new(workers, Every(piece), Open).is_shared(count) == wanted);
+        let pool = Pool::new(workers, Every(piece), Open);
+        assert!(rt; pool.workers() == workers && pool.is_shared(count) == wanted);
     }
 }
 
