@@ -1,5 +1,5 @@
 -- Truth values as numbers.
-use Rattle.std.proofs.Common.{◌≡◌, ℕ, ℤ, pos, ◌<◌, Bool, false, List, length, map, Ok, refl, sym, ap, ◌∙◌, arith, get_or, slice_index_or}
+use Rattle.std.proofs.Common.{◌≡◌, ℤ, pos, ◌<◌, Bool, false, List, length, map, Ok, sym, ap, ◌∙◌, arith, get_or, slice_index_or}
 use Rattle.std.proofs.lemmas.List.{ext_get_or, get_or-map, length-map}
 use Rattle.apl_array.specs.declared.array.Elem.{Elem}
 use Rattle.apl_array.specs.declared.array.Elem.TheVariants.{Int}

@@ -20,5 +20,5 @@ pub use fault::OpFault;
 pub use fill::{array_from_fill, fill_array};
 pub use laws::{answer_is_each_outcome, answer_is_in_range, answer_is_within_limits};
 pub use numbers::{Numbers, numbers_of};
-pub use row_order::array_of_elements;
+pub use row_order::{array_copy, array_of_elements};
 pub use uniform::{constant_array, fill_uniform};

@@ -1,15 +1,17 @@
 //! The elements of an array in row order, in another shape.
-ghost use Rattle.std.specs.Prelude.{◌≤◌, pos, Ok, length, map, slice_index_or};
+ghost use Rattle.std.specs.Prelude.{◌≡◌, ◌≤◌, pos, Ok, IfOk, IfErr, length, map, slice_index_or};
 ghost use Rattle.apl_array.specs.declared.array.Elem.TheVariants.{Int};
 ghost use Rattle.apl_array.specs.Array.{element_in};
 ghost use Rattle.apl_array.specs.Shape.{count_of};
 ghost use Rattle.apl_pool.specs.declared.kernel.TheConstants.{MOST_PLACES};
+ghost use Rattle.apl_answer.specs.declared.fault.OpFault.TheVariants.{Memory as OutOfMemory};
 ghost use Rattle.apl_answer.specs.Pointwise.{IsAnswerAt};
 
 use crate::element::ElementType;
 use crate::fault::OpFault;
 use crate::fill::fill_array;
-use apl_array::{Array, Elements, Shape};
+use crate::laws::answer_is_each_outcome;
+use apl_array::{Array, Elements, Shape, places_match_index_lists};
 use apl_pool::{Crew, Fault, Kernel};
 
 /// Each element at its own place, and the fill past the last.
@@ -70,4 +72,16 @@ pub fn array_of_elements<W: Crew>(workers: &W, shape: Shape, b: &Array) -> Resul
         Elements::Truths(truths) => in_row_order(workers, shape, truths),
         Elements::Characters(characters) => in_row_order(workers, shape, characters),
     }
+}
+
+/// A copy of an array.
+pub fn array_copy<W: Crew>(workers: &W, b: &Array) -> Result<Array, OpFault>
+    ensures ok { IfOk result (λ copy. copy ≡ b.now) }
+    ensures err { IfErr result (λ fault. fault ≡ OutOfMemory) }
+    ensures by_place { IsAnswerAt b.now.shape b.now.kind (λ place. Ok (element_in b.now place)) result }
+{
+    answer_is_each_outcome();
+    places_match_index_lists();
+    let shape = b.shape().copy(workers.alloc())?;
+    array_of_elements(workers, shape, b)
 }

@@ -1,5 +1,6 @@
 -- The operations of a tree, carried out one after another, come to the tree's meaning.
 use Rattle.std.proofs.Common.{◌≡◌, ◌≢◌, ◌+◌, ◌<◌, ◌≤◌, ℕ, List, [], ◌∷◌, ◌++◌, length, drop, get_or, refl, sym, ◌∙◌, ap, subst, append_assoc, drop-cons, add-one, Option, Some, None, Result, Ok, Err, arith}
+use Rattle.std.specs.FinMap.{empty}
 use Rattle.std.proofs.lemmas.List.{append-nil, drop_all, length-append}
 use Rattle.apl_array.specs.Array.{ArrayValue}
 use Rattle.apl_grammar.specs.declared.program.IndexedName.{IndexedName}
@@ -10,7 +11,6 @@ use Rattle.apl_print.specs.declared.reports.Report.{Report}
 use Rattle.apl_eval.specs.Workspace.{NameValues, WorkspaceValue}
 use Rattle.apl_eval.specs.Meaning.{Outcome, Evaluation, done, failed, then, index_outcome, assign_at_outcome, meaning_of, meaning_of_operand, meaning_of_slots, meaning_of_slot}
 use Rattle.apl_eval.specs.Evaluates.{Evaluates}
-use Rattle.std.specs.FinMap.{empty}
 use Rattle.apl_eval.specs.Steps.{Item, State, HasValue, leaves, waiting, ended, stuck, onto, with_value, step, go_on, steps, last_assign_at, staged_in, IsState}
 use Rattle.apl_eval.proofs.StackLemmas.{with_slots-above, staged_in-empty}
 use Rattle.apl_eval.specs.declared.statement.EvalStop.{EvalStop}

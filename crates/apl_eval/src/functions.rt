@@ -3,7 +3,6 @@ ghost use Rattle.std.specs.Prelude.{◌≡◌, Result, Ok, Err, Some, IfOk, IfEr
 ghost use Rattle.apl_array.specs.declared.axis.Axis.TheVariants.{At};
 ghost use Rattle.apl_array.specs.Array.{ArrayValue};
 ghost use Rattle.apl_answer.specs.declared.fault.OpFault.{OpFault};
-ghost use Rattle.apl_answer.specs.declared.fault.OpFault.TheVariants.{Memory as OutOfMemory};
 ghost use Rattle.apl_answer.specs.Pointwise.{IsAnswerOf};
 ghost use Rattle.apl_reduce.specs.Products.{outer_row, inner_row};
 ghost use Rattle.apl_eval.specs.Functions.{monadic_column, dyadic_column, result_of, result_by, default_axis, function_axis, operator_axis, monadic_plain, dyadic_plain, reversed_along, reduced_along, dyadic_along, monadic_result, dyadic_result, index_result, assign_at_result};
@@ -11,8 +10,8 @@ ghost use Rattle.apl_eval.specs.Refusals.{Answers};
 
 use crate::spent::let_go;
 use crate::workspace::Workspace;
-use apl_answer::{OpFault, answer_is_each_outcome, array_of_elements};
-use apl_array::{Array, Axis, places_match_index_lists};
+use apl_answer::{OpFault, array_copy};
+use apl_array::{Array, Axis};
 use apl_grammar::{
     AxisFunction, DefaultAxis, DyadicForm, DyadicFunction, DyadicScalar, MonadicForm,
     MonadicFunction, Operator,
@@ -418,17 +417,6 @@ impl<'a, W: Crew> Context<'a, W> {
         }
     }
 
-    /// A copy of an array.
-    fn copy(&self, array: &Array) -> Result<Array, OpFault>
-        ensures ok { IfOk result (λ copy. copy ≡ array.now) }
-        ensures err { IfErr result (λ fault. fault ≡ OutOfMemory) }
-    {
-        answer_is_each_outcome();
-        places_match_index_lists();
-        let shape = array.shape().copy(self.alloc())?;
-        array_of_elements(self.workers, shape, array)
-    }
-
     /// A copy of an array, with the value in the place of the elements that the slots choose.
     pub(crate) fn changed_copy(
         &self,
@@ -439,7 +427,7 @@ impl<'a, W: Crew> Context<'a, W> {
         ensures ok { IfOk result (λ changed. assign_at_result self.now.workspace.now.origin (Some array.now) (map option_copied slots.now) value.now ≡ Ok changed.value) }
         ensures err { IfErr result (λ refusal. Answers (assign_at_result self.now.workspace.now.origin (Some array.now) (map option_copied slots.now) value.now) (Err refusal)) }
     {
-        let mut copy = self.copy(array)?;
+        let mut copy = array_copy(self.workers, array)?;
         self.assign_at(&mut copy, slots, value)?;
         Ok(Rc::new(self.alloc(), copy)?)
     }

@@ -413,10 +413,7 @@ pub fn eval<R: Threads + Sync, C: Cut + Sync, G: Gate + Sync>(
             let_go(kept, stack.pop_value());
             return Ok(Shown::Silent);
         }
-        (Ok(()), Some(target)) => {
-            let context = Context { workers, workspace };
-            apply_assign_at(&context, &mut staged, &mut stack, target)
-        }
+        (Ok(()), Some(target)) => apply_assign_at(&context, &mut staged, &mut stack, target),
         (Ok(()), None) => Ok(()),
         (Err(stop), _) => Err(stop),
     };

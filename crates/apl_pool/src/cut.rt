@@ -16,3 +16,16 @@ impl Cut for Every {
         self.0
     }
 }
+
+/// A cutting whose pieces have a number of times fewer places, and one at least.
+#[derive(Drop)]
+pub(crate) struct Finer<'a, C> {
+    pub cut: &'a C,
+    pub times: usize,
+}
+
+impl<C: Cut> Cut for Finer<'_, C> {
+    fn first(&self, start: usize, rest: usize) -> usize {
+        self.cut.first(start, rest) / self.times.max(1)
+    }
+}

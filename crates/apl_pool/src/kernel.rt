@@ -62,6 +62,12 @@ pub trait Kernel {
         requires { place < place_count self.now }
         ensures { result ≡ outcome self.now place };
 
+    /// About how many times as long a value takes as one of a function of two numbers. Pieces have so many times fewer places, and the
+    /// values are the same.
+    fn weight(&self) -> usize {
+        1
+    }
+
     /// Writes values into the room for the places from `from` up to before `to`. It answers the place at which it
     /// stopped: at most `to`, and `from` if it wrote none. It is for kernels that are faster over a run of places
     /// than at each of them. Values that it leaves out are asked for one by one.

@@ -7,7 +7,7 @@ ghost use Rattle.apl_pool.specs.Parts.{AreValuesAt};
 ghost use Rattle.apl_pool.specs.Summaries.{IsSummaryOf, AreFolds};
 
 use crate::complete::fill_values;
-use crate::cut::Cut;
+use crate::cut::{Cut, Finer};
 use crate::folds::{fold_rows_alone, fold_rows_together};
 use crate::gate::Gate;
 use crate::kept::KeptLists;
@@ -131,13 +131,17 @@ impl<C: Cut + Sync, G: Gate + Sync> Pool<C, G> {
         ensures stop { IfErr result (IsStopOf (K.outcome kernel.now) (K.place_count kernel.now)) }
     {
         let count = kernel.count();
-        let end = piece_end(&self.cut, 0, count);
+        let cut = Finer {
+            cut: &self.cut,
+            times: kernel.weight(),
+        };
+        let end = piece_end(&cut, 0, count);
         if self.workers == 1 || end == count {
             let last = self.workers - 1;
-            return write_all(kernel, &self.cut, &self.gate, last, end, values, done);
+            return write_all(kernel, &cut, &self.gate, last, end, values, done);
         }
         let mut values = extend_to(values, count)?;
-        let shares = Shares::new(alloc, &self.cut, 1, count, end, self.workers)?;
+        let shares = Shares::new(alloc, &cut, 1, count, end, self.workers)?;
         fill_values(
             &self.pass(rt, alloc, &shares),
             kernel,

@@ -43,5 +43,5 @@ pub mod ExtremeFolds
 pub mod FourPlaces
 pub mod Reordered
 pub mod Examples
-pub mod RunProducts
+pub mod SignFolds
 pub mod Multiplying

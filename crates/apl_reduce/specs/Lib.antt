@@ -20,4 +20,4 @@ pub mod Carrying
 pub mod Items
 pub mod Layouts
 pub mod Magnitudes
-pub mod RunProducts
+pub mod SignFolds

@@ -15,7 +15,7 @@ use crate::item_rows::{ItemRows, PlacedItems};
 use crate::line_folds::{fold_along, fold_lines};
 use crate::near_rows::has_near_rows;
 use crate::outer_products::NARROW;
-use crate::sharing::shares_items;
+use crate::sharing::{shares_items, weight_of};
 use crate::truth_folds::has_truth_runs;
 use apl_answer::ElementType;
 use apl_array::{
@@ -75,6 +75,9 @@ impl<'a, T: ElementType> AxisItems<'a, T> {
         }
     }
 }
+
+/// The most weight of a fold whose items are no neighbours. In shorter pieces too little of each row would be read at a time.
+const HEAVIEST_COLUMN: usize = 8;
 
 /// The most places whose totals are kept beside one another.
 const MOST_TOTALS: usize = 4096;
@@ -146,6 +149,15 @@ impl<T: Foldable, F: Function> Kernel for AxisFolds<'_, T, F> {
 
     fn count(&self) -> usize {
         self.axis.count
+    }
+
+    fn weight(&self) -> usize {
+        let weight = weight_of(self.axis.items);
+        if self.axis.inner.number() == 1 {
+            weight
+        } else {
+            weight.min(HEAVIEST_COLUMN)
+        }
     }
 
     fn at(&self, place: usize) -> Result<i64, Fault> {

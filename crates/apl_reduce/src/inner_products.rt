@@ -20,7 +20,7 @@ use crate::layouts::Layout;
 use crate::magnitudes::{is_narrow, magnitude, sums_are_small};
 use crate::product_items::ProductItems;
 use crate::shapes::{characters_of, joined_shape};
-use crate::sharing::shares_items;
+use crate::sharing::{shares_items, weight_of};
 use crate::sums::Sums;
 use apl_answer::{ElementType, OpFault, array_from_fill, numbers_of};
 use apl_array::{Array, ScalarFunction, range_is_decided};
@@ -55,6 +55,10 @@ impl<T: ElementType, U: ElementType, F: Dyadic, P: Dyadic> Kernel for Reductions
 
     fn count(&self) -> usize {
         self.items.layout.count
+    }
+
+    fn weight(&self) -> usize {
+        weight_of(self.items.layout.items)
     }
 
     #[inline(always)]

@@ -9,6 +9,7 @@ use crate::item_runs::LONGEST_RUN;
 use crate::items::reduced;
 use crate::layouts::Layout;
 use crate::product_items::ProductItems;
+use crate::sharing::weight_of;
 use apl_answer::ElementType;
 use apl_array::ScalarFunction;
 use apl_divisor::Divisor;
@@ -47,6 +48,10 @@ impl<T: ElementType, U: ElementType> Kernel for RunReductions<'_, T, U> {
 
     fn count(&self) -> usize {
         self.items.layout.count
+    }
+
+    fn weight(&self) -> usize {
+        weight_of(self.items.layout.items)
     }
 
     fn at(&self, place: usize) -> Result<i64, Fault> {

@@ -41,9 +41,9 @@ mod quotient;
 mod range;
 mod reducing;
 mod run_folds;
-mod run_products;
 mod shapes;
 mod sharing;
+mod sign_folds;
 mod sums;
 mod truth_folds;
 

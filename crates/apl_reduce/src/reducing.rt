@@ -11,7 +11,7 @@ ghost use Rattle.apl_reduce.specs.Folding.{identity_or_fault, reduction};
 ghost use Rattle.apl_reduce.specs.Reducing.{items_along, reduce_row};
 
 use crate::axis_items::{AxisItems, fill_character_folds, fill_number_folds, fill_truth_folds};
-use apl_answer::{OpFault, array_from_fill, array_of_elements, constant_array};
+use apl_answer::{OpFault, array_copy, array_from_fill, array_of_elements, constant_array};
 use apl_array::{
     Array, Axis, Elements, ScalarFunction, Shape, inserted_index_has_place,
     places_match_index_lists, replaced_index_has_place,
@@ -86,7 +86,7 @@ pub fn reduce<R: Threads + Sync, C: Cut + Sync, G: Gate + Sync>(
         return Err(OpFault::Index);
     };
     if b.shape().rank() == 0 {
-        return array_of_elements(&workers, b.shape().copy(alloc)?, b);
+        return array_copy(&workers, b);
     }
     let mut lengths = b.shape().lengths().to_vec(alloc)?;
     lengths.remove(k);

@@ -17,7 +17,7 @@ use crate::near_sums::{
     MOST_PAIRS, MOST_QUARTER, NEAR, NEAR_TOTAL, NearSum, quarters_added, quarters_turned,
     runs_added, runs_turned,
 };
-use crate::run_products::times_fold;
+use crate::sign_folds::sign_fold;
 use apl_array::ScalarFunction;
 use apl_pool::Fault;
 use apl_scalar::function_types::Function;
@@ -115,7 +115,7 @@ fn quick_fold<F: Function>(numbers: &[i64], first: usize, quarter: usize, total:
         ScalarFunction::Ceiling | ScalarFunction::Floor => {
             extreme_fold::<F>(numbers, first, 2 * quarter, total)
         }
-        ScalarFunction::Times => times_fold::<F>(numbers, first, 2 * quarter, total),
+        ScalarFunction::Times => sign_fold::<F>(numbers, first, 2 * (2 * quarter), total),
         _ => bit_fold::<F>(numbers, first, 2 * (2 * quarter), total),
     }
 }

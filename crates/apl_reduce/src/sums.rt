@@ -7,6 +7,7 @@ ghost use Rattle.apl_reduce.specs.Magnitudes.{magnitude};
 
 use crate::four::{Four, put_four};
 use crate::layouts::Layout;
+use crate::sharing::weight_of;
 use apl_pool::write_each;
 use apl_walk::Lined;
 
@@ -151,6 +152,15 @@ impl Lined for Sums<'_> {
 
     fn extent(&self) -> usize {
         self.layout.columns
+    }
+
+    /// Lines of many columns are not cut shorter, since each piece reads all right items.
+    fn weight(&self) -> usize {
+        if self.layout.columns < TURN {
+            weight_of(self.layout.items)
+        } else {
+            1
+        }
     }
 
     /// The right items of four columns stay in the first caches while all lines of a run meet them.

@@ -12,7 +12,7 @@ ghost use Rattle.apl_scan.specs.Scanning.{items_up_to, scanned, scan_row};
 
 use crate::lines::{AxisLines, fill_scans};
 use crate::truth_scans::{TruthScan, scan_lines};
-use apl_answer::{OpFault, array_from_fill, array_of_elements, constant_array, numbers_of};
+use apl_answer::{OpFault, array_copy, array_from_fill, constant_array, numbers_of};
 use apl_array::{
     Array, Axis, Elements, ScalarFunction, Shape, places_match_index_lists,
     replaced_index_has_place, split_index_has_place,
@@ -124,7 +124,7 @@ pub fn scan<R: Threads + Sync, C: Cut + Sync, G: Gate + Sync>(
     };
     if rank == 0 || b.shape().axis(k) < 2 {
         places_match_index_lists();
-        return array_of_elements(&workers, b.shape().copy(alloc)?, b);
+        return array_copy(&workers, b);
     }
     scan_items(&workers, f, b, k)
 }

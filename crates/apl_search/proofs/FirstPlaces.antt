@@ -18,7 +18,7 @@ use Rattle.apl_search.proofs.Grades.{false_of}
 use Rattle.apl_search.proofs.Orders.{upwards_is_strict, ordered_in_grade, int_lt-irrefl, int_lt-trans}
 use Rattle.apl_search.proofs.InOrder.{in_order_below}
 
-get_or-within : {T : Type 0} (xs : List T) (k : ℕ) (c d : T) → k < length xs → get_or xs k c ≡ get_or xs k d
+pub get_or-within : {T : Type 0} (xs : List T) (k : ℕ) (c d : T) → k < length xs → get_or xs k c ≡ get_or xs k d
 get_or-within [] k c d inside = absurd (omega arith)
 get_or-within (x ∷ xs) zero c d inside = refl
 get_or-within (x ∷ xs) (suc k) c d inside = get_or-within xs k c d (omega arith)

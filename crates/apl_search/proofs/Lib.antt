@@ -10,3 +10,4 @@ pub mod FirstPlaces
 pub mod Tables
 pub mod Searches
 pub mod Origins
+pub mod Parted

@@ -3,3 +3,4 @@ pub mod Ordering
 pub mod Sorting
 pub mod Tables
 pub mod Finding
+pub mod Parted

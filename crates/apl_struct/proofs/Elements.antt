@@ -79,9 +79,13 @@ pub own_element : ((shape : List ℕ) (place : ℕ) → place < count_of shape �
 own_element back a p array inside =
     get_or_default a.ravel p (fill_of a.kind) (Int (pos 0)) (omega (arith, array.len, inside)) ∙ ap (element_in a) (sym (back a.shape p inside))
 
--- a scalar has the same element at whatever index list
-pub scalar_element : (b : ArrayValue) (index other : List ℕ) → length b.shape ≡ 0 → element_at b index ≡ element_at b other
-scalar_element b index other none = rw (nil_from_length b.shape none) refl
+-- a scalar's only element is that at whatever index list
+pub scalar_element : (b : ArrayValue) (place : ℕ) (index : List ℕ) → length b.shape ≡ 0 → place < count_of b.shape → element_in b place ≡ element_at b index
+scalar_element b place index none inside =
+    let shape : b.shape ≡ [] = nil_from_length b.shape none in
+    let one : count_of b.shape ≡ 1 = ap count_of shape in
+    let first : place ≡ 0 = omega (arith, inside, one) in
+    rw shape (ap (element_in b) first)
 
 pub one_item : {T : Type 0} (xs : List T) (d : T) → length xs ≡ 1 → xs ≡ get_or xs 0 d ∷ []
 one_item [] d one = absurd (omega arith)

@@ -6,12 +6,11 @@ ghost use Rattle.apl_array.specs.Shape.{count_of, IsShape, is_shape};
 ghost use Rattle.apl_array.specs.declared.shape.TheConstants.{MOST_ELEMENTS};
 ghost use Rattle.apl_pool.specs.declared.kernel.TheConstants.{MOST_PLACES};
 ghost use Rattle.apl_answer.specs.Arguments.{is_natural, size_of};
-ghost use Rattle.apl_answer.specs.Pointwise.{IsArrayAt, IsShapeOf, answer_of, IsAnswerOf, IsArrayBy};
+ghost use Rattle.apl_answer.specs.Pointwise.{IsArrayAt, IsShapeOf, answer_of, IsAnswerOf};
 ghost use Rattle.apl_answer.specs.Rows.{Answers};
 ghost use Rattle.apl_walk.specs.Gathered.{filled_at};
 ghost use Rattle.apl_struct.specs.Building.{shape_of_row, ravel_row, reshape_source, reshape_row, iota_row};
 ghost use Rattle.apl_array.specs.declared.array.Elem.{Elem};
-ghost use Rattle.apl_array.specs.Array.{element_at};
 
 use crate::arguments::numbers_among;
 use apl_answer::{ElementType, OpFault, array_of_elements, fill_array};
@@ -236,15 +235,6 @@ pub fn iota<R: Threads + Sync, C: Cut + Sync, G: Gate + Sync>(
     let count = shape.count();
     let first = origin.number() as usize;
     fill_array(&workers, shape, &Consecutive { count, first })
-}
-
-/// The same array again.
-pub(crate) fn unchanged<W: Crew>(workers: &W, b: &Array) -> Result<Array, OpFault>
-    ensures { IsArrayBy b.now.shape b.now.kind (element_at b.now) result }
-{
-    places_match_index_lists();
-    let shape = b.shape().copy(workers.alloc())?;
-    array_of_elements(workers, shape, b)
 }
 
 /// The array of this shape, which has no elements, of an argument's kind.

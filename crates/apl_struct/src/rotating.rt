@@ -12,8 +12,8 @@ ghost use Rattle.apl_walk.specs.Steps.{wrapped};
 
 use crate::along::{Taking, gather_along};
 use crate::arguments::{is_without_axis, numbers_among};
-use crate::building::{empty, unchanged};
-use apl_answer::{ElementType, OpFault, fill_array};
+use crate::building::empty;
+use apl_answer::{ElementType, OpFault, array_copy, fill_array};
 use apl_array::{
     Array, Axis, Elements, Shape, inserted_index_has_place, places_match_index_lists,
     replaced_index_has_place, shape_is_decided, split_index_has_place,
@@ -41,7 +41,7 @@ pub fn reverse<R: Threads + Sync, C: Cut + Sync, G: Gate + Sync>(
         return Err(OpFault::Index);
     };
     if b.shape().rank() == 0 {
-        return unchanged(&workers, b);
+        return array_copy(&workers, b);
     }
     shape_is_decided();
     let length = b.shape().axis(k);
@@ -184,7 +184,7 @@ pub fn rotate<R: Threads + Sync, C: Cut + Sync, G: Gate + Sync>(
     let rotations = numbers_among(&workers, a)?;
     let rotations = rotations.as_slice();
     if b.shape().rank() == 0 {
-        return unchanged(&workers, b);
+        return array_copy(&workers, b);
     }
     if serves_all {
         return rotate_all(&workers, b, k, rotations[0]);

@@ -36,6 +36,11 @@ pub trait Lined {
         ensures some { 0 < result }
         ensures most { result ≤ MOST_PLACES };
 
+    /// About how many times as long a value takes as one of a function of two numbers.
+    fn weight(&self) -> usize {
+        1
+    }
+
     /// How many indexes of a line are written before those of the next one.
     fn tile(&self) -> usize
         ensures { 0 < result }
@@ -166,6 +171,10 @@ impl<L: Lined> Kernel for ByLines<L> {
 
     fn count(&self) -> usize {
         self.count
+    }
+
+    fn weight(&self) -> usize {
+        self.lines.weight()
     }
 
     fn at(&self, place: usize) -> Result<L::Out, Fault> {

@@ -668,6 +668,24 @@ fn each_reduction_uses_the_pool(rt: HostRuntime) -> Result<(), Fail> {
     meet_at_many(&rt, alloc, largest.as_str(), many)
 }
 
+/// Folds of 320 items at 256 and at 1024 places. Such places are shared although the largest piece has more.
+#[test]
+fn long_folds_have_short_pieces(rt: HostRuntime) -> Result<(), Fail> {
+    let alloc = rt.alloc();
+    let opening = "D←256 320⍴1\nC←320 1024⍴1\nR←320⍴1";
+    let folds = r"
+        B←+/D →
+        B←×/D →
+        B←÷/D →
+        B←+⌿C →
+        B←D+.×R →
+        B←D⌈.+R →
+        B←D∨.≠R →
+        ";
+    let rows = rows_of(alloc, (folds, 7))?;
+    meet_under_both(&rt, alloc, 4096, opening, &rows)
+}
+
 /// The line that makes `F` a vector of `count` ones, by a constant.
 fn items(alloc: Global, count: usize) -> Result<String, AllocError> {
     let mut line = String::from_str(alloc, "F←")?;

@@ -17,12 +17,9 @@ returns-then-rank-eq0 g c =
     let rank : c.rank.result ≡ rank_of b = c.rank.ensures.rank ∙ ap length c.shape.ensures.shape in
     let has : has_axis c.args.axis (rank_of b) ≡ true = ap (has_axis c.args.axis) (sym rank) ∙ c.in-Some.ensures.0 in
     let none : length b.shape ≡ 0 = search rules in
-    let shape : c.in_ok-copy.field-0 ≡ b.shape = search rules in
-    let P : List ℕ → Type 0 = λ s. IsAnswerOf (answer_of s (λ index. reduction c.args.f (items_along b k index)) b.kind) c.array_of_elements.result in
-    scalar_answer c.args.f b c.args.axis c.array_of_elements.result none has
-    (subst P shape
-    (c.array_of_elements.ensures (λ index. reduction c.args.f (items_along b k index)) (λ place inside.
-    scalar_item c.args.f b k (index_at c.in_ok-copy.field-0 place) place none (rw shape at inside))))
+    scalar_answer c.args.f b c.args.axis c.array_copy.result none has
+    (c.array_copy.ensures.by_place (λ index. reduction c.args.f (items_along b k index)) (λ place inside.
+    scalar_item c.args.f b k (index_at b.shape place) place none inside))
 
 pub returns-in-0 : goal.returns-in-0
 returns-in-0 g c =
@@ -44,8 +41,8 @@ returns-in-0 g c =
     (rw kind (subst (λ s. IsAnswerOf (answer_of s outcome Number) c.constant_array.result) shape
     (c.constant_array.ensures outcome (λ place inside. c.identity_or_fault.ensures ∙ sym (no_items c.args.f b k (index_at c.in_ok-shape.shape place) axis none)))))
 
-pub array_of_elements-requires-in-1-after_bounds : goal.array_of_elements-requires-in-1-after_bounds
-array_of_elements-requires-in-1-after_bounds g c κs within =
+pub array_of_elements-requires-after_bounds : goal.array_of_elements-requires-after_bounds
+array_of_elements-requires-after_bounds g c κs within =
     let b = c.args.b.now in
     let k = c.in-Some.k in
     let rank : c.rank.result ≡ rank_of b = c.rank.ensures.rank ∙ ap length c.shape.ensures.shape in
@@ -74,9 +71,9 @@ returns-in-1 g c =
     let n : c.axis.result ≡ slice_index b.shape k = c.axis.ensures.length ∙ ap (λ s. slice_index s k) c.shape-4.ensures.shape in
     let one : slice_index b.shape k ≡ 1 = sym n ∙ c.in-1.is in
     let outcome = λ (index : List ℕ). reduction c.args.f (items_along b k index) in
-    row_answer c.args.f b c.args.axis k c.array_of_elements-in-1.result has is lawful
-    (rw (kind_of_one b k one axis) (subst (λ s. IsAnswerOf (answer_of s outcome b.kind) c.array_of_elements-in-1.result) shape
-    (c.array_of_elements-in-1.ensures outcome (λ place inside.
+    row_answer c.args.f b c.args.axis k c.array_of_elements.result has is lawful
+    (rw (kind_of_one b k one axis) (subst (λ s. IsAnswerOf (answer_of s outcome b.kind) c.array_of_elements.result) shape
+    (c.array_of_elements.ensures outcome (λ place inside.
     rw shape (untested_item c.inserted_index_has_place.ensures.place c.args.f b k place axis one (rw shape at inside))))))
 
 pub returns : goal.returns

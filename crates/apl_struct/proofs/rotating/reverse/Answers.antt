@@ -1,5 +1,6 @@
-use Rattle.std.proofs.Common.{◌≡◌, ◌<◌, length, slice_index, refl, ap, ◌∙◌, rules}
+use Rattle.std.proofs.Common.{◌≡◌, Ok, ◌<◌, length, slice_index, refl, ap, ◌∙◌, rules}
 use Rattle.apl_array.specs.Axes.{axis_of}
+use Rattle.apl_array.specs.Shape.{index_at}
 use Rattle.apl_answer.specs.Arguments.{rank_of}
 use Rattle.apl_struct.specs.declared.along.Taking.TheVariants.{Reversed}
 use Rattle.apl_struct.specs.Along.{taking_index}
@@ -15,7 +16,7 @@ returns-then-rank-eq0 g c =
     let k = axis_of c.args.axis (rank_of b) in
     let rank : c.rank.result ≡ rank_of b = c.rank.ensures.rank ∙ ap length c.shape.ensures.shape in
     let none : length b.shape ≡ 0 = search rules in
-    rw (rw rank at c.in-Some.ensures).0 (c.unchanged.ensures _ (λ index lawful. scalar_element b index (along_axis k (reversed_index (slice_index b.shape k)) index) none))
+    rw (rw rank at c.in-Some.ensures).0 (c.array_copy.ensures.by_place _ (λ place inside. ap Ok (scalar_element b place (along_axis k (reversed_index (slice_index b.shape k)) (index_at b.shape place)) none inside)))
 
 pub returns : goal.returns
 returns g c =

@@ -1,8 +1,8 @@
-use Rattle.std.proofs.Common.{◌≡◌, ◌+◌, true, false, length, slice_index, slice_index_or, pos, to_z, of_z, w64, refl, ap, sym, ◌∙◌, arith, rules}
+use Rattle.std.proofs.Common.{◌≡◌, Ok, ◌+◌, true, false, length, slice_index, slice_index_or, pos, to_z, of_z, w64, refl, ap, sym, ◌∙◌, arith, rules}
 use Rattle.std.specs.Prelude.{◌||◌, ◌==◌, remove}
 use Rattle.std.proofs.lemmas.Slice.Eq.{bytes_eq-Decides}
 use Rattle.apl_array.specs.Axes.{axis_of}
-use Rattle.apl_array.specs.Shape.{count_of}
+use Rattle.apl_array.specs.Shape.{count_of, index_at}
 use Rattle.apl_answer.specs.Arguments.{rank_of, has_one_element, is_same_shape}
 use Rattle.apl_answer.specs.Rows.{HavePassed}
 use Rattle.apl_struct.specs.Gathering.{along_axis}
@@ -34,8 +34,10 @@ returns-then-rank-eq0 g c =
     let k = axis_of c.args.axis (rank_of b) in
     let known = judged g (goal.at.returns-then-rank-eq0 g c).After-rank-2 in
     let none : length b.shape ≡ 0 = search rules in
-    answered (rotate_row a b c.args.axis) c.unchanged.result known.1
-    (c.unchanged.ensures _ (λ index lawful. scalar_element b index (along_axis k (rotated_index (rotation_at a k index) (slice_index b.shape k)) index) none))
+    answered (rotate_row a b c.args.axis) c.array_copy.result known.1
+    (c.array_copy.ensures.by_place _ (λ place inside.
+    let index = index_at b.shape place in
+    ap Ok (scalar_element b place (along_axis k (rotated_index (rotation_at a k index) (slice_index b.shape k)) index) none inside)))
 
 pub returns-then-serves_all : goal.returns-then-serves_all
 returns-then-serves_all g c =
