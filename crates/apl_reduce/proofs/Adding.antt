@@ -41,21 +41,21 @@ module _ (number : ℕ → ℤ) where
   sum_is zero = refl
   sum_is (suc n) = let start : 0 + n ≡ n = omega arith in ap (λ z. z +ℤ number n) (sum_is n) ∙ sym (at_end 0 n ∙ ap (λ i. sum_from 0 n +ℤ number i) start)
 
-  module _ (most : ℕ) (near : (k : ℕ) → unsigned_abs (number k) ≤ most) where
-    sum_from_near : (k n : ℕ) → unsigned_abs (sum_from k n) ≤ n * most
-    sum_from_near k zero = omega arith
-    sum_from_near k (suc n) = omega (arith, sum_near (number k) (sum_from (k + 1) n), near k, sum_from_near (k + 1) n)
+  module _ (most count : ℕ) (near : (k : ℕ) → k < count → unsigned_abs (number k) ≤ most) where
+    sum_from_near : (k n : ℕ) → k + n ≤ count → unsigned_abs (sum_from k n) ≤ n * most
+    sum_from_near k zero below = omega arith
+    sum_from_near k (suc n) below = omega (arith, sum_near (number k) (sum_from (k + 1) n), near k (omega (arith, below)), sum_from_near (k + 1) n (omega (arith, below)))
 
-    module _ (decided : (z : ℤ) → (in_range z ≡ true) ↔ IsInRange z) (bits : (z : ℤ) → IsInRange z ↔ FitsSigned w64 z) (count : ℕ) (small : most * count < 2 ^ 63) (item : ℕ → Result ℤ Fault)
-        (is : (k : ℕ) → item k ≡ Ok (number k)) where
+    module _ (decided : (z : ℤ) → (in_range z ≡ true) ↔ IsInRange z) (bits : (z : ℤ) → IsInRange z ↔ FitsSigned w64 z) (small : most * count < 2 ^ 63) (item : ℕ → Result ℤ Fault)
+        (is : (k : ℕ) → k < count → item k ≡ Ok (number k)) where
       folded_sum : (k more : ℕ) → k + suc more ≤ count → folded_from item Plus k more ≡ Ok (sum_from k (suc more))
-      folded_sum k zero below = let same : number k +ℤ pos 0 ≡ number k = omega (arith, ints) in is k ∙ ap Ok (sym same)
+      folded_sum k zero below = let same : number k +ℤ pos 0 ≡ number k = omega (arith, ints) in is k (omega (arith, below)) ∙ ap Ok (sym same)
       folded_sum k (suc more) below =
-          let fits = fits_near (sum_from k (suc (suc more))) (suc (suc more)) most count (sum_from_near k (suc (suc more))) (omega arith) small in
-          ap (number_step Plus (item k)) (folded_sum (k + 1) more (omega arith)) ∙ ap (λ r. number_step Plus r (Ok (sum_from (k + 1) (suc more)))) (is k) ∙ sym (exact_fits _ decided bits fits)
+          let fits = fits_near (sum_from k (suc (suc more))) (suc (suc more)) most count (sum_from_near k (suc (suc more)) below) (omega arith) small in
+          ap (number_step Plus (item k)) (folded_sum (k + 1) more (omega arith)) ∙ ap (λ r. number_step Plus r (Ok (sum_from (k + 1) (suc more)))) (is k (omega (arith, below))) ∙ sym (exact_fits _ decided bits fits)
 
       -- of all of them
-      judged_sum : (n : ℕ) → n ≤ count → Ok (sum_of number n) ≡ as_number (judged_items item Plus n)
+      pub judged_sum : (n : ℕ) → n ≤ count → Ok (sum_of number n) ≡ as_number (judged_items item Plus n)
       judged_sum zero below = refl
       judged_sum (suc more) below =
           judged_value item Plus more (Ok (sum_of number (suc more))) (ap Ok (sum_is (suc more)) ∙ sym (folded_sum 0 more (omega arith))) refl
@@ -74,9 +74,9 @@ module _ (decided : (z : ℤ) → (in_range z ≡ true) ↔ IsInRange z) (bits :
   plain_sum : (n : ℕ) → n ≡ layout.items → Ok (sum_of (product_at layout left right place) n) ≡ as_number (judged_items (inner_item layout (map Int left) (map Int right) Times place) Plus n)
   plain_sum zero is = refl
   plain_sum (suc n) is =
-      judged_sum (product_at layout left right place) (magnitude left * magnitude right)
-      (λ k. product_near left right (left_place layout place k) (right_place layout place k)) decided bits layout.items small
-      (inner_item layout (map Int left) (map Int right) Times place) (product_is (omega arith)) (suc n) (omega arith)
+      judged_sum (product_at layout left right place) (magnitude left * magnitude right) layout.items
+      (λ k below. product_near left right (left_place layout place k) (right_place layout place k)) decided bits small
+      (inner_item layout (map Int left) (map Int right) Times place) (λ k below. product_is (omega arith) k) (suc n) (omega arith)
 
   pub inner_sum : Ok (sum_of (product_at layout left right place) layout.items) ≡ inner_number layout (map Int left) (map Int right) Plus Times place
   inner_sum = plain_sum layout.items refl

@@ -45,3 +45,4 @@ pub mod Reordered
 pub mod Examples
 pub mod SignFolds
 pub mod Multiplying
+pub mod ProductSums

@@ -10,7 +10,7 @@ use Rattle.apl_array.specs.Range.{IsInRange, in_range}
 use Rattle.apl_scalar.specs.Scalar.{exact}
 use Rattle.apl_reduce.specs.Folded.{number_step, folded_onto}
 use Rattle.apl_reduce.specs.Items.{item_in}
-use Rattle.apl_reduce.specs.Magnitudes.{sum_of, IsNearSum}
+use Rattle.apl_reduce.specs.Magnitudes.{sum_of, IsSumNear, spaced_number}
 use Rattle.apl_reduce.proofs.Adding.{exact_fits}
 use Rattle.apl_reduce.proofs.Distances.{sum_near}
 use Rattle.apl_reduce.proofs.Folds.{two_runs}
@@ -89,11 +89,11 @@ module _ (decided : (z : ℤ) → (in_range z ≡ true) ↔ IsInRange z) (bits :
 
       -- ---- by sums
 
-      pub near_plus : (count : ℕ) (added total : ℤ) → count ≤ 65536 → IsNearSum numbers first 1 count added → unsigned_abs total < 2 ^ 62
+      pub near_plus : (count : ℕ) (added total : ℤ) → count ≤ 65536 → IsSumNear (spaced_number numbers first 1) (2 ^ 46) count added → unsigned_abs total < 2 ^ 62
           → folded_onto Plus item first count (Ok total) ≡ Ok (total +ℤ added)
       near_plus count added total few near small = plus_run count total near.near (omega arith) ∙ ap (λ z. Ok (total +ℤ z)) (sym near.is)
 
-      pub near_minus : (pairs : ℕ) (firsts seconds total : ℤ) → pairs ≤ 32768 → IsNearSum numbers first 2 pairs firsts → IsNearSum numbers (first + 1) 2 pairs seconds → unsigned_abs total < 2 ^ 62
+      pub near_minus : (pairs : ℕ) (firsts seconds total : ℤ) → pairs ≤ 32768 → IsSumNear (spaced_number numbers first 2) (2 ^ 46) pairs firsts → IsSumNear (spaced_number numbers (first + 1) 2) (2 ^ 46) pairs seconds → unsigned_abs total < 2 ^ 62
           → folded_onto Minus item first (2 * pairs) (Ok total) ≡ Ok (total +ℤ (firsts -ℤ seconds))
       near_minus pairs firsts seconds total few left right small =
           minus_pairs pairs total left.near right.near (omega arith)

@@ -1,11 +1,11 @@
--- Sums of numbers near 0, at equal distances.
-use Rattle.std.proofs.Common.{◌≡◌, ℕ, zero, suc, ℤ, pos, ◌+◌, ◌*◌, ◌-◌, ◌^◌, ◌<◌, ◌≤◌, ◌+ℤ◌, List, FitsSigned, w64, to_z, of_z, refl, sym, ap, subst, ◌∙◌, ⊎_elim, arith}
-use Rattle.std.specs.Prelude.{unsigned_abs, slice_index_or, bit_or}
+-- Sums of numbers near 0.
+use Rattle.std.proofs.Common.{◌≡◌, ℕ, zero, suc, ℤ, pos, ◌+◌, ◌*◌, ◌-◌, ◌^◌, ◌<◌, ◌≤◌, ◌+ℤ◌, FitsSigned, w64, to_z, of_z, refl, sym, ap, subst, ◌∙◌, ⊎_elim, arith}
+use Rattle.std.specs.Prelude.{unsigned_abs, bit_or}
 use Rattle.std.proofs.Math.IntN.{+ℤ_assoc}
 use Rattle.std.proofs.lemmas.Int.{ints, to_z-of_z, fits_signed_from_abs}
 use Rattle.std.proofs.lemmas.Nat.{le_or_l, le_or_r}
 use Rattle.std.proofs.lemmas.Bool.{cases_lt}
-use Rattle.apl_reduce.specs.Magnitudes.{sum_of, IsNearSum}
+use Rattle.apl_reduce.specs.Magnitudes.{sum_of, IsSumNear}
 use Rattle.apl_reduce.proofs.Distances.{sum_near}
 
 -- the sum of the first n numbers, each of which is near 0
@@ -17,12 +17,12 @@ near_sum number most (suc n) near =
 add_none : (z : ℤ) → z ≡ z +ℤ pos 0
 add_none z = omega (arith, ints)
 
-same_sum : (f g : ℕ → ℤ) (n : ℕ) → ((k : ℕ) → f k ≡ g k) → sum_of f n ≡ sum_of g n
+pub same_sum : (f g : ℕ → ℤ) (n : ℕ) → ((k : ℕ) → f k ≡ g k) → sum_of f n ≡ sum_of g n
 same_sum f g zero each = refl
 same_sum f g (suc n) each = ap (λ z. z +ℤ f n) (same_sum f g n each) ∙ ap (λ z. sum_of g n +ℤ z) (each n)
 
 -- the sum of m numbers and of n after them
-two_sums : (f : ℕ → ℤ) (m n : ℕ) → sum_of f (m + n) ≡ sum_of f m +ℤ sum_of (λ k. f (m + k)) n
+pub two_sums : (f : ℕ → ℤ) (m n : ℕ) → sum_of f (m + n) ≡ sum_of f m +ℤ sum_of (λ k. f (m + k)) n
 two_sums f m zero = let same : m + zero ≡ m = omega arith in ap (sum_of f) same ∙ add_none (sum_of f m)
 two_sums f m (suc n) =
     let next : m + suc n ≡ suc (m + n) = omega arith in
@@ -30,11 +30,11 @@ two_sums f m (suc n) =
 
 -- ---- numbers counted from the least one that is near 0
 
-pub near_from_above : (above : ℕ) (x : ℤ) → (above < 2 ^ 47 → pos above ≡ x +ℤ pos (2 ^ 46)) → above < 2 ^ 47 → unsigned_abs x ≤ 2 ^ 46
-near_from_above above x counted low = omega (arith, ints, low, counted low)
+pub near_from_above : (near above : ℕ) (x : ℤ) → (above < 2 * near → pos above ≡ x +ℤ pos near) → above < 2 * near → unsigned_abs x ≤ near
+near_from_above near above x counted low = omega (arith, ints, low, counted low)
 
-pub both_low : (m n : ℕ) → bit_or m n < 2 ^ 47 → (m < 2 ^ 47) × (n < 2 ^ 47)
-both_low m n low = (omega (arith, low, le_or_l m n), omega (arith, low, le_or_r m n))
+pub both_low : (limit m n : ℕ) → bit_or m n < limit → (m < limit) × (n < limit)
+both_low limit m n low = (omega (arith, low, le_or_l m n), omega (arith, low, le_or_r m n))
 
 -- ---- sums
 
@@ -47,44 +47,35 @@ stored two x y result fits_x fits_y is near =
     let read = subst (λ a. Is a y) (to_z-of_z w64 x fits_x) (subst (λ b. Is (to_z w64 (of_z w64 x)) b) (to_z-of_z w64 y fits_y) is) near in
     to_z-of_z w64 result (subst (FitsSigned w64) (sym read) (fits_signed_from_abs w64 (two x y) near)) ∙ read
 
-module _ (numbers : List ℤ) (first step : ℕ) where
-  abbrev number : ℕ → ℤ
-  number k = slice_index_or numbers (first + k * step) (pos 0)
+module _ (number : ℕ → ℤ) (most : ℕ) where
+  pub sum_is_near : (count : ℕ) (sum : ℤ) → IsSumNear number most count sum → unsigned_abs sum ≤ count * most
+  sum_is_near count sum near = subst (λ z. unsigned_abs z ≤ count * most) (sym near.is) (near_sum number most count near.near)
 
-  pub sum_is_near : (count : ℕ) (sum : ℤ) → IsNearSum numbers first step count sum → unsigned_abs sum ≤ count * 2 ^ 46
-  sum_is_near count sum near = subst (λ z. unsigned_abs z ≤ count * 2 ^ 46) (sym near.is) (near_sum number (2 ^ 46) count near.near)
-
-  pub no_numbers : IsNearSum numbers first step 0 (pos 0)
+  pub no_numbers : IsSumNear number most 0 (pos 0)
   no_numbers = record { near = λ k below. absurd (omega arith); is = refl }
 
-  pub one_more : (k : ℕ) (sum next : ℤ) → IsNearSum numbers first step k sum → unsigned_abs (number k) ≤ 2 ^ 46 → next ≡ sum +ℤ number k → IsNearSum numbers first step (k + 1) next
+  pub one_more : (k : ℕ) (sum next : ℤ) → IsSumNear number most k sum → unsigned_abs (number k) ≤ most → next ≡ sum +ℤ number k → IsSumNear number most (k + 1) next
   one_more k sum next before near is =
       let more : suc k ≡ k + 1 = omega arith in
       record {
         near = λ j below.
             ⊎_elim
             (λ earlier. before.near j earlier)
-            (λ later. let same : k ≡ j = omega (arith, later, below) in subst (λ i. unsigned_abs (number i) ≤ 2 ^ 46) same near)
+            (λ later. let same : k ≡ j = omega (arith, later, below) in subst (λ i. unsigned_abs (number i) ≤ most) same near)
             (cases_lt j k);
         is = is ∙ ap (λ z. z +ℤ number k) before.is ∙ ap (sum_of number) more;
       }
 
   -- a run and the one after it
-  pub both_runs : (count : ℕ) (low high all : ℤ) → IsNearSum numbers first step count low → IsNearSum numbers (first + count * step) step count high → all ≡ low +ℤ high
-      → IsNearSum numbers first step (2 * count) all
-  both_runs count low high all low_near high_near is =
-      let twice : count + count ≡ 2 * count = omega arith in
-      let place : (k : ℕ) → first + count * step + k * step ≡ first + (count + k) * step = λ k. omega arith in
-      record {
-        near = λ j below.
-            ⊎_elim
-            (λ early. low_near.near j early)
-            (λ late.
-            let here : count + (j - count) ≡ j = omega (arith, late) in
-            subst (λ i. unsigned_abs (number i) ≤ 2 ^ 46) here
-            (subst (λ i. unsigned_abs (slice_index_or numbers i (pos 0)) ≤ 2 ^ 46) (place (j - count)) (high_near.near (j - count) (omega (arith, late, below)))))
-            (cases_lt j count);
-        is = is ∙ ap (λ z. z +ℤ high) low_near.is
-            ∙ ap (λ z. sum_of number count +ℤ z) (high_near.is ∙ same_sum _ _ count (λ k. ap (λ i. slice_index_or numbers i (pos 0)) (place k)))
-            ∙ sym (two_sums number count count) ∙ ap (sum_of number) twice;
-      }
+  pub both_runs : (later : ℕ → ℤ) (m n : ℕ) (low high all : ℤ) → ((k : ℕ) → later k ≡ number (m + k)) → IsSumNear number most m low → IsSumNear later most n high → all ≡ low +ℤ high
+      → IsSumNear number most (m + n) all
+  both_runs later m n low high all after low_near high_near is = record {
+    near = λ j below.
+        ⊎_elim
+        (λ early. low_near.near j early)
+        (λ late.
+        let here : m + (j - m) ≡ j = omega (arith, late) in
+        subst (λ i. unsigned_abs (number i) ≤ most) here (subst (λ z. unsigned_abs z ≤ most) (after (j - m)) (high_near.near (j - m) (omega (arith, late, below)))))
+        (cases_lt j m);
+    is = is ∙ ap (λ z. z +ℤ high) low_near.is ∙ ap (λ z. sum_of number m +ℤ z) (high_near.is ∙ same_sum _ _ n after) ∙ sym (two_sums number m n);
+  }

@@ -1,6 +1,7 @@
 -- How far numbers are from 0, and sums of them. No contract of a public function cites this file.
-use Rattle.std.specs.Prelude.{◌≡◌, ℕ, zero, suc, ℤ, pos, ◌+◌, ◌*◌, ◌^◌, ◌<◌, ◌≤◌, ◌+ℤ◌, List, [], ◌∷◌, unsigned_abs, max, slice_index_or}
+use Rattle.std.specs.Prelude.{◌≡◌, ℕ, zero, suc, ℤ, pos, ◌+◌, ◌*◌, ◌^◌, ◌<◌, ◌≤◌, ◌+ℤ◌, ◌*ℤ◌, List, [], ◌∷◌, unsigned_abs, max, slice_index_or}
 use Rattle.apl_reduce.specs.declared.near_sums.NearSum.{NearSum}
+use Rattle.apl_reduce.specs.declared.product_sums.ProductSum.{ProductSum}
 
 -- the greatest distance from 0 among numbers, and 0 among none
 abbrev pub magnitude : List ℤ → ℕ
@@ -12,11 +13,23 @@ abbrev pub sum_of : (ℕ → ℤ) → ℕ → ℤ
 sum_of number zero = pos 0
 sum_of number (suc n) = sum_of number n +ℤ number n
 
--- `count` numbers, `step` apart from place `first` on, are at most 2 ^ 46 from 0, and this is their sum
-pub record IsNearSum (numbers : List ℤ) (first step count : ℕ) (sum : ℤ) : Type 0 where
-  pub near : (k : ℕ) → k < count → unsigned_abs (slice_index_or numbers (first + k * step) (pos 0)) ≤ 2 ^ 46
-  pub is : sum ≡ sum_of (λ k. slice_index_or numbers (first + k * step) (pos 0)) count
+-- the first `count` numbers are at most `most` from 0, and this is their sum
+pub record IsSumNear (number : ℕ → ℤ) (most count : ℕ) (sum : ℤ) : Type 0 where
+  pub near : (k : ℕ) → k < count → unsigned_abs (number k) ≤ most
+  pub is : sum ≡ sum_of number count
 
--- it is that, if no bit of any number, counted from the least one that is near 0, says that one is far from 0
+-- number k of those that are `step` apart from place `first` on
+abbrev pub spaced_number : List ℤ → (first step k : ℕ) → ℤ
+spaced_number numbers first step k = slice_index_or numbers (first + k * step) (pos 0)
+
+-- a sum of such numbers, if no bit of any of them, counted from the least one that is near 0, says that one is far from 0
 abbrev pub IsSum : List ℤ → (first step count : ℕ) → NearSum → Type 0
-IsSum numbers first step count near = near.bits < 2 ^ 47 → IsNearSum numbers first step count near.sum
+IsSum numbers first step count near = near.bits < 2 ^ 47 → IsSumNear (spaced_number numbers first step) (2 ^ 46) count near.sum
+
+-- the product of the numbers of two lists that meet `k` after place `first`
+abbrev pub meeting_product : (left right : List ℤ) → (first k : ℕ) → ℤ
+meeting_product left right first k = slice_index_or left (first + k) (pos 0) *ℤ slice_index_or right (first + k) (pos 0)
+
+-- a sum of such products, if the bits of no number say that one is farther than `near` from 0
+abbrev pub IsProductSum : (left right : List ℤ) → (near first count : ℕ) → ProductSum → Type 0
+IsProductSum left right near first count s = near * near * count < 2 ^ 63 → s.bits < 2 * near → IsSumNear (meeting_product left right first) (near * near) count s.sum

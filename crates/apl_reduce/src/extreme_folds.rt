@@ -1,16 +1,14 @@
 //! Right folds by `⌈` and `⌊`, of four runs at once.
-ghost use Rattle.std.specs.Prelude.{◌≡◌, ◌+◌, ◌*◌, ◌≤◌, IfSome, Ok, length, map};
+ghost use Rattle.std.specs.Prelude.{◌≡◌, ◌+◌, ◌*◌, ◌≤◌, Ok, length, map};
 ghost use Rattle.apl_array.specs.declared.array.Elem.TheVariants.{Int};
 ghost use Rattle.apl_reduce.specs.Folded.{folded_onto};
 ghost use Rattle.apl_reduce.specs.FourFolds.{AreRuns, AreFourFolds};
 ghost use Rattle.apl_reduce.specs.Items.{item_in};
 
 use crate::four::{Four, quarters};
-use apl_array::ScalarFunction;
-use apl_scalar::function_types::Function;
 
 /// The greatest of numbers, or the least.
-trait Extreme {
+pub(crate) trait Extreme {
     ghost use Rattle.std.specs.Prelude.{◌≡◌, ℤ};
     ghost use Rattle.apl_array.specs.declared.function.ScalarFunction.{ScalarFunction};
     ghost use Rattle.apl_reduce.specs.ExtremeFolds.{IsExtreme};
@@ -28,7 +26,7 @@ trait Extreme {
 }
 
 /// The greatest, by `⌈`.
-struct Greatest;
+pub(crate) struct Greatest;
 
 impl Extreme for Greatest {
     ghost use Rattle.std.specs.Int.{int_max};
@@ -45,7 +43,7 @@ impl Extreme for Greatest {
 }
 
 /// The least, by `⌊`.
-struct Least;
+pub(crate) struct Least;
 
 impl Extreme for Least {
     ghost use Rattle.std.specs.Int.{int_min};
@@ -63,7 +61,7 @@ impl Extreme for Least {
 
 /// The extreme of each total and of as many neighbours from its place on. A turn takes a number of each run. The loop has no branches, and
 /// a processor compares several numbers at once.
-fn each_extreme<E: Extreme>(
+pub(crate) fn each_extreme<E: Extreme>(
     numbers: &[i64],
     starts: Four<usize>,
     count: usize,
@@ -90,8 +88,13 @@ fn each_extreme<E: Extreme>(
     }
 }
 
-/// The extreme of a total and four quarters of neighbours from a place on.
-fn extreme_onto<E: Extreme>(numbers: &[i64], first: usize, quarter: usize, total: i64) -> i64
+/// The extreme of a total and four quarters of neighbours from a place on. It is the same from the first number on as from the last.
+pub(crate) fn extreme_onto<E: Extreme>(
+    numbers: &[i64],
+    first: usize,
+    quarter: usize,
+    total: i64,
+) -> i64
     requires within { first + 4 * quarter ≤ length numbers.now }
     ensures { folded_onto E.function (item_in (map Int numbers.now)) first (2 * (2 * quarter)) (Ok total) ≡ Ok result }
 {
@@ -105,40 +108,4 @@ fn extreme_onto<E: Extreme>(numbers: &[i64], first: usize, quarter: usize, total
     let low = E::of_two(all.first, all.second);
     let high = E::of_two(all.third, all.fourth);
     E::of_two(low, high)
-}
-
-/// The fold of four quarters of neighbours onto a total by `⌈` or `⌊`, which give the same from the first number on.
-#[inline(always)]
-pub(crate) fn extreme_fold<F: Function>(
-    numbers: &[i64],
-    first: usize,
-    quarter: usize,
-    total: i64,
-) -> Option<i64>
-    requires within { first + 4 * quarter ≤ length numbers.now }
-    ensures { IfSome result (λ z. folded_onto F.FUNCTION (item_in (map Int numbers.now)) first (2 * (2 * quarter)) (Ok total) ≡ Ok z) }
-{
-    match F::FUNCTION {
-        ScalarFunction::Ceiling => Some(extreme_onto::<Greatest>(numbers, first, quarter, total)),
-        ScalarFunction::Floor => Some(extreme_onto::<Least>(numbers, first, quarter, total)),
-        _ => None,
-    }
-}
-
-/// The folds of four runs of neighbours onto their totals by `⌈` or `⌊`.
-#[inline(always)]
-pub(crate) fn extreme_folds<F: Function>(
-    numbers: &[i64],
-    starts: Four<usize>,
-    count: usize,
-    totals: Four<i64>,
-) -> Option<Four<i64>>
-    requires within { AreRuns starts count (length numbers.now) }
-    ensures { IfSome result (λ folds. AreFourFolds F.FUNCTION (map Int numbers.now) starts count totals folds) }
-{
-    match F::FUNCTION {
-        ScalarFunction::Ceiling => Some(each_extreme::<Greatest>(numbers, starts, count, totals)),
-        ScalarFunction::Floor => Some(each_extreme::<Least>(numbers, starts, count, totals)),
-        _ => None,
-    }
 }

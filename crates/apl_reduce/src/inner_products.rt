@@ -19,6 +19,7 @@ use crate::items::reduced;
 use crate::layouts::Layout;
 use crate::magnitudes::{is_narrow, magnitude, sums_are_small};
 use crate::product_items::ProductItems;
+use crate::product_sums::fill_product_sums;
 use crate::shapes::{characters_of, joined_shape};
 use crate::sharing::{shares_items, weight_of};
 use crate::sums::Sums;
@@ -148,6 +149,22 @@ fn chosen<T: ElementType + Sync, U: ElementType + Sync, W: Crew>(
     fill_inner(workers, layout, left, right, Chosen(f), Chosen(g))
 }
 
+/// The sums of products, each of which is tested.
+fn fill_tested_sums<W: Crew>(
+    workers: &W,
+    layout: &Layout,
+    left: &[i64],
+    right: &[i64],
+) -> Result<Vec<i64>, Stop>
+    requires { IsWithin layout.now (length left.now) (length right.now) }
+    ensures { IsFilled (inner_number layout.now (map Int left.now) (map Int right.now) PlusNamed TimesNamed) layout.now.count result }
+{
+    if layout.items_are_neighbours() && layout.items >= SEVERAL_ITEMS {
+        return fill_product_sums(workers, layout, left, right);
+    }
+    typed::<i64, Plus, Times, W>(workers, layout, left, right)
+}
+
 /// The sums of products, each added with no check if no sum can leave the range.
 fn fill_sums<W: Crew>(
     workers: &W,
@@ -159,14 +176,14 @@ fn fill_sums<W: Crew>(
     ensures { IsFilled (inner_number layout.now (map Int left.now) (map Int right.now) PlusNamed TimesNamed) layout.now.count result }
 {
     if !layout.is_pass_worthwhile() {
-        return typed::<i64, Plus, Times, W>(workers, layout, left, right);
+        return fill_tested_sums(workers, layout, left, right);
     }
     let (left_most, right_most) = (magnitude(left), magnitude(right));
     if !sums_are_small(left_most, right_most, layout.items) {
-        return typed::<i64, Plus, Times, W>(workers, layout, left, right);
+        return fill_tested_sums(workers, layout, left, right);
     }
     range_is_decided();
-    let is_near = layout.left.item == 1 && layout.right.item == 1;
+    let is_near = layout.items_are_neighbours();
     let sums = Sums {
         left,
         right,

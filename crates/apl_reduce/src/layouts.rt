@@ -1,5 +1,5 @@
 //! Where the items of an inner product are in its arguments.
-ghost use Rattle.std.specs.Prelude.{◌≡◌, ◌*◌, ◌<◌, ◌≤◌, ◌↔◌, IsTrue, if◌then◌else◌};
+ghost use Rattle.std.specs.Prelude.{◌≡◌, ◌*◌, ◌<◌, ◌≤◌, ◌↔◌, true, IsTrue, if◌then◌else◌};
 ghost use Rattle.apl_pool.specs.declared.kernel.TheConstants.{MOST_PLACES};
 ghost use Rattle.apl_reduce.specs.declared.layouts.TheConstants.{SEVERAL_LINES};
 
@@ -48,5 +48,13 @@ impl Layout {
         ensures { IsTrue result ↔ (1 < self.now.columns) × (SEVERAL_LINES * self.now.columns ≤ self.now.count) }
     {
         self.columns > 1 && self.count >= SEVERAL_LINES * self.columns
+    }
+
+    /// Whether the items of each line are neighbours in both arguments.
+    pub(crate) fn items_are_neighbours(&self) -> bool
+        ensures left { result ≡ true → self.now.left.item ≡ 1 }
+        ensures right { result ≡ true → self.now.right.item ≡ 1 }
+    {
+        self.left.item == 1 && self.right.item == 1
     }
 }

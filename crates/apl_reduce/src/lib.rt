@@ -37,6 +37,7 @@ mod near_sums;
 mod ones;
 mod outer_products;
 mod product_items;
+mod product_sums;
 mod quotient;
 mod range;
 mod reducing;

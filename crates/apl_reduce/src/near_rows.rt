@@ -26,8 +26,8 @@ fn near_step<F: Function>(number: i64, total: i64) -> (i64, u64)
 {
     range_is_decided();
     match F::FUNCTION {
-        ScalarFunction::Plus => (wrapped_sum(number, total), above_least(number)),
-        ScalarFunction::Minus => (wrapped_difference(number, total), above_least(number)),
+        ScalarFunction::Plus => (wrapped_sum(number, total), above_least(number, NEAR)),
+        ScalarFunction::Minus => (wrapped_difference(number, total), above_least(number, NEAR)),
         _ => (total, u64::MAX),
     }
 }

@@ -38,12 +38,13 @@ pub(crate) fn wrapped_difference(x: i64, y: i64) -> i64
     x.wrapping_sub(y)
 }
 
-/// How far a number is above the least one that is near 0, modulo 2^64. So those below it are farther than all others.
+/// How far a number is above the least one that is at most `near` from 0, modulo 2^64. So those below it are farther than all others.
 #[inline(always)]
-pub(crate) fn above_least(number: i64) -> u64
-    ensures { result < 2 ^ 47 → pos result ≡ number +ℤ pos (2 ^ 46) }
+pub(crate) fn above_least(number: i64, near: u64) -> u64
+    requires { near ≤ 2 ^ 46 }
+    ensures { result < 2 * near → pos result ≡ number +ℤ pos near }
 {
-    number.cast_unsigned().wrapping_add(NEAR)
+    number.cast_unsigned().wrapping_add(near)
 }
 
 /// A sum of numbers. If one is far from 0, it may have wrapped.
@@ -72,7 +73,7 @@ impl NearSum {
         let number = numbers[first + count * step];
         NearSum {
             sum: wrapped_sum(self.sum, number),
-            bits: self.bits | above_least(number),
+            bits: self.bits | above_least(number, NEAR),
         }
     }
 

@@ -10,14 +10,14 @@ ghost use Rattle.apl_reduce.specs.FourFolds.{AreRuns, AreFourFolds, IsChange, Ar
 ghost use Rattle.apl_reduce.specs.Items.{item_in};
 
 use crate::bit_folds::bit_fold;
-use crate::extreme_folds::{extreme_fold, extreme_folds};
+use crate::extreme_folds::{Greatest, Least, each_extreme, extreme_onto};
 use crate::folding::fold_items;
 use crate::four::Four;
 use crate::near_sums::{
     MOST_PAIRS, MOST_QUARTER, NEAR, NEAR_TOTAL, NearSum, quarters_added, quarters_turned,
     runs_added, runs_turned,
 };
-use crate::sign_folds::sign_fold;
+use crate::sign_folds::sign_onto;
 use apl_array::ScalarFunction;
 use apl_pool::Fault;
 use apl_scalar::function_types::Function;
@@ -71,19 +71,17 @@ pub(crate) fn quick_folds<F: Function>(
     ensures { IfSome result (λ folds. AreFourFolds F.FUNCTION (map Int numbers.now) starts (2 * pairs) totals folds) }
 {
     match F::FUNCTION {
-        ScalarFunction::Plus => {
-            if pairs > MOST_PAIRS {
-                return None;
-            }
+        ScalarFunction::Plus if pairs <= MOST_PAIRS => {
             near_folds(runs_added(numbers, starts, 2 * pairs), totals)
         }
-        ScalarFunction::Minus => {
-            if pairs > MOST_PAIRS {
-                return None;
-            }
+        ScalarFunction::Minus if pairs <= MOST_PAIRS => {
             near_folds(runs_turned(numbers, starts, pairs), totals)
         }
-        _ => extreme_folds::<F>(numbers, starts, 2 * pairs, totals),
+        ScalarFunction::Ceiling => {
+            Some(each_extreme::<Greatest>(numbers, starts, 2 * pairs, totals))
+        }
+        ScalarFunction::Floor => Some(each_extreme::<Least>(numbers, starts, 2 * pairs, totals)),
+        _ => None,
     }
 }
 
@@ -112,10 +110,14 @@ fn quick_fold<F: Function>(numbers: &[i64], first: usize, quarter: usize, total:
     match F::FUNCTION {
         ScalarFunction::Plus => near_total(quarters_added(numbers, first, 2 * quarter), total),
         ScalarFunction::Minus => near_total(quarters_turned(numbers, first, quarter), total),
-        ScalarFunction::Ceiling | ScalarFunction::Floor => {
-            extreme_fold::<F>(numbers, first, 2 * quarter, total)
-        }
-        ScalarFunction::Times => sign_fold::<F>(numbers, first, 2 * (2 * quarter), total),
+        ScalarFunction::Times => sign_onto(numbers, first, 2 * (2 * quarter), total),
+        ScalarFunction::Ceiling => Some(extreme_onto::<Greatest>(
+            numbers,
+            first,
+            2 * quarter,
+            total,
+        )),
+        ScalarFunction::Floor => Some(extreme_onto::<Least>(numbers, first, 2 * quarter, total)),
         _ => bit_fold::<F>(numbers, first, 2 * (2 * quarter), total),
     }
 }

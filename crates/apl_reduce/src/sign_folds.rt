@@ -6,8 +6,7 @@ ghost use Rattle.apl_reduce.specs.Folded.{folded_onto};
 ghost use Rattle.apl_reduce.specs.Items.{item_in};
 ghost use Rattle.apl_reduce.specs.SignFolds.{AreRunSigns};
 
-use apl_array::{ScalarFunction, range_is_decided};
-use apl_scalar::function_types::Function;
+use apl_array::range_is_decided;
 
 /// The sign of the product of numbers, and whether each of them is 1 or ¯1.
 #[derive(Clone, Copy)]
@@ -53,7 +52,7 @@ fn run_signs(numbers: &[i64], first: usize, half: usize) -> RunSigns
 }
 
 /// The fold of both halves of neighbours onto a total by `×`, if each of them is 1 or ¯1, and the total has a negative in the range.
-fn sign_onto(numbers: &[i64], first: usize, half: usize, total: i64) -> Option<i64>
+pub(crate) fn sign_onto(numbers: &[i64], first: usize, half: usize, total: i64) -> Option<i64>
     requires within { first + 2 * half ≤ length numbers.now }
     ensures { IfSome result (λ z. folded_onto Times (item_in (map Int numbers.now)) first (2 * half) (Ok total) ≡ Ok z) }
 {
@@ -63,21 +62,4 @@ fn sign_onto(numbers: &[i64], first: usize, half: usize, total: i64) -> Option<i
         return None;
     }
     Some(if run.signs < 1 << 63 { total } else { -total })
-}
-
-/// The fold of both halves of neighbours onto a total by `×`, unless it is in doubt.
-#[inline(always)]
-pub(crate) fn sign_fold<F: Function>(
-    numbers: &[i64],
-    first: usize,
-    half: usize,
-    total: i64,
-) -> Option<i64>
-    requires within { first + 2 * half ≤ length numbers.now }
-    ensures { IfSome result (λ z. folded_onto F.FUNCTION (item_in (map Int numbers.now)) first (2 * half) (Ok total) ≡ Ok z) }
-{
-    match F::FUNCTION {
-        ScalarFunction::Times => sign_onto(numbers, first, half, total),
-        _ => None,
-    }
 }

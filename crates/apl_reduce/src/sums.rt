@@ -7,6 +7,7 @@ ghost use Rattle.apl_reduce.specs.Magnitudes.{magnitude};
 
 use crate::four::{Four, put_four};
 use crate::layouts::Layout;
+use crate::near_sums::wrapped_sum;
 use crate::sharing::weight_of;
 use apl_pool::write_each;
 use apl_walk::Lined;
@@ -27,14 +28,22 @@ pub(crate) struct Sums<'a> {
     ghost right_near: { is_narrow ≡ true → layout.now.right.item ≡ 1 },
 }
 
-/// The product of numbers of 32 bits. A processor multiplies several such pairs at once.
+/// The number that the lower 32 bits of `x` are.
 #[inline(always)]
-fn narrow_product(x: i64, y: i64) -> i64
-    requires left { unsigned_abs x < 2 ^ 31 }
-    requires right { unsigned_abs y < 2 ^ 31 }
-    ensures { result ≡ x *ℤ y }
+fn lower_half(x: i64) -> i64
+    ensures value { unsigned_abs x < 2 ^ 31 → result ≡ x }
+    ensures small { unsigned_abs result ≤ 2 ^ 31 }
 {
-    i64::from(x as i32) * i64::from(y as i32)
+    (x << 32) >> 32
+}
+
+/// The product of the lower halves of two numbers: their own product if both are of 32 bits. A processor multiplies several such pairs at
+/// once.
+#[inline(always)]
+pub(crate) fn narrow_product(x: i64, y: i64) -> i64
+    ensures { unsigned_abs x < 2 ^ 31 → unsigned_abs y < 2 ^ 31 → result ≡ x *ℤ y }
+{
+    lower_half(x) * lower_half(y)
 }
 
 /// How many neighbouring columns of a line are summed at once.
@@ -84,7 +93,10 @@ impl Sums<'_> {
         ensures { let product = slice_index_or self.now.left.now (left + k) (pos 0) *ℤ slice_index_or self.now.right.now (right + k) (pos 0) in
             unsigned_abs (sum +ℤ product) < 2 ^ 63 → result ≡ sum +ℤ product }
     {
-        sum.wrapping_add(narrow_product(self.left[left + k], self.right[right + k]))
+        wrapped_sum(
+            sum,
+            narrow_product(self.left[left + k], self.right[right + k]),
+        )
     }
 
     /// The sum in a line and a column whose items are numbers of 32 bits and neighbours.

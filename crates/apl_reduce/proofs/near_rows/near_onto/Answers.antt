@@ -26,7 +26,7 @@ loop-done-preserved g c =
     record {
       place = place;
       sum = λ low near.
-          let both = both_low c.loop-done.bits next.1 low in
+          let both = both_low (2 ^ 47) c.loop-done.bits next.1 low in
           let before = kept.sum both.0 near in
           let few : unsigned_abs sum + 2 ^ 46 < 2 ^ 63 = omega (arith, before.1, c.loop-done-test.true, c.requires.few) in
           let step = c.near_step-next.ensures both.1 few in (

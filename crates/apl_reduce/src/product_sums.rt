@@ -1,0 +1,190 @@
+//! Sums of products of neighbours. Each is made in one pass over its line, and item by item if that is in doubt.
+ghost use Rattle.std.specs.Prelude.{◌≡◌, ℕ, ◌+◌, ◌*◌, ◌^◌, ◌<◌, ◌≤◌, List, ℤ, IfSome, Ok, length, map};
+ghost use Rattle.apl_array.specs.declared.array.Elem.TheVariants.{Int};
+ghost use Rattle.apl_array.specs.declared.function.ScalarFunction.TheVariants.{Plus as PlusNamed, Times as TimesNamed};
+ghost use Rattle.apl_pool.specs.declared.kernel.TheConstants.{MOST_PLACES};
+ghost use Rattle.apl_scalar.specs.Meeting.{meeting_number};
+ghost use Rattle.apl_reduce.specs.Filled.{IsFilled};
+ghost use Rattle.apl_reduce.specs.Items.{as_number, judged_items};
+ghost use Rattle.apl_reduce.specs.Layouts.{IsWithin, inner_number};
+ghost use Rattle.apl_reduce.specs.Magnitudes.{IsProductSum};
+
+use crate::dyadic::Typed;
+use crate::items::reduced;
+use crate::layouts::Layout;
+use crate::near_sums::{above_least, wrapped_sum};
+use crate::product_items::{LineItems, ProductItems};
+use crate::sharing::weight_of;
+use crate::sums::narrow_product;
+use apl_array::range_is_decided;
+use apl_divisor::Divisor;
+use apl_pool::{Crew, Fault, Kernel, Stop, fill};
+use apl_scalar::function_types::{Plus, Times};
+use std::marker::PhantomData;
+
+/// A sum of products. If one of the numbers is far from 0, it may have wrapped.
+#[derive(Clone, Copy)]
+pub(crate) struct ProductSum {
+    sum: i64,
+    /// The bits that one or more of the numbers has, each counted from the least one that is near 0.
+    bits: u64,
+}
+
+impl ProductSum {
+    /// The sum of no product.
+    #[inline(always)]
+    fn none() -> ProductSum
+        ensures { (left right : List ℤ) (near first : ℕ) → IsProductSum left right near first 0 result }
+    {
+        ProductSum { sum: 0, bits: 0 }
+    }
+
+    /// The sum with the product of the numbers that meet at a place.
+    #[inline(always)]
+    fn with_next(&self, left: &[i64], right: &[i64], near: u64, place: usize) -> ProductSum
+        requires left { place < length left.now }
+        requires right { place < length right.now }
+        requires near { near ≤ 2 ^ 24 }
+        ensures { (first count : ℕ) → first + count ≡ place → IsProductSum left.now right.now near first count self.now → IsProductSum left.now right.now near first (count + 1) result }
+    {
+        let (x, y) = (left[place], right[place]);
+        ProductSum {
+            sum: wrapped_sum(self.sum, narrow_product(x, y)),
+            bits: self.bits | above_least(x, near) | above_least(y, near),
+        }
+    }
+
+    /// The sum with that of the products that are next.
+    #[inline(always)]
+    fn joined(&self, next: &ProductSum) -> ProductSum
+        ensures { (left right : List ℤ) (near first count more : ℕ) → IsProductSum left right near first count self.now → IsProductSum left right near (first + count) more next.now
+            → IsProductSum left right near first (count + more) result }
+    {
+        ProductSum {
+            sum: wrapped_sum(self.sum, next.sum),
+            bits: self.bits | next.bits,
+        }
+    }
+}
+
+/// The sum of the products of the numbers that meet in two lists. A turn takes a pair of each half, since memory gives two streams
+/// faster than one. The loop has no branches, and a processor multiplies several numbers at once.
+#[inline(never)]
+fn product_sum(left: &[i64], right: &[i64], near: u64) -> ProductSum
+    requires same { length right.now ≡ length left.now }
+    requires near { near ≤ 2 ^ 24 }
+    ensures { IsProductSum left.now right.now near 0 (length left.now) result }
+{
+    let half = left.len() / 2;
+    let mut low = ProductSum::none();
+    let mut high = ProductSum::none();
+    for k in 0..half {
+        low = low.with_next(left, right, near, k);
+        high = high.with_next(left, right, near, half + k);
+    }
+    let both = low.joined(&high);
+    if 2 * half < left.len() {
+        both.with_next(left, right, near, 2 * half)
+    } else {
+        both
+    }
+}
+
+/// The most items of a line whose numbers may be as far from 0 as those of a short one.
+const MANY_ITEMS: usize = 1 << 14;
+
+/// Numbers are near 0 if they are at most this far from it. No sum of so many products of them leaves the range.
+fn nearest(count: usize) -> u64
+    requires { count ≤ MOST_PLACES }
+    ensures near { result ≤ 2 ^ 24 }
+    ensures small { result * result * count < 2 ^ 63 }
+{
+    if count <= MANY_ITEMS {
+        1 << 24
+    } else {
+        1 << 16
+    }
+}
+
+/// The sum of the products of some items that are neighbours, if all numbers are near 0.
+fn sure_sum(items: &LineItems<'_, i64, i64, Typed<Times>>) -> Option<i64>
+    requires some { 0 < items.now.count }
+    requires most { items.now.count ≤ MOST_PLACES }
+    requires left { items.now.left_stride ≡ 1 }
+    requires right { items.now.right_stride ≡ 1 }
+    ensures { let x = items.now in
+        let item = meeting_number TimesNamed (map Int x.left.now) x.left_start x.left_stride (map Int x.right.now) x.right_start x.right_stride in
+        IfSome result (λ z. as_number (judged_items item PlusNamed x.count) ≡ Ok z) }
+{
+    range_is_decided();
+    let left = &items.left[items.left_start..items.left_start + items.count];
+    let right = &items.right[items.right_start..items.right_start + items.count];
+    let near = nearest(items.count);
+    let line = product_sum(left, right, near);
+    if line.bits < 2 * near {
+        Some(line.sum)
+    } else {
+        None
+    }
+}
+
+/// The sums of products at the places of an inner product whose items are neighbours.
+#[derive(Drop)]
+struct ProductSums<'a> {
+    items: ProductItems<'a, i64, i64, Typed<Times>>,
+    ghost some: { 0 < items.layout.now.items },
+    ghost left_near: { items.layout.now.left.item ≡ 1 },
+    ghost right_near: { items.layout.now.right.item ≡ 1 },
+}
+
+impl Kernel for ProductSums<'_> {
+    ghost use Rattle.std.specs.Prelude.{map};
+    ghost use Rattle.apl_array.specs.declared.array.Elem.TheVariants.{Int};
+    ghost use Rattle.apl_array.specs.declared.function.ScalarFunction.TheVariants.{Plus as PlusNamed, Times as TimesNamed};
+    ghost use Rattle.apl_reduce.specs.Layouts.{inner_number};
+
+    type Out = i64;
+
+    ghost place_count = { λ k. k.items.layout.now.count };
+
+    ghost outcome = { λ k place. inner_number k.items.layout.now (map Int k.items.left.now) (map Int k.items.right.now) PlusNamed TimesNamed place };
+
+    fn count(&self) -> usize {
+        self.items.layout.count
+    }
+
+    fn weight(&self) -> usize {
+        weight_of(self.items.layout.items)
+    }
+
+    fn at(&self, place: usize) -> Result<i64, Fault> {
+        let items = self.items.line(place);
+        if let Some(sum) = sure_sum(&items) {
+            return Ok(sum);
+        }
+        reduced(&items, Typed::<Plus>(PhantomData))
+    }
+}
+
+/// The sums of products at all places.
+pub(crate) fn fill_product_sums<W: Crew>(
+    workers: &W,
+    layout: &Layout,
+    left: &[i64],
+    right: &[i64],
+) -> Result<Vec<i64>, Stop>
+    requires within { IsWithin layout.now (length left.now) (length right.now) }
+    requires some { 0 < layout.now.items }
+    requires left_near { layout.now.left.item ≡ 1 }
+    requires right_near { layout.now.right.item ≡ 1 }
+    ensures { IsFilled (inner_number layout.now (map Int left.now) (map Int right.now) PlusNamed TimesNamed) layout.now.count result }
+{
+    let items = ProductItems {
+        layout,
+        columns: Divisor::new(layout.columns),
+        left,
+        right,
+        pairing: Typed::<Times>(PhantomData),
+    };
+    fill(workers, &ProductSums { items })
+}
