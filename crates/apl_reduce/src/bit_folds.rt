@@ -1,10 +1,10 @@
 //! Right folds of truth values, of a run at once.
 ghost use Rattle.std.specs.Prelude.{◌≡◌, ◌+◌, ◌*◌, ◌≤◌, IfSome, Ok, length, map};
 ghost use Rattle.apl_array.specs.declared.array.Elem.TheVariants.{Int};
-ghost use Rattle.apl_reduce.specs.BitFolds.{AreRunBits};
 ghost use Rattle.apl_reduce.specs.Folded.{folded_onto};
 ghost use Rattle.apl_reduce.specs.Items.{item_in};
 
+use crate::halves::{KnownRun, of_halves};
 use apl_array::ScalarFunction;
 use apl_scalar::function_types::Function;
 
@@ -17,28 +17,31 @@ struct RunBits {
     any: u64,
 }
 
-/// The bits of both halves of neighbours from a place on. A turn takes a number of each half, since memory gives two streams faster than
-/// one. The loop has no branches, and a processor does several numbers at once.
-fn run_bits(numbers: &[i64], first: usize, half: usize) -> RunBits
-    requires within { first + 2 * half ≤ length numbers.now }
-    ensures { AreRunBits numbers.now first (2 * half) result.all result.any }
-{
-    let second = first + half;
-    let mut all = 1;
-    let mut any = 0;
-    let mut all_beyond = 1;
-    let mut any_beyond = 0;
-    for k in 0..half {
-        let bits = numbers[first + k].cast_unsigned();
-        let bits_beyond = numbers[second + k].cast_unsigned();
-        all &= bits;
-        any |= bits;
-        all_beyond &= bits_beyond;
-        any_beyond |= bits_beyond;
+impl KnownRun for RunBits {
+    ghost use Rattle.apl_reduce.specs.BitFolds.{AreRunBits};
+
+    ghost is_of = { λ bits numbers first count. AreRunBits numbers first count bits.all bits.any };
+
+    #[inline(always)]
+    fn none() -> RunBits {
+        RunBits { all: 1, any: 0 }
     }
-    RunBits {
-        all: all & all_beyond,
-        any: any | any_beyond,
+
+    #[inline(always)]
+    fn with_next(&self, numbers: &[i64], place: usize) -> RunBits {
+        let bits = numbers[place].cast_unsigned();
+        RunBits {
+            all: self.all & bits,
+            any: self.any | bits,
+        }
+    }
+
+    #[inline(always)]
+    fn joined(&self, next: &RunBits) -> RunBits {
+        RunBits {
+            all: self.all & next.all,
+            any: self.any | next.any,
+        }
     }
 }
 
@@ -53,7 +56,7 @@ pub(crate) fn bit_fold<F: Function>(
     requires within { first + 2 * half ≤ length numbers.now }
     ensures { IfSome result (λ z. folded_onto F.FUNCTION (item_in (map Int numbers.now)) first (2 * half) (Ok total) ≡ Ok z) }
 {
-    let bits = run_bits(numbers, first, half);
+    let bits: RunBits = of_halves(numbers, first, half);
     if bits.any > 1 || total.cast_unsigned() > 1 {
         return None;
     }

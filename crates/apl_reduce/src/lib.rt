@@ -23,6 +23,7 @@ mod foldable;
 mod folded_rows;
 mod folding;
 mod four;
+mod halves;
 mod inner_products;
 mod inner_runs;
 mod item_rows;

@@ -4,8 +4,8 @@ ghost use Rattle.apl_array.specs.declared.array.Elem.TheVariants.{Int};
 ghost use Rattle.apl_array.specs.declared.function.ScalarFunction.TheVariants.{Times};
 ghost use Rattle.apl_reduce.specs.Folded.{folded_onto};
 ghost use Rattle.apl_reduce.specs.Items.{item_in};
-ghost use Rattle.apl_reduce.specs.SignFolds.{AreRunSigns};
 
+use crate::halves::{KnownRun, of_halves};
 use apl_array::range_is_decided;
 
 /// The sign of the product of numbers, and whether each of them is 1 or ¯1.
@@ -25,29 +25,32 @@ fn one_more(bits: u64) -> u64
     bits.wrapping_add(1)
 }
 
-/// The signs of both halves of neighbours from a place on. A turn takes a number of each half, since memory gives two streams faster than
-/// one. The loop has no branches, and a processor does several numbers at once.
-fn run_signs(numbers: &[i64], first: usize, half: usize) -> RunSigns
-    requires within { first + 2 * half ≤ length numbers.now }
-    ensures { AreRunSigns numbers.now first (2 * half) result.signs result.sums }
-{
-    range_is_decided();
-    let second = first + half;
-    let mut signs = 0;
-    let mut sums = 0;
-    let mut signs_beyond = 0;
-    let mut sums_beyond = 0;
-    for k in 0..half {
-        let bits = numbers[first + k].cast_unsigned();
-        let bits_beyond = numbers[second + k].cast_unsigned();
-        signs ^= bits;
-        sums |= one_more(bits);
-        signs_beyond ^= bits_beyond;
-        sums_beyond |= one_more(bits_beyond);
+impl KnownRun for RunSigns {
+    ghost use Rattle.apl_reduce.specs.SignFolds.{AreRunSigns};
+
+    ghost is_of = { λ run numbers first count. AreRunSigns numbers first count run.signs run.sums };
+
+    #[inline(always)]
+    fn none() -> RunSigns {
+        RunSigns { signs: 0, sums: 0 }
     }
-    RunSigns {
-        signs: signs ^ signs_beyond,
-        sums: sums | sums_beyond,
+
+    #[inline(always)]
+    fn with_next(&self, numbers: &[i64], place: usize) -> RunSigns {
+        range_is_decided();
+        let bits = numbers[place].cast_unsigned();
+        RunSigns {
+            signs: self.signs ^ bits,
+            sums: self.sums | one_more(bits),
+        }
+    }
+
+    #[inline(always)]
+    fn joined(&self, next: &RunSigns) -> RunSigns {
+        RunSigns {
+            signs: self.signs ^ next.signs,
+            sums: self.sums | next.sums,
+        }
     }
 }
 
@@ -56,7 +59,7 @@ pub(crate) fn sign_onto(numbers: &[i64], first: usize, half: usize, total: i64) 
     requires within { first + 2 * half ≤ length numbers.now }
     ensures { IfSome result (λ z. folded_onto Times (item_in (map Int numbers.now)) first (2 * half) (Ok total) ≡ Ok z) }
 {
-    let run = run_signs(numbers, first, half);
+    let run: RunSigns = of_halves(numbers, first, half);
     let are_units = run.sums == 0 || run.sums == 2;
     if !are_units || total == i64::MIN {
         return None;
