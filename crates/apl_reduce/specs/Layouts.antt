@@ -1,12 +1,12 @@
 -- Where the items of an inner product are in its arguments. No contract of a public function cites this file.
-use Rattle.std.specs.Prelude.{ℕ, ℤ, pos, ◌+◌, ◌*◌, ◌*ℤ◌, ◌/◌, ◌%◌, ◌<◌, ◌≤◌, ◌≡◌, List, length, Result, slice_index_or}
+use Rattle.std.specs.Prelude.{ℕ, ℤ, pos, ◌+◌, ◌*◌, ◌*ℤ◌, ◌/◌, ◌%◌, ◌<◌, ◌≤◌, ◌≡◌, ◌⊎◌, List, length, Result, slice_index_or}
 use Rattle.apl_array.specs.declared.array.Elem.{Elem}
 use Rattle.apl_array.specs.declared.function.ScalarFunction.{ScalarFunction}
 use Rattle.apl_pool.specs.declared.kernel.Fault.{Fault}
 use Rattle.apl_pool.specs.declared.kernel.TheConstants.{MOST_PLACES}
 use Rattle.apl_scalar.specs.Scalar.{dyadic_of}
 use Rattle.apl_reduce.specs.declared.layouts.Layout.{Layout}
-use Rattle.apl_reduce.specs.declared.layouts.TheConstants.{SEVERAL_LINES}
+use Rattle.apl_reduce.specs.declared.layouts.TheConstants.{SEVERAL_ITEMS, SEVERAL_LINES}
 use Rattle.apl_reduce.specs.Items.{item_in, as_number, judged_items}
 use Rattle.apl_reduce.specs.Magnitudes.{sum_of}
 
@@ -50,9 +50,11 @@ product_at layout left right place = product_in layout left right (place / layou
 abbrev pub column_place : Layout → ℕ → ℕ → ℕ
 column_place layout column k = column * layout.right.line + k * layout.right.item
 
--- The right argument is one by rows, of several columns, and each serves several lines. In the order of its columns it has room
+-- The right argument is one by rows, of several columns, which meet a line or more. The lines or the items are several. In the order of its
+-- columns it has room
 abbrev pub RepaysAnOrder : Layout → Type 0
-RepaysAnOrder layout = (layout.right.line ≡ 1) × (layout.right.item ≡ layout.columns) × (0 < layout.items) × (1 < layout.columns) × (SEVERAL_LINES * layout.columns ≤ layout.count) × (layout.columns * layout.items ≤ MOST_PLACES)
+RepaysAnOrder layout = (layout.right.line ≡ 1) × (layout.right.item ≡ layout.columns) × (0 < layout.items) × (1 < layout.columns) × (layout.columns ≤ layout.count)
+    × ((SEVERAL_ITEMS ≤ layout.items) ⊎ (SEVERAL_LINES * layout.columns ≤ layout.count)) × (layout.columns * layout.items ≤ MOST_PLACES)
 
 -- as `layout`, but those of a column of the right argument are neighbours
 pub record IsByColumns (layout ordered : Layout) : Type 0 where

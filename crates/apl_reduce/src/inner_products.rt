@@ -16,7 +16,7 @@ use crate::dyadic::{Chosen, Dyadic, Typed};
 use crate::inner_runs::fill_runs;
 use crate::item_rows::ItemRows;
 use crate::items::reduced;
-use crate::layouts::Layout;
+use crate::layouts::{Layout, SEVERAL_ITEMS};
 use crate::magnitudes::{is_narrow, magnitude, sums_are_small};
 use crate::product_items::ProductItems;
 use crate::product_sums::fill_product_sums;
@@ -97,9 +97,6 @@ fn fill_inner<
     let kernel = Reductions { items, function };
     fill(workers, &kernel)
 }
-
-/// From how many items on a run of them pays.
-const SEVERAL_ITEMS: usize = 24;
 
 /// The reduction of the items at each place by two functions, for which the loop over the items is compiled.
 fn compiled<T: ElementType + Sync, F: Function + Copy + Sync, P: Function + Copy + Sync, W: Crew>(

@@ -4,7 +4,10 @@ ghost use Rattle.apl_pool.specs.declared.kernel.TheConstants.{MOST_PLACES};
 ghost use Rattle.apl_reduce.specs.declared.layouts.TheConstants.{SEVERAL_LINES};
 
 /// From how many lines of the left argument on a pass over the right one pays.
-const SEVERAL_LINES: usize = 8;
+pub(crate) const SEVERAL_LINES: usize = 8;
+
+/// From how many items on a run of them pays.
+pub(crate) const SEVERAL_ITEMS: usize = 24;
 
 /// How far apart the lines of an argument are, and the items of a line.
 #[derive(Clone, Copy)]

@@ -1,4 +1,4 @@
-use Rattle.std.proofs.Common.{◌≡◌, ◌+◌, ◌^◌, ◌<◌, pos, ◌+ℤ◌, FitsSigned, w64, subst, arith, rules}
+use Rattle.std.proofs.Common.{◌≡◌, ◌^◌, ◌<◌, pos, ◌+ℤ◌, FitsSigned, w64, subst, arith, rules}
 use Rattle.std.proofs.lemmas.Int.{to_z-of_z}
 use Rattle.apl_reduce.specs.Magnitudes.{spaced_number}
 use Rattle.apl_reduce.proofs.Distances.{sum_near}

@@ -1,4 +1,4 @@
-use Rattle.std.proofs.Common.{◌≡◌, ◌+◌, ◌*◌, ◌^◌, ◌<◌, ◌≤◌, ℤ, pos, ◌+ℤ◌, ◌*ℤ◌, FitsSigned, slice_index_or, to_z, of_z, w64, sym, ap, subst, ◌∙◌, arith, rules}
+use Rattle.std.proofs.Common.{◌≡◌, ◌*◌, ◌^◌, ◌<◌, ◌≤◌, ℤ, pos, ◌+ℤ◌, ◌*ℤ◌, FitsSigned, slice_index_or, to_z, of_z, w64, sym, ap, subst, ◌∙◌, arith, rules}
 use Rattle.std.specs.Prelude.{unsigned_abs, bit_or}
 use Rattle.std.proofs.lemmas.Int.{to_z-of_z}
 use Rattle.apl_reduce.specs.Magnitudes.{meeting_product}
