@@ -8,7 +8,7 @@ import unittest
 from common import PROGRAM, TOP
 
 PEERS = TOP / "bench" / "peers"
-ROWS = 82
+ROWS = 83
 
 
 def asked(*words: str, path: str = os.environ["PATH"]) -> subprocess.CompletedProcess:
