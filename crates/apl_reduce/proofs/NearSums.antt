@@ -17,12 +17,12 @@ near_sum number most (suc n) near =
 add_none : (z : ℤ) → z ≡ z +ℤ pos 0
 add_none z = omega (arith, ints)
 
-pub same_sum : (f g : ℕ → ℤ) (n : ℕ) → ((k : ℕ) → f k ≡ g k) → sum_of f n ≡ sum_of g n
+same_sum : (f g : ℕ → ℤ) (n : ℕ) → ((k : ℕ) → f k ≡ g k) → sum_of f n ≡ sum_of g n
 same_sum f g zero each = refl
 same_sum f g (suc n) each = ap (λ z. z +ℤ f n) (same_sum f g n each) ∙ ap (λ z. sum_of g n +ℤ z) (each n)
 
 -- the sum of m numbers and of n after them
-pub two_sums : (f : ℕ → ℤ) (m n : ℕ) → sum_of f (m + n) ≡ sum_of f m +ℤ sum_of (λ k. f (m + k)) n
+two_sums : (f : ℕ → ℤ) (m n : ℕ) → sum_of f (m + n) ≡ sum_of f m +ℤ sum_of (λ k. f (m + k)) n
 two_sums f m zero = let same : m + zero ≡ m = omega arith in ap (sum_of f) same ∙ add_none (sum_of f m)
 two_sums f m (suc n) =
     let next : m + suc n ≡ suc (m + n) = omega arith in

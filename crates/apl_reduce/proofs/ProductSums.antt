@@ -20,14 +20,14 @@ use Rattle.apl_reduce.proofs.NearSums.{sum_is_near}
 pub near_product : (near : ℕ) (x y : ℤ) → unsigned_abs x ≤ near → unsigned_abs y ≤ near → unsigned_abs (x *ℤ y) ≤ near * near
 near_product near x y left right = rw unsigned_abs-mul (mul-le-mul left right)
 
--- a sum and one product more stay near 0
-pub next_near : (number : ℕ → ℤ) (most count : ℕ) (sum : ℤ) → IsSumNear number most count sum → unsigned_abs (number count) ≤ most → most * (count + 1) < 2 ^ 63 → unsigned_abs (sum +ℤ number count) < 2 ^ 63
-next_near number most count sum before near small =
+-- a sum and one product more stay in the range
+pub next_fits : (number : ℕ → ℤ) (most count : ℕ) (sum : ℤ) → IsSumNear number most count sum → unsigned_abs (number count) ≤ most → most * (count + 1) < 2 ^ 63 → unsigned_abs (sum +ℤ number count) < 2 ^ 63
+next_fits number most count sum before near small =
     omega (arith, sum_near sum (number count), sum_is_near number most count sum before, near, small)
 
--- two sums stay near 0
-pub both_near : (number later : ℕ → ℤ) (most m n : ℕ) (low high : ℤ) → IsSumNear number most m low → IsSumNear later most n high → most * (m + n) < 2 ^ 63 → unsigned_abs (low +ℤ high) < 2 ^ 63
-both_near number later most m n low high before after small =
+-- two sums stay in the range
+pub both_fit : (number later : ℕ → ℤ) (most m n : ℕ) (low high : ℤ) → IsSumNear number most m low → IsSumNear later most n high → most * (m + n) < 2 ^ 63 → unsigned_abs (low +ℤ high) < 2 ^ 63
+both_fit number later most m n low high before after small =
     omega (arith, sum_near low high, sum_is_near number most m low before, sum_is_near later most n high after, small)
 
 -- the sum of both halves of `n` products, or of all but the last

@@ -50,8 +50,8 @@ product_at layout left right place = product_in layout left right (place / layou
 abbrev pub column_place : Layout → ℕ → ℕ → ℕ
 column_place layout column k = column * layout.right.line + k * layout.right.item
 
--- The right argument is one by rows, of several columns, which meet a line or more. The lines or the items are several. In the order of its
--- columns it has room
+-- The right argument is one by rows, of several columns with items, and a line or more meets them. The lines or the items are several, and the
+-- order of columns has room
 abbrev pub RepaysAnOrder : Layout → Type 0
 RepaysAnOrder layout = (layout.right.line ≡ 1) × (layout.right.item ≡ layout.columns) × (0 < layout.items) × (1 < layout.columns) × (layout.columns ≤ layout.count)
     × ((SEVERAL_ITEMS ≤ layout.items) ⊎ (SEVERAL_LINES * layout.columns ≤ layout.count)) × (layout.columns * layout.items ≤ MOST_PLACES)

@@ -30,6 +30,6 @@ IsSum numbers first step count near = near.bits < 2 ^ 47 → IsSumNear (spaced_n
 abbrev pub meeting_product : (left right : List ℤ) → (first k : ℕ) → ℤ
 meeting_product left right first k = slice_index_or left (first + k) (pos 0) *ℤ slice_index_or right (first + k) (pos 0)
 
--- a sum of such products, if the bits of no number say that one is farther than `near` from 0
+-- a sum of such products, if so many of numbers at most `near` from 0 stay in the range, and no bits say that a number is farther
 abbrev pub IsProductSum : (left right : List ℤ) → (near first count : ℕ) → ProductSum → Type 0
 IsProductSum left right near first count s = near * near * count < 2 ^ 63 → s.bits < 2 * near → IsSumNear (meeting_product left right first) (near * near) count s.sum

@@ -4,7 +4,7 @@ ghost use Rattle.apl_pool.specs.declared.kernel.Stop.TheVariants.{Memory};
 ghost use Rattle.apl_pool.specs.declared.kernel.TheConstants.{MOST_PLACES};
 ghost use Rattle.apl_reduce.specs.Layouts.{RepaysAnOrder, HasColumns, IsByColumns, AreByColumns};
 
-use crate::layouts::{Layout, SEVERAL_ITEMS, SEVERAL_LINES, Strides};
+use crate::layouts::{Layout, SEVERAL_ITEMS, Strides};
 use apl_pool::{Crew, MOST_PLACES, Stop, fill};
 use apl_walk::{ByLines, Gathered, Map, Window};
 
@@ -14,10 +14,10 @@ impl Layout {
         ensures { IsTrue result ↔ RepaysAnOrder self.now }
     {
         let by_rows = self.right.line == 1 && self.right.item == self.columns;
-        let has_lines = self.columns > 1 && self.count >= self.columns;
-        let has_several = self.items >= SEVERAL_ITEMS || self.count >= SEVERAL_LINES * self.columns;
+        let has_columns = self.columns > 1 && self.count >= self.columns;
+        let has_several = self.items >= SEVERAL_ITEMS || self.is_pass_worthwhile();
         by_rows
-            && has_lines
+            && has_columns
             && has_several
             && self.items > 0
             && self.columns * self.items <= MOST_PLACES

@@ -146,8 +146,8 @@ fn chosen<T: ElementType + Sync, U: ElementType + Sync, W: Crew>(
     fill_inner(workers, layout, left, right, Chosen(f), Chosen(g))
 }
 
-/// The sums of products, each of which is tested.
-fn fill_tested_sums<W: Crew>(
+/// The sums of products where no look at all numbers has shown that each sum is in the range.
+fn fill_doubtful_sums<W: Crew>(
     workers: &W,
     layout: &Layout,
     left: &[i64],
@@ -173,11 +173,11 @@ fn fill_sums<W: Crew>(
     ensures { IsFilled (inner_number layout.now (map Int left.now) (map Int right.now) PlusNamed TimesNamed) layout.now.count result }
 {
     if !layout.is_pass_worthwhile() {
-        return fill_tested_sums(workers, layout, left, right);
+        return fill_doubtful_sums(workers, layout, left, right);
     }
     let (left_most, right_most) = (magnitude(left), magnitude(right));
     if !sums_are_small(left_most, right_most, layout.items) {
-        return fill_tested_sums(workers, layout, left, right);
+        return fill_doubtful_sums(workers, layout, left, right);
     }
     range_is_decided();
     let is_near = layout.items_are_neighbours();

@@ -18,7 +18,7 @@ use apl_pool::Fault;
 use apl_scalar::function_types::Function;
 use apl_scalar::{Spaced, with_type, write_items};
 
-/// The most items of a run. A processor fetches the lines of an argument early within such a run, and not before it.
+/// The most items of a run. A processor fetches memory ahead within a run, and not from one run to the next, which is before it.
 pub(crate) const LONGEST_RUN: usize = 1024;
 
 /// Writes what a function gives of the elements of two lists that meet at each place into the room for them. It ends at some place, or at

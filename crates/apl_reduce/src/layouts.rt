@@ -3,10 +3,10 @@ ghost use Rattle.std.specs.Prelude.{◌≡◌, ◌*◌, ◌<◌, ◌≤◌, ◌�
 ghost use Rattle.apl_pool.specs.declared.kernel.TheConstants.{MOST_PLACES};
 ghost use Rattle.apl_reduce.specs.declared.layouts.TheConstants.{SEVERAL_LINES};
 
-/// From how many lines of the left argument on a pass over the right one pays.
-pub(crate) const SEVERAL_LINES: usize = 8;
+/// From how many lines on a pass over both arguments pays, and the order of columns of few items.
+const SEVERAL_LINES: usize = 8;
 
-/// From how many items on a run of them pays.
+/// From how many items on a run of them pays, and the order of columns that one line meets.
 pub(crate) const SEVERAL_ITEMS: usize = 24;
 
 /// How far apart the lines of an argument are, and the items of a line.

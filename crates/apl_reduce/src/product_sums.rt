@@ -2,7 +2,6 @@
 ghost use Rattle.std.specs.Prelude.{◌≡◌, ℕ, ◌+◌, ◌*◌, ◌^◌, ◌<◌, ◌≤◌, List, ℤ, IfSome, Ok, length, map};
 ghost use Rattle.apl_array.specs.declared.array.Elem.TheVariants.{Int};
 ghost use Rattle.apl_array.specs.declared.function.ScalarFunction.TheVariants.{Plus as PlusNamed, Times as TimesNamed};
-ghost use Rattle.apl_pool.specs.declared.kernel.TheConstants.{MOST_PLACES};
 ghost use Rattle.apl_scalar.specs.Meeting.{meeting_number};
 ghost use Rattle.apl_reduce.specs.Filled.{IsFilled};
 ghost use Rattle.apl_reduce.specs.Items.{as_number, judged_items};
@@ -12,6 +11,7 @@ ghost use Rattle.apl_reduce.specs.Magnitudes.{IsProductSum};
 use crate::dyadic::Typed;
 use crate::items::reduced;
 use crate::layouts::Layout;
+use crate::magnitudes::sums_are_small;
 use crate::near_sums::{above_least, wrapped_sum};
 use crate::product_items::{LineItems, ProductItems};
 use crate::sharing::weight_of;
@@ -44,7 +44,7 @@ impl ProductSum {
     fn with_next(&self, left: &[i64], right: &[i64], near: u64, place: usize) -> ProductSum
         requires left { place < length left.now }
         requires right { place < length right.now }
-        requires near { near ≤ 2 ^ 24 }
+        requires near { near ≤ 2 ^ 30 }
         ensures { (first count : ℕ) → first + count ≡ place → IsProductSum left.now right.now near first count self.now → IsProductSum left.now right.now near first (count + 1) result }
     {
         let (x, y) = (left[place], right[place]);
@@ -72,7 +72,7 @@ impl ProductSum {
 #[inline(never)]
 fn product_sum(left: &[i64], right: &[i64], near: u64) -> ProductSum
     requires same { length right.now ≡ length left.now }
-    requires near { near ≤ 2 ^ 24 }
+    requires near { near ≤ 2 ^ 30 }
     ensures { IsProductSum left.now right.now near 0 (length left.now) result }
 {
     let half = left.len() / 2;
@@ -90,26 +90,23 @@ fn product_sum(left: &[i64], right: &[i64], near: u64) -> ProductSum
     }
 }
 
-/// The most items of a line whose numbers may be as far from 0 as those of a short one.
-const MANY_ITEMS: usize = 1 << 14;
-
-/// Numbers are near 0 if they are at most this far from it. No sum of so many products of them leaves the range.
-fn nearest(count: usize) -> u64
-    requires { count ≤ MOST_PLACES }
-    ensures near { result ≤ 2 ^ 24 }
+/// How far from 0 the numbers of a line of `count` items may be. Then no sum of their products leaves the range.
+fn near_bound(count: usize) -> u64
+    ensures near { result ≤ 2 ^ 30 }
     ensures small { result * result * count < 2 ^ 63 }
 {
-    if count <= MANY_ITEMS {
-        1 << 24
-    } else {
-        1 << 16
+    let mut near = 1 << 30;
+    while !sums_are_small(near, near, count) {
+        near /= 2;
     }
+    near
 }
 
-/// The sum of the products of some items that are neighbours, if all numbers are near 0.
-fn sure_sum(items: &LineItems<'_, i64, i64, Typed<Times>>) -> Option<i64>
+/// The sum of the products of some items that are neighbours, if all numbers are at most `near` from 0.
+fn sure_sum(items: &LineItems<'_, i64, i64, Typed<Times>>, near: u64) -> Option<i64>
     requires some { 0 < items.now.count }
-    requires most { items.now.count ≤ MOST_PLACES }
+    requires near { near ≤ 2 ^ 30 }
+    requires small { near * near * items.now.count < 2 ^ 63 }
     requires left { items.now.left_stride ≡ 1 }
     requires right { items.now.right_stride ≡ 1 }
     ensures { let x = items.now in
@@ -119,7 +116,6 @@ fn sure_sum(items: &LineItems<'_, i64, i64, Typed<Times>>) -> Option<i64>
     range_is_decided();
     let left = &items.left[items.left_start..items.left_start + items.count];
     let right = &items.right[items.right_start..items.right_start + items.count];
-    let near = nearest(items.count);
     let line = product_sum(left, right, near);
     if line.bits < 2 * near {
         Some(line.sum)
@@ -132,6 +128,10 @@ fn sure_sum(items: &LineItems<'_, i64, i64, Typed<Times>>) -> Option<i64>
 #[derive(Drop)]
 struct ProductSums<'a> {
     items: ProductItems<'a, i64, i64, Typed<Times>>,
+    /// How far from 0 the numbers of a line may be.
+    near: u64,
+    ghost near_most: { near ≤ 2 ^ 30 },
+    ghost small: { near * near * items.layout.now.items < 2 ^ 63 },
     ghost some: { 0 < items.layout.now.items },
     ghost left_near: { items.layout.now.left.item ≡ 1 },
     ghost right_near: { items.layout.now.right.item ≡ 1 },
@@ -159,7 +159,7 @@ impl Kernel for ProductSums<'_> {
 
     fn at(&self, place: usize) -> Result<i64, Fault> {
         let items = self.items.line(place);
-        if let Some(sum) = sure_sum(&items) {
+        if let Some(sum) = sure_sum(&items, self.near) {
             return Ok(sum);
         }
         reduced(&items, Typed::<Plus>(PhantomData))
@@ -186,5 +186,6 @@ pub(crate) fn fill_product_sums<W: Crew>(
         right,
         pairing: Typed::<Times>(PhantomData),
     };
-    fill(workers, &ProductSums { items })
+    let near = near_bound(layout.items);
+    fill(workers, &ProductSums { items, near })
 }

@@ -1,7 +1,7 @@
 use Rattle.std.proofs.Common.{◌≡◌, ℕ, pos, ◌+◌, ◌*◌, ◌+ℤ◌, ◌*ℤ◌, FitsSigned, slice_index_or, w64, ap, arith, rules}
 use Rattle.apl_reduce.specs.Magnitudes.{meeting_product}
 use Rattle.apl_reduce.proofs.NearSums.{both_low, stored, both_runs}
-use Rattle.apl_reduce.proofs.ProductSums.{both_near}
+use Rattle.apl_reduce.proofs.ProductSums.{both_fit}
 use Rattle.apl_reduce.proofs.product_sums.ProductSum.joined.Goals as goal
 
 pub returns : goal.returns
@@ -19,4 +19,4 @@ returns c = λ left right near first count more own others small low.
     let place : first + count + k ≡ first + (count + k) = omega arith in
     ap (λ n. slice_index_or left n (pos 0) *ℤ slice_index_or right n (pos 0)) place in
     both_runs number (near * near) later count more sum next _ next_to before after
-    (stored (λ y z. y +ℤ z) sum next _ fits fits_next c.wrapped_sum.ensures (both_near number later (near * near) count more sum next before after small))
+    (stored (λ y z. y +ℤ z) sum next _ fits fits_next c.wrapped_sum.ensures (both_fit number later (near * near) count more sum next before after small))

@@ -3,7 +3,7 @@ use Rattle.std.specs.Prelude.{unsigned_abs, bit_or}
 use Rattle.std.proofs.lemmas.Int.{to_z-of_z}
 use Rattle.apl_reduce.specs.Magnitudes.{meeting_product}
 use Rattle.apl_reduce.proofs.NearSums.{both_low, near_from_above, stored, one_more}
-use Rattle.apl_reduce.proofs.ProductSums.{near_product, next_near}
+use Rattle.apl_reduce.proofs.ProductSums.{near_product, next_fits}
 use Rattle.apl_reduce.proofs.product_sums.ProductSum.with_next.Goals as goal
 
 pub returns : goal.returns
@@ -37,6 +37,6 @@ returns c = λ first count there before small low.
     let fits_total : FitsSigned w64 total = search rules in
     let fits_product : FitsSigned w64 c.narrow_product.result = search rules in
     let inside : unsigned_abs (total +ℤ c.narrow_product.result) < 2 ^ 63 =
-    subst (λ z. unsigned_abs (total +ℤ z) < 2 ^ 63) (sym same) (next_near number (near * near) count total so_far number_near small) in
+    subst (λ z. unsigned_abs (total +ℤ z) < 2 ^ 63) (sym same) (next_fits number (near * near) count total so_far number_near small) in
     one_more number (near * near) count total _ so_far number_near
     (stored (λ y z. y +ℤ z) total c.narrow_product.result _ fits_total fits_product c.wrapped_sum.ensures inside ∙ ap (λ z. total +ℤ z) same)
