@@ -1,4 +1,5 @@
-⍝ Inner products of vectors by runs of 1024 items, and of some more or less, with a number at the ends of the range at several places. The answers are Python's.
+⍝ Inner products of vectors by runs of 1024 items, and of some more or less.
+⍝ A number is at an end of the range at several places. The answers are Python's.
 A←1+3|⍳1023
 B←5|⍳1023
 A+.+B
