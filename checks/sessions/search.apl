@@ -46,6 +46,23 @@ R
 R
 ⍴R←12 14 13 0∊0 14
 R
+⍝ a list of few elements may span 64 for each of them
+⍴R←0 126⍳126 125 0 127 ¯1
+R
+⍴R←126 125 0 127 ¯1∊0 126
+R
+⍴R←0 127⍳127 126 0 128 ¯1
+R
+⍴R←127 126 0 128 ¯1∊0 127
+R
+⍴R←0 128⍳128 127 0 129 ¯1
+R
+⍴R←128 127 0 129 ¯1∊0 128
+R
+⍴R←0 129⍳129 128 0 130 ¯1
+R
+⍴R←129 128 0 130 ¯1∊0 129
+R
 ⍝ equal ones, numbers between and numbers on both sides
 ⍴R←¯3 ¯1 ¯2 ¯1 0 2⍳¯4 ¯3 ¯2 ¯1 0 1 2 3
 R

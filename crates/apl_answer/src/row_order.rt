@@ -36,6 +36,10 @@ impl<T: ElementType> Kernel for RowOrder<'_, T> {
         self.count
     }
 
+    fn work(&self) -> usize {
+        self.count / T::PER_NUMBER.max(1)
+    }
+
     #[inline(always)]
     fn at(&self, place: usize) -> Result<T, Fault> {
         match self.elements.get(place) {

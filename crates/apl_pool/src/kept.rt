@@ -82,23 +82,32 @@ impl KeptLists {
 
 /// A type of values of which a pool keeps the list that was let go last.
 pub trait Reused: Copy {
+    /// How many values are moved in the time of one number.
+    const PER_NUMBER: usize;
+
     /// The cell of the list.
     fn kept_in(lists: &KeptLists) -> &Cell<Option<Vec<Self>>>;
 }
 
 impl Reused for i64 {
+    const PER_NUMBER: usize = 1;
+
     fn kept_in(lists: &KeptLists) -> &Cell<Option<Vec<i64>>> {
         &lists.numbers
     }
 }
 
 impl Reused for bool {
+    const PER_NUMBER: usize = 8;
+
     fn kept_in(lists: &KeptLists) -> &Cell<Option<Vec<bool>>> {
         &lists.truths
     }
 }
 
 impl Reused for char {
+    const PER_NUMBER: usize = 2;
+
     fn kept_in(lists: &KeptLists) -> &Cell<Option<Vec<char>>> {
         &lists.characters
     }

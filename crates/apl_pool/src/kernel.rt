@@ -68,6 +68,11 @@ pub trait Kernel {
         1
     }
 
+    /// About how much work all values are: as much as a function of two numbers at so many places. Little work is not worth a thread.
+    fn work(&self) -> usize {
+        self.count().saturating_mul(self.weight())
+    }
+
     /// Writes values into the room for the places from `from` up to before `to`. It answers the place at which it
     /// stopped: at most `to`, and `from` if it wrote none. It is for kernels that are faster over a run of places
     /// than at each of them. Values that it leaves out are asked for one by one.

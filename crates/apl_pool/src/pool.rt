@@ -25,6 +25,9 @@ use std::thread::Threads;
 /// The most workers.
 pub const MOST_WORKERS: u8 = 64;
 
+/// Starting one worker takes nearly as long as starting several. So less work than so many shares is one worker's.
+const LEAST_SHARES: usize = 4;
+
 /// Workers, a cutting and a gate, and the lists that were let go last.
 #[derive(Drop)]
 pub struct Pool<C, G> {
@@ -74,13 +77,26 @@ impl<C: Cut + Sync, G: Gate + Sync> Pool<C, G> {
         &self.kept
     }
 
-    /// Whether several workers share a pass over `count` places. With one worker or one piece none do. It takes no memory.
-    pub fn is_shared(&self, count: usize) -> bool
+    /// How many workers do so much work: one, if it is not enough for several.
+    fn crew(&self, work: usize) -> u8
+        ensures some { 1 ≤ result }
+        ensures most { result ≤ self.now.workers }
+    {
+        match work.checked_div(self.cut.least_work()) {
+            Some(shares) if shares < LEAST_SHARES => 1,
+            Some(shares) => shares.min(self.workers as usize) as u8,
+            None => self.workers,
+        }
+    }
+
+    /// Whether several workers share a pass over `count` places that is so much work, as `Kernel::work` counts it. With one worker or one
+    /// piece none do. It takes no memory.
+    pub fn is_shared(&self, count: usize, work: usize) -> bool
         requires most { count ≤ MOST_PLACES }
         ensures alone { self.now.workers ≡ 1 → result ≡ false }
         ensures few { count ≤ 1 → result ≡ false }
     {
-        self.workers > 1 && count > 0 && piece_end(&self.cut, 0, count) < count
+        self.crew(work) > 1 && count > 0 && piece_end(&self.cut, 0, count) < count
     }
 
     /// The value at each place, or the least place that has a fault, and that fault. `Memory` may
@@ -136,12 +152,13 @@ impl<C: Cut + Sync, G: Gate + Sync> Pool<C, G> {
             times: kernel.weight(),
         };
         let end = piece_end(&cut, 0, count);
-        if self.workers == 1 || end == count {
+        let crew = self.crew(kernel.work());
+        if crew == 1 || end == count {
             let last = self.workers - 1;
             return write_all(kernel, &cut, &self.gate, last, end, values, done);
         }
         let mut values = extend_to(values, count)?;
-        let shares = Shares::new(alloc, &cut, 1, count, end, self.workers)?;
+        let shares = Shares::new(alloc, &cut, 1, count, end, crew)?;
         fill_values(
             &self.pass(rt, alloc, &shares),
             kernel,

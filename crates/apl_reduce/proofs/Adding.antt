@@ -4,12 +4,14 @@ use Rattle.std.proofs.Math.IntN.{+ℤ_assoc}
 use Rattle.std.proofs.Math.ListN.{get_or-map}
 use Rattle.std.specs.Prelude.{unsigned_abs}
 use Rattle.std.proofs.lemmas.Int.{ints}
+use Rattle.apl_array.specs.declared.array.Elem.{Elem}
 use Rattle.apl_array.specs.declared.array.Elem.TheVariants.{Int}
 use Rattle.apl_array.specs.declared.function.ScalarFunction.TheVariants.{Plus, Times}
 use Rattle.apl_array.specs.Range.{IsInRange, in_range}
 use Rattle.apl_pool.specs.declared.kernel.Fault.{Fault}
 use Rattle.apl_scalar.specs.Scalar.{dyadic_of, exact}
 use Rattle.apl_reduce.specs.declared.layouts.Layout.{Layout}
+use Rattle.apl_reduce.specs.Folded.{number_step as element_step, folded}
 use Rattle.apl_reduce.specs.Items.{as_number, number_step, folded_from, judged_items, item_in}
 use Rattle.apl_reduce.specs.Layouts.{left_place, right_place, product_at, inner_item, inner_number}
 use Rattle.apl_reduce.specs.Magnitudes.{magnitude, sum_of}
@@ -59,6 +61,29 @@ module _ (number : ℕ → ℤ) where
       judged_sum zero below = refl
       judged_sum (suc more) below =
           judged_value item Plus more (Ok (sum_of number (suc more))) (ap Ok (sum_is (suc more)) ∙ sym (folded_sum 0 more (omega arith))) refl
+
+    module _ (decided : (z : ℤ) → (in_range z ≡ true) ↔ IsInRange z) (bits : (z : ℤ) → IsInRange z ↔ FitsSigned w64 z) (small : most * count < 2 ^ 63) (element : ℕ → Elem)
+        (is : (k : ℕ) → k < count → element k ≡ Int (number k)) where
+      elements_from : (k more : ℕ) → k + suc (suc more) ≤ count → folded Plus element k more ≡ Ok (sum_from k (suc (suc more)))
+      elements_from k zero below =
+          let next : suc k ≡ k + 1 = omega arith in
+          let none : number (k + 1) ≡ number (k + 1) +ℤ pos 0 = omega (arith, ints) in
+          let fits = fits_near (sum_from k 2) 2 most count (sum_from_near k 2 below) (omega arith) small in
+          ap (λ e. dyadic_of Plus e (element (suc k))) (is k (omega (arith, below)))
+          ∙ ap (dyadic_of Plus (Int (number k))) (ap element next ∙ is (k + 1) (omega (arith, below)))
+          ∙ ap (λ z. exact (number k +ℤ z)) none ∙ sym (exact_fits _ decided bits fits)
+      elements_from k (suc more) below =
+          let next : suc k ≡ k + 1 = omega arith in
+          let n = suc (suc (suc more)) in
+          let fits = fits_near (sum_from k n) n most count (sum_from_near k n below) (omega arith) small in
+          ap (λ e. element_step Plus e (folded Plus element (suc k) more)) (is k (omega (arith, below)))
+          ∙ ap (λ i. element_step Plus (Int (number k)) (folded Plus element i more)) next
+          ∙ ap (element_step Plus (Int (number k))) (elements_from (k + 1) more (omega (arith, below)))
+          ∙ sym (exact_fits _ decided bits fits)
+
+      -- of two elements and more
+      pub elements_sum : (more : ℕ) → suc (suc more) ≤ count → folded Plus element 0 more ≡ Ok (sum_of number (suc (suc more)))
+      elements_sum more below = elements_from 0 more (omega (arith, below)) ∙ ap Ok (sym (sum_is (suc (suc more))))
 
 -- ---- an inner product
 

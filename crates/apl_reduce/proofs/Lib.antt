@@ -46,3 +46,5 @@ pub mod Examples
 pub mod SignFolds
 pub mod Multiplying
 pub mod ProductSums
+pub mod ProductRows
+pub mod StretchSums

@@ -51,7 +51,7 @@ module _ (p q : ℕ → Result ℤ Fault) where
       ap (λ x. as_element x ∷ map (λ k. as_element (p k)) (range_with_len (start + 1) n)) (same start (omega arith) (omega arith))
       ∙ ap (λ xs. as_element (q start) ∷ xs) (elements_same (start + 1) n (λ k from below. same k (omega arith) (omega arith)))
 
-  judged_same : (f : ScalarFunction) (n : ℕ) → ((k : ℕ) → k < n → p k ≡ q k) → judged_items p f n ≡ judged_items q f n
+  pub judged_same : (f : ScalarFunction) (n : ℕ) → ((k : ℕ) → k < n → p k ≡ q k) → judged_items p f n ≡ judged_items q f n
   judged_same f n same = ap (λ xs. judged_reduction f (collect_outcomes xs)) (elements_same 0 n (λ k from below. same k (omega arith)))
 
 -- ---- an inner product

@@ -20,4 +20,6 @@ pub mod Carrying
 pub mod Items
 pub mod Layouts
 pub mod Magnitudes
+pub mod ProductRows
 pub mod SignFolds
+pub mod StretchSums

@@ -1,5 +1,5 @@
 -- How far numbers are from 0, and sums of them. No contract of a public function cites this file.
-use Rattle.std.specs.Prelude.{◌≡◌, ℕ, zero, suc, ℤ, pos, ◌+◌, ◌*◌, ◌^◌, ◌<◌, ◌≤◌, ◌+ℤ◌, ◌*ℤ◌, List, [], ◌∷◌, unsigned_abs, max, slice_index_or}
+use Rattle.std.specs.Prelude.{◌≡◌, ℕ, zero, suc, ℤ, pos, negsuc, ◌+◌, ◌-◌, ◌*◌, ◌^◌, ◌<◌, ◌≤◌, ◌+ℤ◌, ◌*ℤ◌, List, [], ◌∷◌, unsigned_abs, max, slice_index_or}
 use Rattle.apl_reduce.specs.declared.near_sums.NearSum.{NearSum}
 use Rattle.apl_reduce.specs.declared.product_sums.ProductSum.{ProductSum}
 
@@ -17,6 +17,15 @@ sum_of number (suc n) = sum_of number n +ℤ number n
 pub record IsSumNear (number : ℕ → ℤ) (most count : ℕ) (sum : ℤ) : Type 0 where
   pub near : (k : ℕ) → k < count → unsigned_abs (number k) ≤ most
   pub is : sum ≡ sum_of number count
+
+-- the bits that 64 bits hold of a number
+abbrev pub held_bits : ℤ → ℕ
+held_bits (pos n) = n
+held_bits (negsuc n) = 2 ^ 63 + (2 ^ 63 - suc n)
+
+-- those of a number that is counted from the least one that is at most `near` from 0
+abbrev pub above : (near : ℕ) → ℤ → ℕ
+above near z = held_bits (z +ℤ pos near)
 
 -- number k of those that are `step` apart from place `first` on
 abbrev pub spaced_number : List ℤ → (first step k : ℕ) → ℤ

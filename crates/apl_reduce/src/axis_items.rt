@@ -1,5 +1,6 @@
 //! The items along an axis, folded at each place of the result.
-ghost use Rattle.std.specs.Prelude.{◌≡◌, ℕ, ◌+◌, ◌-◌, ◌*◌, ◌/◌, ◌%◌, ◌<◌, ◌≤◌, true, length, map, remove, slice_index, slice_index_or, drop};
+ghost use Rattle.std.specs.Prelude.{◌≡◌, ℕ, ◌+◌, ◌-◌, ◌*◌, ◌/◌, ◌%◌, ◌<◌, ◌≤◌, true, IfErr, IfOk, IfSome, length, map, remove, slice_index, slice_index_or, drop};
+ghost use Rattle.apl_pool.specs.Pool.{AreValues, IsStopOf};
 ghost use Rattle.apl_pool.specs.Runs.{AreWritten};
 ghost use Rattle.apl_array.specs.declared.array.Elem.TheVariants.{Int, Chr};
 ghost use Rattle.apl_array.specs.Array.{truth_element};
@@ -15,7 +16,8 @@ use crate::item_rows::{ItemRows, PlacedItems};
 use crate::line_folds::{fold_along, fold_lines};
 use crate::near_rows::has_near_rows;
 use crate::outer_products::NARROW;
-use crate::sharing::{shares_items, weight_of};
+use crate::sharing::{shares_items, shares_sums, weight_of, work_of};
+use crate::stretch_sums::{STRETCH, Stretches, fill_sums};
 use crate::truth_folds::has_truth_runs;
 use apl_answer::ElementType;
 use apl_array::{
@@ -77,10 +79,10 @@ impl<'a, T: ElementType> AxisItems<'a, T> {
 }
 
 /// The most weight of a fold whose items are no neighbours. In shorter pieces too little of each row would be read at a time.
-const HEAVIEST_COLUMN: usize = 8;
+pub(crate) const HEAVIEST_COLUMN: usize = 8;
 
 /// The most places whose totals are kept beside one another.
-const MOST_TOTALS: usize = 4096;
+pub(crate) const MOST_TOTALS: usize = 4096;
 
 impl<T> AxisItems<'_, T> {
     /// Where the items at a place begin.
@@ -158,6 +160,10 @@ impl<T: Foldable, F: Function> Kernel for AxisFolds<'_, T, F> {
         } else {
             weight.min(HEAVIEST_COLUMN)
         }
+    }
+
+    fn work(&self) -> usize {
+        work_of(self.axis.count, self.axis.items) / T::PER_NUMBER.max(1)
     }
 
     fn at(&self, place: usize) -> Result<i64, Fault> {
@@ -282,6 +288,25 @@ fn fill_folds<F: Function + Sync, T: Foldable + Sync, W: Crew>(
     fill(workers, &kernel)
 }
 
+/// The sums of the items at each place, if the workers share the numbers, all items of a place are neighbours, and no number is far from 0.
+fn fill_near_sums<W: Crew>(
+    workers: &W,
+    f: ScalarFunction,
+    axis: &AxisItems<i64>,
+) -> Result<Option<Vec<i64>>, Stop>
+    ensures values { let a = axis.now in IfOk result (λ sums. IfSome sums (λ v. AreValues (fold_at f (map Int a.elements.now) a.items a.block a.inner) a.count v.items)) }
+    ensures stop { let a = axis.now in IfErr result (IsStopOf (fold_at f (map Int a.elements.now) a.items a.block a.inner) a.count) }
+{
+    let has_stretches = axis.inner.number() == 1 && axis.items > STRETCH;
+    if !has_stretches || !shares_sums(workers, f, axis.count, axis.items) {
+        return Ok(None);
+    }
+    fill_sums(
+        workers,
+        &Stretches::new(axis.elements, axis.count, axis.items, axis.block),
+    )
+}
+
 /// The folds of numbers at each place. The workers share the items of each place, or the places.
 pub(crate) fn fill_number_folds<W: Crew>(
     workers: &W,
@@ -290,6 +315,9 @@ pub(crate) fn fill_number_folds<W: Crew>(
 ) -> Result<Vec<i64>, Stop>
     ensures { IsFilled (fold_at f (map Int axis.now.elements.now) axis.now.items axis.now.block axis.now.inner) axis.now.count result }
 {
+    if let Some(sums) = fill_near_sums(workers, f, axis)? {
+        return Ok(sums);
+    }
     if shares_items(workers, f, axis.count, axis.items) {
         return apl_summary::fold_rows(workers, f, &ItemRows { items: axis });
     }

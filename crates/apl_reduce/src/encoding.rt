@@ -58,6 +58,9 @@ fn write_digits(radix: i64, product: i64, numbers: &[i64], room: &mut [i64]) -> 
     numbers.len()
 }
 
+/// How many times as long as a sum of two numbers a digit takes.
+const DIVIDING: usize = 4;
+
 /// The digit at each radix of each number, the numbers varying fastest.
 #[derive(Drop)]
 struct Encoding<'a> {
@@ -97,6 +100,10 @@ impl Kernel for Encoding<'_> {
 
     fn count(&self) -> usize {
         self.count
+    }
+
+    fn work(&self) -> usize {
+        self.count.saturating_mul(DIVIDING)
     }
 
     #[inline(always)]

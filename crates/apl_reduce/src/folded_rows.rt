@@ -20,7 +20,7 @@ use apl_scalar::function_types::Function;
 
 /// Puts a value into the room for it.
 #[inline(always)]
-fn put<X: Copy>(room: &mut [X], place: usize, value: X)
+pub(crate) fn put<X: Copy>(room: &mut [X], place: usize, value: X)
     requires { place < length room.old }
     ensures { room.new ≡ slice_set room.old place value }
 {

@@ -19,9 +19,10 @@ use crate::items::reduced;
 use crate::layouts::{Layout, SEVERAL_ITEMS};
 use crate::magnitudes::{is_narrow, magnitude, sums_are_small};
 use crate::product_items::ProductItems;
+use crate::product_rows::fill_product_rows;
 use crate::product_sums::fill_product_sums;
 use crate::shapes::{characters_of, joined_shape};
-use crate::sharing::{shares_items, weight_of};
+use crate::sharing::{shares_items, weight_of, work_of};
 use crate::sums::Sums;
 use apl_answer::{ElementType, OpFault, array_from_fill, numbers_of};
 use apl_array::{Array, ScalarFunction, range_is_decided};
@@ -60,6 +61,10 @@ impl<T: ElementType, U: ElementType, F: Dyadic, P: Dyadic> Kernel for Reductions
 
     fn weight(&self) -> usize {
         weight_of(self.items.layout.items)
+    }
+
+    fn work(&self) -> usize {
+        work_of(self.items.layout.count, self.items.layout.items)
     }
 
     #[inline(always)]
@@ -244,6 +249,26 @@ fn fill_inner_ordered<W: Crew>(
     fill_inner_numbers(workers, f, g, &ordered, left, columns.as_slice())
 }
 
+/// An inner product of numbers. Sums of products of few lines go row by row.
+fn fill_inner_rows<W: Crew>(
+    workers: &W,
+    f: ScalarFunction,
+    g: ScalarFunction,
+    layout: &Layout,
+    left: &[i64],
+    right: &[i64],
+) -> Result<Vec<i64>, Stop>
+    requires { IsWithin layout.now (length left.now) (length right.now) }
+    ensures { IsFilled (inner_number layout.now (map Int left.now) (map Int right.now) f g) layout.now.count result }
+{
+    match (f, g) {
+        (Prim::Plus, Prim::Times) if layout.goes_by_rows() => {
+            fill_product_rows(workers, layout, left, right)
+        }
+        _ => fill_inner_ordered(workers, f, g, layout, left, right),
+    }
+}
+
 /// An inner product of characters, which only `=` and `≠` give items of.
 fn fill_inner_characters<W: Crew>(
     workers: &W,
@@ -378,14 +403,9 @@ fn fill_inner_elements<W: Crew>(
         return share_inner(workers, f, g, layout, a, b);
     }
     match (numbers_of(workers, a)?, numbers_of(workers, b)?) {
-        (Some(left), Some(right)) => fill_inner_ordered(
-            workers,
-            f,
-            g,
-            layout,
-            left.as_slice(),
-            right.as_slice(),
-        ),
+        (Some(left), Some(right)) => {
+            fill_inner_rows(workers, f, g, layout, left.as_slice(), right.as_slice())
+        }
         (Some(left), None) => { chosen(workers, f, g, layout, left.as_slice(), characters_of(b)) }
         (None, Some(right)) => { chosen(workers, f, g, layout, characters_of(a), right.as_slice()) }
         (None, None) => {

@@ -9,7 +9,7 @@ use crate::item_runs::LONGEST_RUN;
 use crate::items::reduced;
 use crate::layouts::Layout;
 use crate::product_items::ProductItems;
-use crate::sharing::weight_of;
+use crate::sharing::{weight_of, work_of};
 use apl_answer::ElementType;
 use apl_array::ScalarFunction;
 use apl_divisor::Divisor;
@@ -52,6 +52,10 @@ impl<T: ElementType, U: ElementType> Kernel for RunReductions<'_, T, U> {
 
     fn weight(&self) -> usize {
         weight_of(self.items.layout.items)
+    }
+
+    fn work(&self) -> usize {
+        work_of(self.items.layout.count, self.items.layout.items)
     }
 
     fn at(&self, place: usize) -> Result<i64, Fault> {

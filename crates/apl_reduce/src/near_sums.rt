@@ -3,7 +3,7 @@ ghost use Rattle.std.specs.Prelude.{◌≡◌, ℕ, pos, ◌+◌, ◌*◌, ◌^�
 ghost use Rattle.apl_array.specs.declared.function.ScalarFunction.TheVariants.{Plus, Minus};
 ghost use Rattle.apl_reduce.specs.declared.near_sums.TheConstants.{MOST_NUMBERS, MOST_PAIRS, MOST_QUARTER};
 ghost use Rattle.apl_reduce.specs.FourFolds.{AreRuns, IsChange, AreChanges, ArePairSums};
-ghost use Rattle.apl_reduce.specs.Magnitudes.{IsSum};
+ghost use Rattle.apl_reduce.specs.Magnitudes.{IsSum, above};
 
 use crate::four::{Four, quarters};
 use apl_array::range_is_decided;
@@ -42,7 +42,8 @@ pub(crate) fn wrapped_difference(x: i64, y: i64) -> i64
 #[inline(always)]
 pub(crate) fn above_least(number: i64, near: u64) -> u64
     requires { near ≤ 2 ^ 46 }
-    ensures { result < 2 * near → pos result ≡ number +ℤ pos near }
+    ensures near { result < 2 * near → pos result ≡ number +ℤ pos near }
+    ensures exact { result ≡ above near number }
 {
     number.cast_unsigned().wrapping_add(near)
 }

@@ -18,7 +18,8 @@ use apl_array::{Array, ScalarFunction, Shape, joined_index_has_place, places_mat
 use apl_divisor::Divisor;
 use apl_pool::{Crew, Cut, Fault, Gate, Kernel, Pool, Workers};
 use apl_scalar::{
-    HeldRuns, as_held, is_truth_valued, truth_values_are_results, with_type, write_pairs,
+    HeldRuns, as_held, is_truth_valued, truth_values_are_results, with_type, work_of_pairs,
+    write_pairs,
 };
 use std::alloc::Global;
 use std::marker::PhantomData;
@@ -105,6 +106,10 @@ impl<T: ElementType, U: ElementType, H: HeldRuns> Kernel for HeldPairs<'_, T, U,
 
     fn count(&self) -> usize {
         self.pairs.count
+    }
+
+    fn work(&self) -> usize {
+        work_of_pairs::<H>(self.pairs.f, self.pairs.count)
     }
 
     #[inline(always)]

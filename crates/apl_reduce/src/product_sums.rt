@@ -14,7 +14,7 @@ use crate::layouts::Layout;
 use crate::magnitudes::sums_are_small;
 use crate::near_sums::{above_least, wrapped_sum};
 use crate::product_items::{LineItems, ProductItems};
-use crate::sharing::weight_of;
+use crate::sharing::{weight_of, work_of};
 use crate::sums::narrow_product;
 use apl_array::range_is_decided;
 use apl_divisor::Divisor;
@@ -91,7 +91,7 @@ fn product_sum(left: &[i64], right: &[i64], near: u64) -> ProductSum
 }
 
 /// How far from 0 the numbers of a line of `count` items may be. Then no sum of their products leaves the range.
-fn near_bound(count: usize) -> u64
+pub(crate) fn near_bound(count: usize) -> u64
     ensures near { result ≤ 2 ^ 30 }
     ensures small { result * result * count < 2 ^ 63 }
 {
@@ -155,6 +155,10 @@ impl Kernel for ProductSums<'_> {
 
     fn weight(&self) -> usize {
         weight_of(self.items.layout.items)
+    }
+
+    fn work(&self) -> usize {
+        work_of(self.items.layout.count, self.items.layout.items)
     }
 
     fn at(&self, place: usize) -> Result<i64, Fault> {

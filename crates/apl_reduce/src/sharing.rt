@@ -1,5 +1,6 @@
 //! How workers share folds, and whether they share the items of one.
-ghost use Rattle.std.specs.Prelude.{◌≡◌, ◌*◌, ◌≤◌, true};
+ghost use Rattle.std.specs.Prelude.{◌≡◌, ◌*◌, ◌<◌, ◌≤◌, true};
+ghost use Rattle.apl_array.specs.declared.function.ScalarFunction.TheVariants.{Plus};
 ghost use Rattle.apl_pool.specs.declared.kernel.TheConstants.{MOST_PLACES};
 ghost use Rattle.apl_summary.specs.Functions.{has_summary};
 
@@ -21,8 +22,35 @@ pub(crate) fn weight_of(items: usize) -> usize {
     (items / LIGHT).max(1).min(HEAVIEST)
 }
 
-/// Whether workers share the items of folds at some places. They do if there are few places, the function has summaries, and all items but
-/// the last are more than one worker's.
+/// About how much work the folds of so many items at each of some places are, as `Kernel::work` has it: two items are folded in the time
+/// of a function of two numbers.
+pub(crate) fn work_of(places: usize, items: usize) -> usize {
+    places.saturating_mul(items) / 2
+}
+
+/// How many times as much work is asked for where items are summarized, since a summary takes several times as long as a fold.
+fn summary_factor(f: ScalarFunction) -> usize
+    ensures { 0 < result }
+{
+    match f {
+        ScalarFunction::Floor | ScalarFunction::Ceiling => 2,
+        ScalarFunction::Times => 8,
+        _ => 4,
+    }
+}
+
+/// Whether workers share the items at some places, if all that is so much work. They do if there are few places, and all items but the last
+/// are more than one worker's.
+fn shares_work<W: Crew>(workers: &W, places: usize, items: usize, work: usize) -> bool
+    requires most { items ≤ MOST_PLACES }
+    ensures two { result ≡ true → 2 ≤ items }
+    ensures all { result ≡ true → places * items ≤ MOST_PLACES }
+{
+    let few = places <= FEW_PLACES && places * items <= MOST_PLACES;
+    few && items > 1 && workers.pool().is_shared(items - 1, work)
+}
+
+/// Whether workers share the items of folds at some places, by summaries of them.
 pub(crate) fn shares_items<W: Crew>(
     workers: &W,
     f: ScalarFunction,
@@ -34,6 +62,20 @@ pub(crate) fn shares_items<W: Crew>(
     ensures two { result ≡ true → 2 ≤ items }
     ensures all { result ≡ true → places * items ≤ MOST_PLACES }
 {
-    let few = places <= FEW_PLACES && places * items <= MOST_PLACES;
-    few && items > 1 && has_summary(f) && workers.pool().is_shared(items - 1)
+    let work = work_of(places, items) / summary_factor(f);
+    has_summary(f) && shares_work(workers, places, items, work)
+}
+
+/// Whether workers share the items of folds at some places, by sums of them. These take no longer than the folds.
+pub(crate) fn shares_sums<W: Crew>(
+    workers: &W,
+    f: ScalarFunction,
+    places: usize,
+    items: usize,
+) -> bool
+    requires most { items ≤ MOST_PLACES }
+    ensures plus { result ≡ true → f ≡ Plus }
+    ensures all { result ≡ true → places * items ≤ MOST_PLACES }
+{
+    matches!(f, ScalarFunction::Plus) && shares_work(workers, places, items, work_of(places, items))
 }

@@ -8,7 +8,7 @@ ghost use Rattle.apl_reduce.specs.Magnitudes.{magnitude};
 use crate::four::{Four, put_four};
 use crate::layouts::Layout;
 use crate::near_sums::wrapped_sum;
-use crate::sharing::weight_of;
+use crate::sharing::{weight_of, work_of};
 use apl_pool::write_each;
 use apl_walk::Lined;
 
@@ -173,6 +173,10 @@ impl Lined for Sums<'_> {
         } else {
             1
         }
+    }
+
+    fn work(&self) -> usize {
+        work_of(self.layout.count, self.layout.items)
     }
 
     /// The right items of four columns stay in the first caches while all lines of a run meet them.

@@ -83,6 +83,11 @@ pub(crate) fn has_dyadic_runs(f: ScalarFunction) -> bool {
     )
 }
 
+/// The functions of two arguments that take about as long as a sum.
+pub(crate) fn is_quick_of_two(f: ScalarFunction) -> bool {
+    has_dyadic_runs(f) && f != ScalarFunction::Star
+}
+
 /// Whether all results of the function are 0 or 1, or faults.
 #[inline(always)]
 pub fn is_truth_valued(f: ScalarFunction) -> bool

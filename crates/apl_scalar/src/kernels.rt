@@ -259,6 +259,7 @@ impl<L: Operand, R: Operand> Chosen for OfPairs<L, R> {
 pub(crate) struct ResultKernel<C: Chosen, H> {
     pub results: C,
     pub count: usize,
+    pub work: usize,
     pub held: PhantomData<H>,
     ghost most: { count ≤ MOST_PLACES },
     ghost served: { count ≤ C.served results },
@@ -273,6 +274,10 @@ impl<C: Chosen, H: HeldRuns> Kernel for ResultKernel<C, H> {
 
     fn count(&self) -> usize {
         self.count
+    }
+
+    fn work(&self) -> usize {
+        self.work
     }
 
     fn at(&self, place: usize) -> Result<H, Fault> {

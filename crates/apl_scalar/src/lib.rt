@@ -29,5 +29,6 @@ pub use function_types::is_truth_valued;
 pub use held::{Held, as_held};
 pub use laws::{answers_are_in_range, answers_are_within_limits, truth_values_are_results};
 pub use operands::Spaced;
+pub use passes::work_of_pairs;
 pub use rows::{write_items, write_pairs};
 pub use runs::HeldRuns;

@@ -9,7 +9,7 @@ ghost use Rattle.apl_answer.specs.Pointwise.{IsAnswerAt};
 ghost use Rattle.apl_scalar.specs.Scalar.{as_element, dyadic_of, is_truth_valued, monadic_of, truth_outcome};
 ghost use Rattle.apl_scalar.specs.Pairs.{pair_in};
 
-use crate::function_types::is_truth_valued;
+use crate::function_types::{has_monadic_runs, is_quick_of_two, is_truth_valued};
 use crate::kernels::{Chosen, OfElements, OfPairs, ResultKernel};
 use crate::laws::truth_values_are_results;
 use crate::operands::{Operand, Pairs, Value, Whole};
@@ -18,12 +18,31 @@ use apl_array::{Array, ScalarFunction, Shape};
 use apl_pool::Crew;
 use std::marker::PhantomData;
 
+/// How many times as long as a sum a result takes that is no quick one.
+const SLOW: usize = 4;
+
+/// About how much work a function of `count` elements is, as `Kernel::work` has it.
+fn work_of<T: ElementType>(count: usize, is_quick: bool) -> usize {
+    let numbers = count / T::PER_NUMBER.max(1);
+    if is_quick {
+        numbers
+    } else {
+        numbers.saturating_mul(SLOW)
+    }
+}
+
+/// About how much work a function of so many pairs of elements is, as `Kernel::work` has it.
+pub fn work_of_pairs<T: ElementType>(f: ScalarFunction, pairs: usize) -> usize {
+    work_of::<T>(pairs, is_quick_of_two(f))
+}
+
 /// The array of results at all places of a shape. Those of a truth-valued function are held as truth values.
 fn fill_results<C: Chosen + Sync, W: Crew>(
     workers: &W,
     f: ScalarFunction,
     shape: Shape,
     results: C,
+    work: usize,
 ) -> Result<Array, OpFault>
     requires places { count_of shape ≤ C.served results }
     requires truths { IsTrue (is_truth_valued f) → (place : ℕ) → place < count_of shape
@@ -38,6 +57,7 @@ fn fill_results<C: Chosen + Sync, W: Crew>(
             &ResultKernel::<C, bool> {
                 results,
                 count,
+                work,
                 held: PhantomData,
             },
         )
@@ -48,6 +68,7 @@ fn fill_results<C: Chosen + Sync, W: Crew>(
             &ResultKernel::<C, i64> {
                 results,
                 count,
+                work,
                 held: PhantomData,
             },
         )
@@ -66,7 +87,8 @@ pub(crate) fn fill_elements<T: ElementType + Sync, W: Crew>(
 {
     truth_values_are_results();
     let argument = Whole(elements);
-    fill_results(workers, f, shape, OfElements { f, argument })
+    let work = work_of::<T>(elements.len(), has_monadic_runs(f));
+    fill_results(workers, f, shape, OfElements { f, argument }, work)
 }
 
 fn fill_operands<A: Operand + Sync, B: Operand + Sync, W: Crew>(
@@ -75,13 +97,14 @@ fn fill_operands<A: Operand + Sync, B: Operand + Sync, W: Crew>(
     shape: Shape,
     left: A,
     right: B,
+    work: usize,
 ) -> Result<Array, OpFault>
     requires left { count_of shape ≤ A.served left }
     requires right { count_of shape ≤ B.served right }
     ensures { IsAnswerAt shape Number (λ place. as_element (dyadic_of f (A.element left place) (B.element right place))) result }
 {
     truth_values_are_results();
-    fill_results(workers, f, shape, OfPairs { f, left, right })
+    fill_results(workers, f, shape, OfPairs { f, left, right }, work)
 }
 
 /// A dyadic function of each pair of elements of one type. A pass is compiled for each way in which the arguments may be extended.
@@ -95,11 +118,12 @@ pub(crate) fn fill_pairs<T: ElementType + Sync, W: Crew>(
     ensures { IsAnswerAt shape Number (λ place. as_element (pair_in f T.elem_of pairs.now place)) result }
 {
     let (left, right) = (Whole(pairs.left), Whole(pairs.right));
+    let work = work_of_pairs::<T>(f, pairs.count);
     if pairs.left_is_whole && pairs.right_is_whole {
-        fill_operands(workers, f, shape, left, right)
+        fill_operands(workers, f, shape, left, right, work)
     } else if pairs.left_is_whole {
-        fill_operands(workers, f, shape, left, Value(pairs.right[0]))
+        fill_operands(workers, f, shape, left, Value(pairs.right[0]), work)
     } else {
-        fill_operands(workers, f, shape, Value(pairs.left[0]), right)
+        fill_operands(workers, f, shape, Value(pairs.left[0]), right, work)
     }
 }

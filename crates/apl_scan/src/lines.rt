@@ -110,6 +110,11 @@ impl<F: Function> Kernel for PrefixFolds<'_, F> {
         self.lines.numbers.len()
     }
 
+    /// Each place folds half of a line's items.
+    fn work(&self) -> usize {
+        self.count().saturating_mul(self.lines.items.number())
+    }
+
     fn at(&self, place: usize) -> Result<i64, Fault> {
         fold_at::<F>(self.lines, place)
     }

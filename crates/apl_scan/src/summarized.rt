@@ -223,6 +223,9 @@ fn put_lines<S: Running, W: Crew>(
     Ok(Some(values))
 }
 
+/// How many times as much work is asked for, since a scan that is shared goes over the numbers twice.
+const SUMMARIES: usize = 2;
+
 /// The folds of numbers up to each place of lines of neighbours, by one type of summaries.
 fn fill_summarized<S: Running + Copy + Drop + Send + Sync, W: Crew>(
     workers: &W,
@@ -235,7 +238,8 @@ fn fill_summarized<S: Running + Copy + Drop + Send + Sync, W: Crew>(
     ensures values { IfOk result (λ v. AreValues (scan_at S.step numbers.now items 1) (length numbers.now) v.items) }
     ensures stop { IfErr result (IsStopOf (scan_at S.step numbers.now items 1) (length numbers.now)) }
 {
-    if !workers.pool().is_shared(numbers.len()) {
+    let work = numbers.len() / SUMMARIES;
+    if !workers.pool().is_shared(numbers.len(), work) {
         if let Some(values) = put_lines::<S, W>(workers, numbers, items)? {
             return Ok(values);
         }

@@ -82,6 +82,12 @@ impl Places {
     }
 }
 
+/// The most places of a table that is small, which is made sooner than its list is sorted.
+const SMALL_TABLE: u64 = 1 << 22;
+
+/// How many times as long as a look into a table halving takes, since each step of it reads another place of memory.
+const HALVING: usize = 16;
+
 /// A list whose elements are found by their numbers.
 #[derive(Drop)]
 pub(crate) struct Finder<'a, T: Searchable> {
@@ -93,7 +99,7 @@ pub(crate) struct Finder<'a, T: Searchable> {
 
 impl<'a, T: Searchable> Finder<'a, T> {
     /// The list, in which so many elements are looked for. It gets a table if its numbers span less than four for each of its elements and
-    /// one for each of those.
+    /// one for each of those. For a small table they may span 64 for each of its elements.
     pub(crate) fn new<W: Crew>(
         workers: &W,
         elements: &'a [T],
@@ -103,7 +109,8 @@ impl<'a, T: Searchable> Finder<'a, T> {
         requires searched { searched ≤ MOST_PLACES }
         ensures { IfOk result (λ s. s.elements.now ≡ elements.now) }
     {
-        let most = 4 * elements.len() as u64 + searched as u64;
+        let count = elements.len() as u64;
+        let most = (4 * count + searched as u64).max((64 * count).min(SMALL_TABLE));
         let places = Places::new(workers, elements, most)?;
         Ok(Finder { elements, places })
     }
@@ -124,6 +131,14 @@ impl<'a, T: Searchable> Finder<'a, T> {
     {
         T::key_decides();
         self.places.first(element.key())
+    }
+
+    /// About how much work so many searches are, as `Kernel::work` has it.
+    pub(crate) fn work(&self, searches: usize) -> usize {
+        match self.places {
+            Places::InTable(_) => searches,
+            Places::InOrder(_) => searches.saturating_mul(HALVING),
+        }
     }
 
     /// Writes what is answered of elements into the room for it. It answers of how many: of all if the places are in a table, else of none.

@@ -77,6 +77,10 @@ impl<T: Searchable, R: Reply> Kernel for Searched<'_, T, R> {
         self.elements.len()
     }
 
+    fn work(&self) -> usize {
+        self.list.work(self.elements.len())
+    }
+
     #[inline(always)]
     fn at(&self, place: usize) -> Result<R::Value, Fault> {
         let found = self.list.place(self.elements[place]);

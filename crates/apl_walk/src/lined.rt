@@ -5,7 +5,7 @@ ghost use Rattle.apl_walk.specs.Steps.{BeginsWith};
 ghost use Rattle.apl_walk.specs.Columns.{HasColumns};
 
 use apl_divisor::Divisor;
-use apl_pool::{Fault, Kernel};
+use apl_pool::{Fault, Kernel, Reused};
 
 /// What there is at each index of lines that are equally long.
 pub trait Lined {
@@ -39,6 +39,11 @@ pub trait Lined {
     /// About how many times as long a value takes as one of a function of two numbers.
     fn weight(&self) -> usize {
         1
+    }
+
+    /// About how much work all values are, if they are numbers.
+    fn work(&self) -> usize {
+        self.count()
     }
 
     /// How many indexes of a line are written before those of the next one.
@@ -162,7 +167,10 @@ impl<L: Lined> ByLines<L> {
     }
 }
 
-impl<L: Lined> Kernel for ByLines<L> {
+impl<L: Lined> Kernel for ByLines<L>
+where
+    L::Out: Reused,
+{
     type Out = L::Out;
 
     ghost place_count = { λ k. L.place_count k.lines };
@@ -175,6 +183,10 @@ impl<L: Lined> Kernel for ByLines<L> {
 
     fn weight(&self) -> usize {
         self.lines.weight()
+    }
+
+    fn work(&self) -> usize {
+        self.lines.work() / L::Out::PER_NUMBER.max(1)
     }
 
     fn at(&self, place: usize) -> Result<L::Out, Fault> {

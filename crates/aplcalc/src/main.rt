@@ -6,7 +6,7 @@
 #![tactic(auto)]
 
 use apl_options::{Settings, refusal, settings};
-use apl_pool::{Every, Open, Pool};
+use apl_pool::{Open, Pool, Thrifty};
 use apl_print::Out;
 use apl_session::{In, RunFault, ending, run};
 use clap::error::ErrorKind;
@@ -19,7 +19,7 @@ use std::{env, io};
 fn main(rt: HostRuntime) -> ExitCode {
     let status = match given_settings(&rt) {
         Ok(settings) => {
-            let cut = Every(settings.piece as usize);
+            let cut = Thrifty(settings.piece as usize);
             let pool = Pool::with(settings.workers, settings.schedule, cut, Open);
             let mut source = In::new(rt.stdin());
             let mut sink = Out::new(rt.stdout());

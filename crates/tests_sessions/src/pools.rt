@@ -3,7 +3,8 @@ ghost use Rattle.std.specs.Prelude.{◌≤◌};
 ghost use Rattle.apl_pool.specs.declared.kernel.TheConstants.{MOST_PLACES};
 
 use apl_pool::{
-    Cut, Every, Fault, Gate, Kernel, MOST_PLACES, Open, Pool, Schedule, Stop, Workers, fill,
+    Cut, Every, Fault, Gate, Kernel, MOST_PLACES, Open, Pool, Schedule, Stop, Thrifty, Workers,
+    fill,
 };
 use std::sync::atomic::{AtomicU64, Ordering};
 use std::test::Fail;
@@ -157,7 +158,18 @@ fn several_workers_share_several_pieces(rt: HostRuntime) {
         (4, 4096, 1 << 30, true),
     ] {
         let pool = Pool::new(workers, Every(piece), Open);
-        assert!(rt; pool.workers() == workers && pool.is_shared(count) == wanted);
+        assert!(rt; pool.workers() == workers && pool.is_shared(count, count) == wanted);
+    }
+    for (workers, piece, work, wanted) in [
+        (4u8, 4096, 0, false),
+        (4, 4096, 393_215, false),
+        (4, 4096, 393_216, true),
+        (2, 4096, 393_216, true),
+        (1, 4096, 393_216, false),
+        (4, 4095, 2, true),
+    ] {
+        let pool = Pool::new(workers, Thrifty(piece), Open);
+        assert!(rt; pool.is_shared(5000, work) == wanted);
     }
 }
 

@@ -18,7 +18,7 @@ returns c = λ few sum low.
     let before = sum both.0 in
     let fits_total : FitsSigned w64 total = search rules in
     let fits : FitsSigned w64 x = search rules in
-    let near = near_from_above (2 ^ 46) above x (λ own. subst (λ z. pos above ≡ z +ℤ pos (2 ^ 46)) (to_z-of_z w64 x fits) (c.above_least.ensures own)) both.1 in
+    let near = near_from_above (2 ^ 46) above x (λ own. subst (λ z. pos above ≡ z +ℤ pos (2 ^ 46)) (to_z-of_z w64 x fits) (c.above_least.ensures.near own)) both.1 in
     let size = sum_is_near number (2 ^ 46) count total before in
     one_more number (2 ^ 46) count total _ before near
     (stored (λ y z. y +ℤ z) total x _ fits_total fits c.wrapped_sum.ensures (omega (arith, at_most, size, near, sum_near total x)))

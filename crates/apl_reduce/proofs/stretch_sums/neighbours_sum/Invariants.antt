@@ -1,0 +1,5 @@
+use Rattle.apl_reduce.specs.StretchSums.{IsStretchSum}
+use Rattle.apl_reduce.proofs.stretch_sums.neighbours_sum.Given as goal
+
+abbrev pub invariant-loop-k : goal.invariant-loop-k
+invariant-loop-k l = IsStretchSum l.numbers l.near l.first l.k l.sum
