@@ -27,8 +27,8 @@ impl Cut for Every {
 #[derive(Clone, Copy, Debug, PartialEq, Eq)]
 pub struct Thrifty(pub usize);
 
-/// The length of a piece from which on a thread has to be repaid.
-const USUAL_PIECE: usize = 4096;
+/// The usual length of a piece. From it on a thread has to be repaid.
+pub const USUAL_PIECE: usize = 4096;
 
 /// One worker takes about as long for this work as the start of the others takes.
 const LEAST_WORK: usize = 3 << 15;
@@ -43,15 +43,15 @@ impl Cut for Thrifty {
     }
 }
 
-/// A cutting whose pieces have a number of times fewer places, and one at least.
+/// A cutting whose pieces are longer or shorter in proportion: one of the usual length has `piece` places.
 #[derive(Drop)]
-pub(crate) struct Finer<'a, C> {
+pub(crate) struct Scaled<'a, C> {
     pub cut: &'a C,
-    pub times: usize,
+    pub piece: usize,
 }
 
-impl<C: Cut> Cut for Finer<'_, C> {
+impl<C: Cut> Cut for Scaled<'_, C> {
     fn first(&self, start: usize, rest: usize) -> usize {
-        self.cut.first(start, rest) / self.times.max(1)
+        self.cut.first(start, rest).saturating_mul(self.piece) / USUAL_PIECE
     }
 }

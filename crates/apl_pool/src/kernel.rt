@@ -1,6 +1,7 @@
 //! What is computed at each place, and why a pass may stop.
 ghost use Rattle.std.specs.Prelude.{◌≡◌, ℕ, ◌<◌, ◌≤◌, ◌^◌, Result};
 
+use crate::cut::USUAL_PIECE;
 use std::alloc::AllocError;
 
 /// Why an element has no value.
@@ -62,15 +63,15 @@ pub trait Kernel {
         requires { place < place_count self.now }
         ensures { result ≡ outcome self.now place };
 
-    /// About how many times as long a value takes as one of a function of two numbers. Pieces have so many times fewer places, and the
-    /// values are the same.
-    fn weight(&self) -> usize {
-        1
+    /// How many places are to be a piece where a cutting has the usual length. By other cuttings pieces are longer or shorter in proportion.
+    /// The values are the same.
+    fn piece(&self) -> usize {
+        USUAL_PIECE
     }
 
     /// About how much work all values are: as much as a function of two numbers at so many places. Little work is not worth a thread.
     fn work(&self) -> usize {
-        self.count().saturating_mul(self.weight())
+        self.count()
     }
 
     /// Writes values into the room for the places from `from` up to before `to`. It answers the place at which it

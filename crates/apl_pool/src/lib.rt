@@ -28,7 +28,7 @@ mod turns;
 mod work;
 mod workers;
 
-pub use cut::{Cut, Every, Thrifty};
+pub use cut::{Cut, Every, Thrifty, USUAL_PIECE};
 pub use gate::{Gate, Open};
 pub use kept::{KeptLists, Reused};
 pub use kernel::{Fault, Kernel, MOST_PLACES, Stop};

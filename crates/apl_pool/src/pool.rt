@@ -7,7 +7,7 @@ ghost use Rattle.apl_pool.specs.Parts.{AreValuesAt};
 ghost use Rattle.apl_pool.specs.Summaries.{IsSummaryOf, AreFolds};
 
 use crate::complete::fill_values;
-use crate::cut::{Cut, Finer};
+use crate::cut::{Cut, Scaled};
 use crate::folds::{fold_rows_alone, fold_rows_together};
 use crate::gate::Gate;
 use crate::kept::KeptLists;
@@ -147,9 +147,9 @@ impl<C: Cut + Sync, G: Gate + Sync> Pool<C, G> {
         ensures stop { IfErr result (IsStopOf (K.outcome kernel.now) (K.place_count kernel.now)) }
     {
         let count = kernel.count();
-        let cut = Finer {
+        let cut = Scaled {
             cut: &self.cut,
-            times: kernel.weight(),
+            piece: kernel.piece(),
         };
         let end = piece_end(&cut, 0, count);
         let crew = self.crew(kernel.work());

@@ -16,7 +16,7 @@ use crate::item_rows::{ItemRows, PlacedItems};
 use crate::line_folds::{fold_along, fold_lines};
 use crate::near_rows::has_near_rows;
 use crate::outer_products::NARROW;
-use crate::sharing::{shares_items, shares_sums, weight_of, work_of};
+use crate::sharing::{FEWEST_COLUMNS, piece_of, shares_items, shares_sums, work_of};
 use crate::stretch_sums::{STRETCH, Stretches, fill_sums};
 use crate::truth_folds::has_truth_runs;
 use apl_answer::ElementType;
@@ -77,9 +77,6 @@ impl<'a, T: ElementType> AxisItems<'a, T> {
         }
     }
 }
-
-/// The most weight of a fold whose items are no neighbours. In shorter pieces too little of each row would be read at a time.
-pub(crate) const HEAVIEST_COLUMN: usize = 8;
 
 /// The most places whose totals are kept beside one another.
 pub(crate) const MOST_TOTALS: usize = 4096;
@@ -153,12 +150,12 @@ impl<T: Foldable, F: Function> Kernel for AxisFolds<'_, T, F> {
         self.axis.count
     }
 
-    fn weight(&self) -> usize {
-        let weight = weight_of(self.axis.items);
+    fn piece(&self) -> usize {
+        let piece = piece_of(self.axis.items);
         if self.axis.inner.number() == 1 {
-            weight
+            piece
         } else {
-            weight.min(HEAVIEST_COLUMN)
+            piece.max(FEWEST_COLUMNS)
         }
     }
 

@@ -22,7 +22,7 @@ use crate::product_items::ProductItems;
 use crate::product_rows::fill_product_rows;
 use crate::product_sums::fill_product_sums;
 use crate::shapes::{characters_of, joined_shape};
-use crate::sharing::{shares_items, weight_of, work_of};
+use crate::sharing::{piece_of, shares_items, work_of};
 use crate::sums::Sums;
 use apl_answer::{ElementType, OpFault, array_from_fill, numbers_of};
 use apl_array::{Array, ScalarFunction, range_is_decided};
@@ -59,8 +59,8 @@ impl<T: ElementType, U: ElementType, F: Dyadic, P: Dyadic> Kernel for Reductions
         self.items.layout.count
     }
 
-    fn weight(&self) -> usize {
-        weight_of(self.items.layout.items)
+    fn piece(&self) -> usize {
+        piece_of(self.items.layout.items)
     }
 
     fn work(&self) -> usize {

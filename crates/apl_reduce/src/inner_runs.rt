@@ -9,7 +9,7 @@ use crate::item_runs::LONGEST_RUN;
 use crate::items::reduced;
 use crate::layouts::Layout;
 use crate::product_items::ProductItems;
-use crate::sharing::{weight_of, work_of};
+use crate::sharing::{piece_of, work_of};
 use apl_answer::ElementType;
 use apl_array::ScalarFunction;
 use apl_divisor::Divisor;
@@ -50,8 +50,8 @@ impl<T: ElementType, U: ElementType> Kernel for RunReductions<'_, T, U> {
         self.items.layout.count
     }
 
-    fn weight(&self) -> usize {
-        weight_of(self.items.layout.items)
+    fn piece(&self) -> usize {
+        piece_of(self.items.layout.items)
     }
 
     fn work(&self) -> usize {

@@ -7,7 +7,7 @@ ghost use Rattle.apl_reduce.specs.Filled.{IsFilled};
 ghost use Rattle.apl_reduce.specs.Layouts.{IsWithin, inner_number};
 ghost use Rattle.apl_reduce.specs.ProductRows.{IsByRows, AreRowSums};
 
-use crate::axis_items::{HEAVIEST_COLUMN, MOST_TOTALS};
+use crate::axis_items::MOST_TOTALS;
 use crate::dyadic::Typed;
 use crate::items::reduced;
 use crate::layouts::Layout;
@@ -17,7 +17,7 @@ use crate::near_products::NearProducts;
 use crate::outer_products::NARROW;
 use crate::product_items::ProductItems;
 use crate::product_sums::near_bound;
-use crate::sharing::{weight_of, work_of};
+use crate::sharing::{FEWEST_COLUMNS, piece_of, work_of};
 use apl_array::range_is_decided;
 use apl_divisor::Divisor;
 use apl_pool::{Crew, Fault, Kernel, Stop, fill};
@@ -63,8 +63,8 @@ impl Kernel for ProductRows<'_> {
         self.items.layout.count
     }
 
-    fn weight(&self) -> usize {
-        weight_of(self.items.layout.items).min(HEAVIEST_COLUMN)
+    fn piece(&self) -> usize {
+        piece_of(self.items.layout.items).max(FEWEST_COLUMNS)
     }
 
     fn work(&self) -> usize {

@@ -14,7 +14,7 @@ use crate::layouts::Layout;
 use crate::magnitudes::sums_are_small;
 use crate::near_sums::{above_least, wrapped_sum};
 use crate::product_items::{LineItems, ProductItems};
-use crate::sharing::{weight_of, work_of};
+use crate::sharing::{piece_of, work_of};
 use crate::sums::narrow_product;
 use apl_array::range_is_decided;
 use apl_divisor::Divisor;
@@ -153,8 +153,8 @@ impl Kernel for ProductSums<'_> {
         self.items.layout.count
     }
 
-    fn weight(&self) -> usize {
-        weight_of(self.items.layout.items)
+    fn piece(&self) -> usize {
+        piece_of(self.items.layout.items)
     }
 
     fn work(&self) -> usize {

@@ -5,7 +5,7 @@ ghost use Rattle.apl_pool.specs.declared.kernel.TheConstants.{MOST_PLACES};
 ghost use Rattle.apl_summary.specs.Functions.{has_summary};
 
 use apl_array::ScalarFunction;
-use apl_pool::{Crew, MOST_PLACES};
+use apl_pool::{Crew, MOST_PLACES, USUAL_PIECE};
 use apl_summary::has_summary;
 
 /// The most places whose items are shared by workers.
@@ -14,12 +14,15 @@ const FEW_PLACES: usize = 64;
 /// So many items are folded in the time of a function of two numbers.
 const LIGHT: usize = 8;
 
-/// The most times as long that a fold is said to take, so that pieces keep some places.
-const HEAVIEST: usize = 32;
+/// The fewest places of a piece of folds.
+const FEWEST_PLACES: usize = 128;
 
-/// About how many times as long the fold of some items takes as a function of two numbers.
-pub(crate) fn weight_of(items: usize) -> usize {
-    (items / LIGHT).max(1).min(HEAVIEST)
+/// The same where the items are no neighbours. In shorter pieces too little of each row would be read at a time.
+pub(crate) const FEWEST_COLUMNS: usize = 512;
+
+/// How many places are to be a piece of folds of some items, as `Kernel::piece` has it.
+pub(crate) fn piece_of(items: usize) -> usize {
+    (USUAL_PIECE * LIGHT / items.max(LIGHT)).max(FEWEST_PLACES)
 }
 
 /// About how much work the folds of so many items at each of some places are, as `Kernel::work` has it: two items are folded in the time

@@ -95,8 +95,9 @@ impl Kernel for Stretches<'_> {
         self.rows * self.stretches
     }
 
-    fn weight(&self) -> usize {
-        STRETCH.min(self.items)
+    /// A stretch has as many numbers as four usual pieces.
+    fn piece(&self) -> usize {
+        1
     }
 
     fn work(&self) -> usize {

@@ -8,7 +8,7 @@ ghost use Rattle.apl_reduce.specs.Magnitudes.{magnitude};
 use crate::four::{Four, put_four};
 use crate::layouts::Layout;
 use crate::near_sums::wrapped_sum;
-use crate::sharing::{weight_of, work_of};
+use crate::sharing::{piece_of, work_of};
 use apl_pool::write_each;
 use apl_walk::Lined;
 
@@ -48,6 +48,9 @@ pub(crate) fn narrow_product(x: i64, y: i64) -> i64
 
 /// How many neighbouring columns of a line are summed at once.
 const TURN: usize = 4;
+
+/// The fewest lines of a piece.
+const FEWEST_LINES: usize = 16;
 
 impl Sums<'_> {
     /// Where the items of a line and of a column begin.
@@ -166,17 +169,16 @@ impl Lined for Sums<'_> {
         self.layout.columns
     }
 
-    /// Lines of many columns are not cut shorter, since each piece reads all right items.
-    fn weight(&self) -> usize {
-        if self.layout.columns < TURN {
-            weight_of(self.layout.items)
-        } else {
-            1
-        }
+    /// Each piece reads all right items, so some lines are to meet them.
+    fn piece(&self) -> usize {
+        let lines = self.layout.columns.saturating_mul(FEWEST_LINES);
+        lines.max(piece_of(self.layout.items))
     }
 
+    /// Four products of 32 bits are summed in the time of a function of two numbers.
     fn work(&self) -> usize {
-        work_of(self.layout.count, self.layout.items)
+        let work = work_of(self.layout.count, self.layout.items);
+        if self.is_narrow { work / 2 } else { work }
     }
 
     /// The right items of four columns stay in the first caches while all lines of a run meet them.

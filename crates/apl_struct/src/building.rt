@@ -193,6 +193,11 @@ impl Kernel for Consecutive {
         self.count
     }
 
+    /// No number is read for these.
+    fn work(&self) -> usize {
+        self.count / 2
+    }
+
     #[inline(always)]
     fn at(&self, place: usize) -> Result<i64, Fault> {
         Ok((self.first + place) as i64)

@@ -5,7 +5,7 @@ ghost use Rattle.apl_walk.specs.Steps.{BeginsWith};
 ghost use Rattle.apl_walk.specs.Columns.{HasColumns};
 
 use apl_divisor::Divisor;
-use apl_pool::{Fault, Kernel, Reused};
+use apl_pool::{Fault, Kernel, Reused, USUAL_PIECE};
 
 /// What there is at each index of lines that are equally long.
 pub trait Lined {
@@ -36,9 +36,9 @@ pub trait Lined {
         ensures some { 0 < result }
         ensures most { result ≤ MOST_PLACES };
 
-    /// About how many times as long a value takes as one of a function of two numbers.
-    fn weight(&self) -> usize {
-        1
+    /// How many places are to be a piece, as `Kernel::piece` has it.
+    fn piece(&self) -> usize {
+        USUAL_PIECE
     }
 
     /// About how much work all values are, if they are numbers.
@@ -181,8 +181,8 @@ where
         self.count
     }
 
-    fn weight(&self) -> usize {
-        self.lines.weight()
+    fn piece(&self) -> usize {
+        self.lines.piece()
     }
 
     fn work(&self) -> usize {
