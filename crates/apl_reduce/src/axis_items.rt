@@ -17,7 +17,7 @@ use crate::line_folds::{fold_along, fold_lines};
 use crate::near_rows::has_near_rows;
 use crate::outer_products::NARROW;
 use crate::sharing::{FEWEST_COLUMNS, piece_of, shares_items, shares_sums, work_of};
-use crate::stretch_sums::{STRETCH, Stretches, fill_sums};
+use crate::stretch_sums::{STRETCH, Stretches, fill_row_sums};
 use crate::truth_folds::has_truth_runs;
 use apl_answer::ElementType;
 use apl_array::{
@@ -285,8 +285,9 @@ fn fill_folds<F: Function + Sync, T: Foldable + Sync, W: Crew>(
     fill(workers, &kernel)
 }
 
-/// The sums of the items at each place, if the workers share the numbers, all items of a place are neighbours, and no number is far from 0.
-fn fill_near_sums<W: Crew>(
+/// The sums of the items at each place, if the workers share the numbers, and no number is far from 0. Then the items of a place are
+/// neighbours, and more than a stretch.
+fn fill_by_stretches<W: Crew>(
     workers: &W,
     f: ScalarFunction,
     axis: &AxisItems<i64>,
@@ -298,7 +299,7 @@ fn fill_near_sums<W: Crew>(
     if !has_stretches || !shares_sums(workers, f, axis.count, axis.items) {
         return Ok(None);
     }
-    fill_sums(
+    fill_row_sums(
         workers,
         &Stretches::new(axis.elements, axis.count, axis.items, axis.block),
     )
@@ -312,7 +313,7 @@ pub(crate) fn fill_number_folds<W: Crew>(
 ) -> Result<Vec<i64>, Stop>
     ensures { IsFilled (fold_at f (map Int axis.now.elements.now) axis.now.items axis.now.block axis.now.inner) axis.now.count result }
 {
-    if let Some(sums) = fill_near_sums(workers, f, axis)? {
+    if let Some(sums) = fill_by_stretches(workers, f, axis)? {
         return Ok(sums);
     }
     if shares_items(workers, f, axis.count, axis.items) {

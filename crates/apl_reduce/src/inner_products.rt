@@ -22,7 +22,7 @@ use crate::product_items::ProductItems;
 use crate::product_rows::fill_product_rows;
 use crate::product_sums::fill_product_sums;
 use crate::shapes::{characters_of, joined_shape};
-use crate::sharing::{piece_of, shares_items, work_of};
+use crate::sharing::shares_items;
 use crate::sums::Sums;
 use apl_answer::{ElementType, OpFault, array_from_fill, numbers_of};
 use apl_array::{Array, ScalarFunction, range_is_decided};
@@ -60,11 +60,11 @@ impl<T: ElementType, U: ElementType, F: Dyadic, P: Dyadic> Kernel for Reductions
     }
 
     fn piece(&self) -> usize {
-        piece_of(self.items.layout.items)
+        self.items.layout.piece()
     }
 
     fn work(&self) -> usize {
-        work_of(self.items.layout.count, self.items.layout.items)
+        self.items.layout.work()
     }
 
     #[inline(always)]

@@ -9,7 +9,6 @@ use crate::item_runs::LONGEST_RUN;
 use crate::items::reduced;
 use crate::layouts::Layout;
 use crate::product_items::ProductItems;
-use crate::sharing::{piece_of, work_of};
 use apl_answer::ElementType;
 use apl_array::ScalarFunction;
 use apl_divisor::Divisor;
@@ -51,11 +50,11 @@ impl<T: ElementType, U: ElementType> Kernel for RunReductions<'_, T, U> {
     }
 
     fn piece(&self) -> usize {
-        piece_of(self.items.layout.items)
+        self.items.layout.piece()
     }
 
     fn work(&self) -> usize {
-        work_of(self.items.layout.count, self.items.layout.items)
+        self.items.layout.work()
     }
 
     fn at(&self, place: usize) -> Result<i64, Fault> {

@@ -17,7 +17,7 @@ use crate::near_products::NearProducts;
 use crate::outer_products::NARROW;
 use crate::product_items::ProductItems;
 use crate::product_sums::near_bound;
-use crate::sharing::{FEWEST_COLUMNS, piece_of, work_of};
+use crate::sharing::FEWEST_COLUMNS;
 use apl_array::range_is_decided;
 use apl_divisor::Divisor;
 use apl_pool::{Crew, Fault, Kernel, Stop, fill};
@@ -64,11 +64,11 @@ impl Kernel for ProductRows<'_> {
     }
 
     fn piece(&self) -> usize {
-        piece_of(self.items.layout.items).max(FEWEST_COLUMNS)
+        self.items.layout.piece().max(FEWEST_COLUMNS)
     }
 
     fn work(&self) -> usize {
-        work_of(self.items.layout.count, self.items.layout.items)
+        self.items.layout.work()
     }
 
     fn at(&self, place: usize) -> Result<i64, Fault> {

@@ -14,7 +14,6 @@ use crate::layouts::Layout;
 use crate::magnitudes::sums_are_small;
 use crate::near_sums::{above_least, wrapped_sum};
 use crate::product_items::{LineItems, ProductItems};
-use crate::sharing::{piece_of, work_of};
 use crate::sums::narrow_product;
 use apl_array::range_is_decided;
 use apl_divisor::Divisor;
@@ -154,11 +153,11 @@ impl Kernel for ProductSums<'_> {
     }
 
     fn piece(&self) -> usize {
-        piece_of(self.items.layout.items)
+        self.items.layout.piece()
     }
 
     fn work(&self) -> usize {
-        work_of(self.items.layout.count, self.items.layout.items)
+        self.items.layout.work()
     }
 
     fn at(&self, place: usize) -> Result<i64, Fault> {

@@ -4,6 +4,7 @@ ghost use Rattle.apl_array.specs.declared.function.ScalarFunction.TheVariants.{P
 ghost use Rattle.apl_pool.specs.declared.kernel.TheConstants.{MOST_PLACES};
 ghost use Rattle.apl_summary.specs.Functions.{has_summary};
 
+use crate::layouts::Layout;
 use apl_array::ScalarFunction;
 use apl_pool::{Crew, MOST_PLACES, USUAL_PIECE};
 use apl_summary::has_summary;
@@ -11,7 +12,7 @@ use apl_summary::has_summary;
 /// The most places whose items are shared by workers.
 const FEW_PLACES: usize = 64;
 
-/// So many items are folded in the time of a function of two numbers.
+/// Folds of so many items, and of fewer, have pieces of the usual length.
 const LIGHT: usize = 8;
 
 /// The fewest places of a piece of folds.
@@ -29,6 +30,18 @@ pub(crate) fn piece_of(items: usize) -> usize {
 /// of a function of two numbers.
 pub(crate) fn work_of(places: usize, items: usize) -> usize {
     places.saturating_mul(items) / 2
+}
+
+impl Layout {
+    /// How many places are to be a piece of an inner product, as `Kernel::piece` has it.
+    pub(crate) fn piece(&self) -> usize {
+        piece_of(self.items)
+    }
+
+    /// About how much work all its places are, as `Kernel::work` has it.
+    pub(crate) fn work(&self) -> usize {
+        work_of(self.count, self.items)
+    }
 }
 
 /// How many times as much work is asked for where items are summarized, since a summary takes several times as long as a fold.

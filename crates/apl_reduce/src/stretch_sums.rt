@@ -15,7 +15,7 @@ use crate::sharing::work_of;
 use apl_array::range_is_decided;
 use apl_pool::{Crew, Fault, Kernel, Stop, fill};
 
-/// The most numbers of a stretch. It has as many as four pieces of the usual length, so that workers have about as much each.
+/// The most numbers of a stretch: as many as four usual pieces have. It is short, so that workers have about as much each.
 pub(crate) const STRETCH: usize = 1 << 14;
 
 /// The sum with the number at a place.
@@ -184,7 +184,10 @@ impl Kernel for RowSums<'_, '_> {
 }
 
 /// The sums of all rows, unless a number may be far from 0.
-pub(crate) fn fill_sums<W: Crew>(workers: &W, rows: &Stretches) -> Result<Option<Vec<i64>>, Stop>
+pub(crate) fn fill_row_sums<W: Crew>(
+    workers: &W,
+    rows: &Stretches,
+) -> Result<Option<Vec<i64>>, Stop>
     ensures values { let s = rows.now in
         IfOk result (λ sums. IfSome sums (λ v. AreValues (fold_at Plus (map Int s.numbers.now) s.items s.block 1) s.rows v.items)) }
     ensures stop { let s = rows.now in IfErr result (IsStopOf (fold_at Plus (map Int s.numbers.now) s.items s.block 1) s.rows) }

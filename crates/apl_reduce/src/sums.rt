@@ -8,7 +8,6 @@ ghost use Rattle.apl_reduce.specs.Magnitudes.{magnitude};
 use crate::four::{Four, put_four};
 use crate::layouts::Layout;
 use crate::near_sums::wrapped_sum;
-use crate::sharing::{piece_of, work_of};
 use apl_pool::write_each;
 use apl_walk::Lined;
 
@@ -49,8 +48,8 @@ pub(crate) fn narrow_product(x: i64, y: i64) -> i64
 /// How many neighbouring columns of a line are summed at once.
 const TURN: usize = 4;
 
-/// The fewest lines of a piece.
-const FEWEST_LINES: usize = 16;
+/// How many lines are a piece, if there are enough for several pieces.
+const PIECE_LINES: usize = 16;
 
 impl Sums<'_> {
     /// Where the items of a line and of a column begin.
@@ -169,15 +168,15 @@ impl Lined for Sums<'_> {
         self.layout.columns
     }
 
-    /// Each piece reads all right items, so some lines are to meet them.
+    /// Each piece reads all right items, so several lines are to meet them. Few lines are four pieces.
     fn piece(&self) -> usize {
-        let lines = self.layout.columns.saturating_mul(FEWEST_LINES);
-        lines.max(piece_of(self.layout.items))
+        let lines = self.layout.columns.saturating_mul(PIECE_LINES);
+        lines.min(self.layout.count / 4).max(self.layout.piece())
     }
 
     /// Four products of 32 bits are summed in the time of a function of two numbers.
     fn work(&self) -> usize {
-        let work = work_of(self.layout.count, self.layout.items);
+        let work = self.layout.work();
         if self.is_narrow { work / 2 } else { work }
     }
 
