@@ -1,5 +1,6 @@
 """Tests of bench/peers, with tiny sizes: that it computes and prints all rows, and what it says of words and peers."""
 import os
+import pathlib
 import subprocess
 import sys
 import tempfile
@@ -39,6 +40,14 @@ class Table(unittest.TestCase):
         run = asked("--size", "100", "--starts", "1", "--rounds", "1", PROGRAM, "A+B", "A+.×A, small")
         rows = run.stdout.split("\n\n")[1].splitlines()[1:]
         self.assertEqual([row[:20].strip() for row in rows], ["A+B", "A+.×A, small"])
+
+    def test_starts_in_turn(self):
+        with tempfile.TemporaryDirectory() as folder:
+            program, starts = pathlib.Path(folder, "program"), pathlib.Path(folder, "starts")
+            program.write_text('#!/bin/sh\necho "$2" >> "%s"\nexec "%s" "$@"\n' % (starts, PROGRAM), encoding="utf-8")
+            program.chmod(0o755)
+            asked("--size", "100", "--starts", "2", "--rounds", "1", str(program), "A+B")
+            self.assertEqual(starts.read_text(encoding="utf-8").split(), ["1", "4", "1", "4"])
 
     def test_missing_peer(self):
         with tempfile.TemporaryDirectory() as empty:
