@@ -63,8 +63,8 @@ pub trait Kernel {
         requires { place < place_count self.now }
         ensures { result ≡ outcome self.now place };
 
-    /// How many places are to be a piece where a cutting has the usual length. By other cuttings pieces are longer or shorter in proportion.
-    /// The values are the same.
+    /// How many places are to be a piece where a cutting has the usual length. By other cuttings pieces are longer or shorter in
+    /// proportion, and by 0 each place is one by any cutting. The values are the same.
     fn piece(&self) -> usize {
         USUAL_PIECE
     }

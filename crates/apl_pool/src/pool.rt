@@ -171,8 +171,8 @@ impl<C: Cut + Sync, G: Gate + Sync> Pool<C, G> {
     /// that fault. `Memory` may come in place of any answer, and then no more is known. There is at
     /// least one place.
     ///
-    /// The workers share the pieces as in `fill`. How their summaries are nested changes nothing. No item
-    /// is stored.
+    /// All workers share the pieces, however little work that is: `is_shared` says whether it repays them. How their summaries are
+    /// nested changes nothing. No item is stored.
     pub fn fold<R: Threads + Sync, S: Summary + Drop + Send, K: Kernel<Out = S::Item> + Sync>(
         &self,
         rt: &R,

@@ -15,7 +15,7 @@ use crate::sharing::work_of;
 use apl_array::range_is_decided;
 use apl_pool::{Crew, Fault, Kernel, Stop, fill};
 
-/// The most numbers of a stretch: as many as four usual pieces have. It is short, so that workers have about as much each.
+/// The most numbers of a stretch, which is a piece. It is short, so that workers have about as much each.
 pub(crate) const STRETCH: usize = 1 << 14;
 
 /// The sum with the number at a place.
@@ -95,9 +95,9 @@ impl Kernel for Stretches<'_> {
         self.rows * self.stretches
     }
 
-    /// A stretch has as many numbers as four usual pieces.
+    /// Each stretch is a piece, by any cutting.
     fn piece(&self) -> usize {
-        1
+        0
     }
 
     fn work(&self) -> usize {

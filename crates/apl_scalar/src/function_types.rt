@@ -84,7 +84,6 @@ pub(crate) fn has_dyadic_runs(f: ScalarFunction) -> bool {
 }
 
 /// The functions of two arguments that take about as long as a sum.
-#[inline(always)]
 pub(crate) fn is_quick_of_two(f: ScalarFunction) -> bool {
     has_dyadic_runs(f) && f != ScalarFunction::Star
 }

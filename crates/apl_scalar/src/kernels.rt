@@ -5,7 +5,7 @@ ghost use Rattle.apl_pool.specs.Runs.{AreWritten};
 ghost use Rattle.apl_scalar.specs.Scalar.{dyadic_of, monadic_of};
 
 use crate::elements::{dyadic_elements, likely_element, likely_elements, monadic_element};
-use crate::function_types::{Function, has_dyadic_runs, has_monadic_runs, is_quick_of_two};
+use crate::function_types::{Function, has_dyadic_runs, has_monadic_runs};
 use crate::held::as_held;
 use crate::operands::Operand;
 use crate::runs::{HeldRuns, Results, write_results};
@@ -56,11 +56,6 @@ impl<A: Operand, F: Function + Copy> Results for ElementResults<A, F> {
     fn have_runs() -> bool {
         has_monadic_runs(F::FUNCTION)
     }
-
-    #[inline(always)]
-    fn have_streams() -> bool {
-        true
-    }
 }
 
 /// The results of a dyadic function of two arguments.
@@ -108,11 +103,6 @@ impl<L: Operand, R: Operand, F: Function + Copy> Results for PairResults<L, R, F
     #[inline(always)]
     fn have_runs() -> bool {
         has_dyadic_runs(F::FUNCTION)
-    }
-
-    #[inline(always)]
-    fn have_streams() -> bool {
-        is_quick_of_two(F::FUNCTION)
     }
 }
 

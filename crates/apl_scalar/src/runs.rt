@@ -40,9 +40,6 @@ pub trait Results: Copy {
 
     /// Whether the likely results have no branches, so that a run of them is quick.
     fn have_runs() -> bool;
-
-    /// Whether memory takes longer than the likely results do, so that two streams of them are quicker than one.
-    fn have_streams() -> bool;
 }
 
 /// Writes the likely results into the room for the places from `from` on. It answers the doubts whether they are right.
@@ -178,9 +175,6 @@ fn write_run<P: Results, H: HeldRuns>(results: P, from: usize, count: usize, roo
     ensures values { result ≡ true → AreWritten (λ place. H.held (P.outcome results place)) from (from + count) room.new }
     ensures len { length room.new ≡ length room.old }
 {
-    if !P::have_streams() {
-        return write_likely(results, from, count, room) == 0;
-    }
     let size = H::block_places();
     let blocks = count / (size * 2);
     let done = blocks * size * 2;

@@ -1,5 +1,5 @@
 //! Elements at chosen indexes.
-ghost use Rattle.std.specs.Prelude.{◌≡◌, ◌≤◌, ◌++◌, ◌∷◌, [], true, length, map, option_copied, take, Some, IfOk, IfSome};
+ghost use Rattle.std.specs.Prelude.{◌≡◌, ◌≤◌, ◌++◌, ◌∷◌, [], true, length, map, option_copied, Some, IfOk, IfSome};
 ghost use Rattle.std.specs.List.{list_all};
 ghost use Rattle.apl_array.specs.Axes.{from_origin, is_below};
 ghost use Rattle.apl_answer.specs.Arguments.{rank_of};
@@ -8,7 +8,6 @@ ghost use Rattle.apl_answer.specs.Rows.{Answers};
 ghost use Rattle.apl_struct.specs.Indexing.{are_slots_within, selected_shape, selection_checks, select_row};
 ghost use Rattle.apl_struct.specs.Selecting.{IsCheckedResult, IsSelection};
 
-use crate::arguments::TURN;
 use crate::building::empty;
 use crate::chosen::select_of_vector;
 use crate::selecting::{NumberArray, push_slots, selected_walk};
@@ -27,45 +26,15 @@ fn is_index(number: i64, origin: Origin, axis_length: usize) -> bool
     number >= first && ((number - first) as u64) < axis_length as u64
 }
 
-/// Whether the numbers up to before `to`, less the origin, are indexes. It is known of those before `from`. The loop has no branches.
-#[inline(always)]
-fn are_indexes_up_to(
-    are_before: bool,
-    numbers: &[i64],
-    origin: Origin,
-    axis_length: usize,
-    from: usize,
-    to: usize,
-) -> bool
-    requires order { from ≤ to }
-    requires places { to ≤ length numbers.now }
-    requires before { are_before ≡ list_all (λ number. is_below axis_length (from_origin origin number)) (take from numbers.now) }
-    ensures { result ≡ list_all (λ number. is_below axis_length (from_origin origin number)) (take to numbers.now) }
-{
-    let mut are_all = are_before;
-    for place in from..to {
-        are_all &= is_index(numbers[place], origin, axis_length);
-    }
-    are_all
-}
-
+/// Whether all numbers, less the origin, are indexes of an axis of that length. The loop has no branches.
 fn are_indexes(numbers: &[i64], origin: Origin, axis_length: usize) -> bool
     ensures { result ≡ list_all (λ number. is_below axis_length (from_origin origin number)) numbers.now }
 {
-    let turns = numbers.len() / TURN;
     let mut are_all = true;
-    for turn in 0..turns {
-        let from = turn * TURN;
-        are_all = are_indexes_up_to(are_all, numbers, origin, axis_length, from, from + TURN);
+    for place in 0..numbers.len() {
+        are_all &= is_index(numbers[place], origin, axis_length);
     }
-    are_indexes_up_to(
-        are_all,
-        numbers,
-        origin,
-        axis_length,
-        turns * TURN,
-        numbers.len(),
-    )
+    are_all
 }
 
 /// Whether each number of the slots, less the origin, is an index of the slot's axis.

@@ -15,6 +15,11 @@ pub(crate) fn write_same<T: Copy>(value: T, count: usize, room: &mut [T])
     }
 }
 
+/// From so many neighbours up to `MOST_COPIED` the C library's copy is quicker than a loop.
+const FEWEST_COPIED: usize = 16;
+
+const MOST_COPIED: usize = 256;
+
 /// Neighbours.
 #[inline(always)]
 pub(crate) fn write_near<T: Copy>(elements: &[T], count: usize, room: &mut [T])
@@ -24,6 +29,9 @@ pub(crate) fn write_near<T: Copy>(elements: &[T], count: usize, room: &mut [T])
     ensures len { length room.new ≡ length room.old }
 {
     let part = &elements[..count];
+    if (FEWEST_COPIED..=MOST_COPIED).contains(&count) {
+        return room[..count].copy_from_slice(part);
+    }
     for k in 0..count {
         room[k] = part[k];
     }

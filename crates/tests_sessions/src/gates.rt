@@ -688,9 +688,8 @@ fn each_reduction_uses_the_pool(rt: HostRuntime) -> Result<(), Fail> {
     meet_at_two(&rt, alloc, few.as_str(), table, ("-\\A", "1 0\n"))?;
     let more = ones(alloc, 2048, "V←2 2048\nW←2048 2\nR←1 1\n", ITEMS)?;
     meet_at_some(&rt, alloc, more.as_str(), table)?;
-    // Workers share `+/` by stretches, each as long as four pieces of other functions.
-    let largest = ones(alloc, 2 * HALF, "V←2 1048576\nE←4194304⍴A\n", "")?;
-    let many = ("B←+⌿V⍴A →\nB←A∘.×1 →\nB←+/E →\nB←A+.×A →", 4);
+    let largest = ones(alloc, 2 * HALF, "V←2 1048576\n", "")?;
+    let many = ("B←+⌿V⍴A →\nB←A∘.×1 →\nB←+/A →\nB←A+.×A →", 4);
     meet_at_many(&rt, alloc, largest.as_str(), many)
 }
 
