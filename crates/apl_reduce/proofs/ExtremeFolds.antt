@@ -1,4 +1,4 @@
--- The greatest and the least of neighbours and a total, and of four runs of them.
+-- The greatest and the least of neighbours and a total, and of both halves of them.
 use Rattle.std.proofs.Common.{◌≡◌, ℕ, zero, suc, ℤ, pos, ◌+◌, ◌*◌, List, map, Ok, refl, sym, ap, ◌∙◌, slice_index_or, arith}
 use Rattle.std.proofs.Math.ListN.{get_or-map}
 use Rattle.apl_array.specs.declared.array.Elem.{Elem}
@@ -59,30 +59,15 @@ module _ (f : ScalarFunction) (two : ℤ → ℤ → ℤ) (laws : IsExtreme f tw
       let both : two other total ≡ other = ap (λ i. two i total) (sym is_other) ∙ absorbed j n total ∙ is_other in
       ap (all_onto k n) (sym both) ∙ first_or_last k n other total
 
-  -- what four runs give together of a total, by what each gives of it
-  four_joined : (a b c d n : ℕ) (total w x y z : ℤ) → folded_onto f item a n (Ok total) ≡ Ok w → folded_onto f item b n (Ok total) ≡ Ok x
-      → folded_onto f item c n (Ok total) ≡ Ok y → folded_onto f item d n (Ok total) ≡ Ok z
-      → folded_onto f item a n (folded_onto f item b n (folded_onto f item c n (folded_onto f item d n (Ok total)))) ≡ Ok (two (two w x) (two y z))
-  four_joined a b c d n total w x y z at_a at_b at_c at_d =
+  -- what two runs give together of a total, by what each gives of it
+  both_joined : (a b n : ℕ) (total w x : ℤ) → folded_onto f item a n (Ok total) ≡ Ok w → folded_onto f item b n (Ok total) ≡ Ok x
+      → folded_onto f item a n (folded_onto f item b n (Ok total)) ≡ Ok (two w x)
+  both_joined a b n total w x at_a at_b =
       let is_w = is_onto a n total w at_a in
       let is_x = is_onto b n total x at_b in
-      let is_y = is_onto c n total y at_c in
-      let is_z = is_onto d n total z at_d in
-      let three : all_onto c n z ≡ two z y = beyond d c n total z is_z ∙ ap (two z) is_y in
-      let two_too : all_onto b n (two z y) ≡ two z (two y x) = first_or_last b n z y ∙ ap (two z) (beyond c b n total y is_y ∙ ap (two y) is_x) in
-      let all : all_onto a n (two z (two y x)) ≡ two z (two y (two x w)) =
-      first_or_last a n z (two y x) ∙ ap (two z) (first_or_last a n y x ∙ ap (two y) (beyond b a n total x is_x ∙ ap (two x) is_w)) in
-      ap (λ t. folded_onto f item a n (folded_onto f item b n (folded_onto f item c n t))) at_d
-      ∙ ap (λ t. folded_onto f item a n (folded_onto f item b n t)) (folds_to c n z ∙ ap (λ (i : ℤ). Ok i) three)
-      ∙ ap (folded_onto f item a n) (folds_to b n (two z y) ∙ ap (λ (i : ℤ). Ok i) two_too)
-      ∙ folds_to a n (two z (two y x))
-      ∙ ap (λ (i : ℤ). Ok i) (all ∙ exchanged z y (two x w) ∙ laws.grouped y z (two x w) ∙ laws.turned (two y z) (two x w) ∙ ap (λ i. two i (two y z)) (laws.turned x w))
+      let both : all_onto a n x ≡ two w x = beyond b a n total x is_x ∙ ap (two x) is_w ∙ laws.turned x w in
+      ap (folded_onto f item a n) at_b ∙ folds_to a n x ∙ ap (λ (i : ℤ). Ok i) both
 
-  pub of_quarters : (first n : ℕ) (total w x y z : ℤ) → folded_onto f item first n (Ok total) ≡ Ok w → folded_onto f item (first + n) n (Ok total) ≡ Ok x
-      → folded_onto f item (first + 2 * n) n (Ok total) ≡ Ok y → folded_onto f item (first + 2 * n + n) n (Ok total) ≡ Ok z
-      → folded_onto f item first (2 * (2 * n)) (Ok total) ≡ Ok (two (two w x) (two y z))
-  of_quarters first n total w x y z at_w at_x at_y at_z =
-      two_halves f item first (2 * n) (Ok total)
-      ∙ two_halves f item first n (folded_onto f item (first + 2 * n) (2 * n) (Ok total))
-      ∙ ap (λ t. folded_onto f item first n (folded_onto f item (first + n) n t)) (two_halves f item (first + 2 * n) n (Ok total))
-      ∙ four_joined first (first + n) (first + 2 * n) (first + 2 * n + n) n total w x y z at_w at_x at_y at_z
+  pub of_both : (first n : ℕ) (total w x : ℤ) → folded_onto f item first n (Ok total) ≡ Ok w → folded_onto f item (first + n) n (Ok total) ≡ Ok x
+      → folded_onto f item first (2 * n) (Ok total) ≡ Ok (two w x)
+  of_both first n total w x at_w at_x = two_halves f item first n (Ok total) ∙ both_joined first (first + n) n total w x at_w at_x

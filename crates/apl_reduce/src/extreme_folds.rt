@@ -1,11 +1,11 @@
-//! Right folds by `⌈` and `⌊`, of four runs at once.
+//! Right folds by `⌈` and `⌊`, of a run or of four at once.
 ghost use Rattle.std.specs.Prelude.{◌≡◌, ◌+◌, ◌*◌, ◌≤◌, Ok, length, map};
 ghost use Rattle.apl_array.specs.declared.array.Elem.TheVariants.{Int};
 ghost use Rattle.apl_reduce.specs.Folded.{folded_onto};
 ghost use Rattle.apl_reduce.specs.FourFolds.{AreRuns, AreFourFolds};
 ghost use Rattle.apl_reduce.specs.Items.{item_in};
 
-use crate::four::{Four, quarters};
+use crate::four::Four;
 
 /// The greatest of numbers, or the least.
 pub(crate) trait Extreme {
@@ -88,24 +88,23 @@ pub(crate) fn each_extreme<E: Extreme>(
     }
 }
 
-/// The extreme of a total and four quarters of neighbours from a place on. It is the same from the first number on as from the last.
+/// The extreme of a total and both halves of neighbours from a place on. It is the same from the first number on as from the last. A turn
+/// takes a number of each half, since memory gives two streams faster than one.
 pub(crate) fn extreme_onto<E: Extreme>(
     numbers: &[i64],
     first: usize,
-    quarter: usize,
+    half: usize,
     total: i64,
 ) -> i64
-    requires within { first + 4 * quarter ≤ length numbers.now }
-    ensures { folded_onto E.function (item_in (map Int numbers.now)) first (2 * (2 * quarter)) (Ok total) ≡ Ok result }
+    requires within { first + 2 * half ≤ length numbers.now }
+    ensures { folded_onto E.function (item_in (map Int numbers.now)) first (2 * half) (Ok total) ≡ Ok result }
 {
-    let totals = Four {
-        first: total,
-        second: total,
-        third: total,
-        fourth: total,
-    };
-    let all = each_extreme::<E>(numbers, quarters(first, quarter), quarter, totals);
-    let low = E::of_two(all.first, all.second);
-    let high = E::of_two(all.third, all.fourth);
+    let second = first + half;
+    let mut low = total;
+    let mut high = total;
+    for k in 0..half {
+        low = E::of_two(numbers[first + k], low);
+        high = E::of_two(numbers[second + k], high);
+    }
     E::of_two(low, high)
 }

@@ -104,21 +104,20 @@ pub(crate) fn has_quick_runs<F: Function>() -> bool {
 #[inline(always)]
 fn quick_fold<F: Function>(numbers: &[i64], first: usize, quarter: usize, total: i64) -> Option<i64>
     requires within { first + 8 * quarter ≤ length numbers.now }
-    requires few { quarter ≤ MOST_QUARTER }
     ensures { IfSome result (λ z. folded_onto F.FUNCTION (item_in (map Int numbers.now)) first (2 * (2 * (2 * quarter))) (Ok total) ≡ Ok z) }
 {
+    let half = 2 * (2 * quarter);
     match F::FUNCTION {
-        ScalarFunction::Plus => near_total(quarters_added(numbers, first, 2 * quarter), total),
-        ScalarFunction::Minus => near_total(quarters_turned(numbers, first, quarter), total),
-        ScalarFunction::Times => sign_onto(numbers, first, 2 * (2 * quarter), total),
-        ScalarFunction::Ceiling => Some(extreme_onto::<Greatest>(
-            numbers,
-            first,
-            2 * quarter,
-            total,
-        )),
-        ScalarFunction::Floor => Some(extreme_onto::<Least>(numbers, first, 2 * quarter, total)),
-        _ => bit_fold::<F>(numbers, first, 2 * (2 * quarter), total),
+        ScalarFunction::Plus if quarter <= MOST_QUARTER => {
+            near_total(quarters_added(numbers, first, 2 * quarter), total)
+        }
+        ScalarFunction::Minus if quarter <= MOST_QUARTER => {
+            near_total(quarters_turned(numbers, first, quarter), total)
+        }
+        ScalarFunction::Times => sign_onto(numbers, first, half, total),
+        ScalarFunction::Ceiling => Some(extreme_onto::<Greatest>(numbers, first, half, total)),
+        ScalarFunction::Floor => Some(extreme_onto::<Least>(numbers, first, half, total)),
+        _ => bit_fold::<F>(numbers, first, half, total),
     }
 }
 
@@ -131,13 +130,22 @@ fn fold_run<F: Function>(
     total: i64,
 ) -> Result<i64, Fault>
     requires within { first + 8 * quarter < length numbers.now }
-    requires few { quarter ≤ MOST_QUARTER }
     requires most { length numbers.now ≤ MOST_PLACES }
     ensures { result ≡ folded_onto F.FUNCTION (item_in (map Int numbers.now)) first (2 * (2 * (2 * quarter))) (Ok total) }
 {
     match quick_fold::<F>(numbers, first, quarter, total) {
         Some(folded) => Ok(folded),
         None => fold_items::<F, i64>(numbers, first, 1, 8 * quarter, total),
+    }
+}
+
+/// The most pairs in each quarter of a run. Extremes have no bound to keep, and reading begins anew at each run.
+fn most_quarter<F: Function>() -> usize
+    ensures { 0 < result }
+{
+    match F::FUNCTION {
+        ScalarFunction::Ceiling | ScalarFunction::Floor => 8 * MOST_QUARTER,
+        _ => MOST_QUARTER,
     }
 }
 
@@ -155,7 +163,7 @@ pub(crate) fn fold_neighbours<F: Function>(
     let mut total = total;
     let mut rest = count;
     while rest >= 8 {
-        let quarter = (rest / 8).min(MOST_QUARTER);
+        let quarter = (rest / 8).min(most_quarter::<F>());
         rest -= 8 * quarter;
         match fold_run::<F>(numbers, first + rest, quarter, total) {
             Ok(number) => total = number,
