@@ -69,8 +69,8 @@ pub(crate) trait Foldable: ElementType {
         requires most { length elements.now ≤ MOST_PLACES }
         ensures { result ≡ folded_onto F.FUNCTION (element_along (map Self.elem_of elements.now) first stride) 0 count (Ok total) };
 
-    /// Folds the items of `count` more rows on the left into the totals, in one pass over the totals. It says whether no place has a fault, or
-    /// may have one.
+    /// Folds the items of `count` more rows on the left into the totals, in one pass over the totals. It says whether no place has a fault,
+    /// or may have one.
     fn fold_pass<F: Function>(
         elements: &[Self],
         first: usize,

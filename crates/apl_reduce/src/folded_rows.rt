@@ -108,8 +108,8 @@ impl Doubts {
     }
 }
 
-/// A likely fold of `count` numbers that are `stride` apart from place `first` on, onto what those after them gave, and the doubts whether it
-/// is that. Each result is judged. It has no branches if likely results have none.
+/// A likely fold of `count` numbers that are `stride` apart from place `first` on, onto what those after them gave, and the doubts whether
+/// it is that. Each result is judged. It has no branches if likely results have none.
 #[inline(always)]
 fn judged_onto<F: Function, T: Numeric>(
     numbers: &[T],
@@ -211,7 +211,8 @@ pub(crate) fn fold_each<F: Function, T: ElementType>(
     true
 }
 
-/// Folds the numbers of `count` more rows on the left into the totals, by likely results if these are quick. It says whether no place has a fault.
+/// Folds the numbers of `count` more rows on the left into the totals, by likely results if these are quick. It says whether no place
+/// has a fault.
 #[inline(always)]
 pub(crate) fn fold_number_rows<F: Function, T: Numeric>(
     numbers: &[T],

@@ -416,7 +416,8 @@ fn fill_inner_elements<W: Crew>(
 
 /// `A f.g B`, inner product: the reduction by `f` of `g` of the items along the last axis of `A` and the first axis of `B`.
 /// Shape: that of `A` without its last axis, then that of `B` without its first. A scalar or a vector of one element serves all items.
-/// Errors in order: LENGTH of the items, LIMIT of the shape, then that of the least index list. There the items by `g` come before the fold by `f`.
+/// Errors in order: LENGTH of the items, LIMIT of the shape, then that of the least index list. There the items by `g` come before the
+/// fold by `f`.
 /// Source: APL\360 User's Manual, inner product; the order of errors is this calculator's own.
 pub fn inner<R: Threads + Sync, C: Cut + Sync, G: Gate + Sync>(
     rt: &R,

@@ -65,8 +65,8 @@ impl LineRows<'_> {
         true
     }
 
-    /// Puts the folds of the products of all rows in neighbouring columns in place of the totals, each step judged. It says whether no column
-    /// has a fault.
+    /// Puts the folds of the products of all rows in neighbouring columns in place of the totals, each step judged. It says whether no
+    /// column has a fault.
     pub(crate) fn put_folds(&self, column: usize, totals: &mut [i64]) -> bool
         requires within { (k : ℕ) → k < length self.now.line.now → column + k * self.now.stride + length totals.old ≤ length self.now.right.now }
         ensures folds { let s = self.now in

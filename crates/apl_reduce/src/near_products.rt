@@ -77,8 +77,8 @@ impl NearProducts<'_> {
         (sum, bits)
     }
 
-    /// Adds the products of the next `count` rows to the totals of neighbouring columns. It says whether all numbers of these rows are near 0.
-    /// The loop has no branches. If `count` is constant, a processor does several columns at once.
+    /// Adds the products of the next `count` rows to the totals of neighbouring columns. It says whether all numbers of these rows are near
+    /// 0. The loop has no branches. If `count` is constant, a processor does several columns at once.
     #[inline(always)]
     fn add_rows(&self, column: usize, row: usize, count: usize, totals: &mut [i64]) -> bool
         requires rows { row + count ≤ length self.now.line.now }
@@ -97,8 +97,8 @@ impl NearProducts<'_> {
         bits < 2 * self.near
     }
 
-    /// Puts the sums of the products of all rows in neighbouring columns in place of the totals. It says whether all numbers of the rows are
-    /// near 0, and so these are the sums.
+    /// Puts the sums of the products of all rows in neighbouring columns in place of the totals. It says whether all numbers of the rows
+    /// are near 0, and so these are the sums.
     pub(crate) fn put_sums(&self, column: usize, totals: &mut [i64]) -> bool
         requires within { (k : ℕ) → k < length self.now.line.now → column + k * self.now.stride + length totals.old ≤ length self.now.right.now }
         ensures sums { let s = self.now in

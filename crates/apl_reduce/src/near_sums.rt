@@ -90,8 +90,8 @@ impl NearSum {
         }
     }
 
-    /// What pairs add to a total by `-`, if these are the sums of their first numbers and of their second ones. Each second number is turned
-    /// once, and the total twice.
+    /// What pairs add to a total by `-`, if these are the sums of their first numbers and of their second ones. Each second number is
+    /// turned once, and the total twice.
     #[inline(always)]
     fn less(&self, seconds: &NearSum) -> NearSum
         ensures { (numbers : List ℤ) (first pairs : ℕ) → pairs ≤ MOST_PAIRS → IsSum numbers first 2 pairs self.now → IsSum numbers (first + 1) 2 pairs seconds.now
@@ -105,8 +105,8 @@ impl NearSum {
     }
 }
 
-/// The sums of four runs of neighbours. A turn takes a number of each run. The loop has no branches, and a processor adds several numbers at
-/// once.
+/// The sums of four runs of neighbours. A turn takes a number of each run. The loop has no branches, and a processor adds several numbers
+/// at once.
 fn four_sums(numbers: &[i64], starts: Four<usize>, count: usize) -> Four<NearSum>
     requires within { AreRuns starts count (length numbers.now) }
     requires few { count ≤ MOST_NUMBERS }

@@ -1,4 +1,5 @@
-//! Inner products `+.×` of few lines and a matrix of several columns, row by row: the right argument is read once for each line, as it lies.
+//! Inner products `+.×` of few lines and a matrix of several columns, row by row. The right argument is read as it lies, once
+//! for each line.
 ghost use Rattle.std.specs.Prelude.{◌≡◌, ℕ, pos, ◌+◌, ◌*◌, ◌/◌, ◌%◌, ◌^◌, ◌<◌, ◌≤◌, true, length, map, slice_index_or};
 ghost use Rattle.apl_array.specs.declared.array.Elem.TheVariants.{Int};
 ghost use Rattle.apl_array.specs.declared.function.ScalarFunction.TheVariants.{Plus as PlusNamed, Times as TimesNamed};
@@ -119,8 +120,8 @@ impl<'a> ProductRows<'a> {
         }
     }
 
-    /// Puts the sums of the products of a line and of rows in neighbouring columns in place of the totals. It says whether all numbers are near
-    /// 0, and so these are the sums.
+    /// Puts the sums of the products of a line and of rows in neighbouring columns in place of the totals. It says whether all numbers are
+    /// near 0, and so these are the sums.
     fn put_sums(&self, rows: &LineRows<'_>, column: usize, totals: &mut [i64]) -> bool
         requires len { length rows.now.line.now ≡ self.now.items.layout.now.items }
         requires within { (k : ℕ) → k < length rows.now.line.now → column + k * rows.now.stride + length totals.old ≤ length rows.now.right.now }
@@ -140,8 +141,8 @@ impl<'a> ProductRows<'a> {
         products.put_sums(column, totals)
     }
 
-    /// Puts the sums at the places from `from` on, all of them in a line, in place of the totals: as if all numbers were near 0, and anew if
-    /// one is not. It says whether no place has a fault.
+    /// Puts the sums at the places from `from` on, all of them in a line, in place of the totals: as if all numbers were near 0, and anew
+    /// if one is not. It says whether no place has a fault.
     fn put_run(&self, from: usize, totals: &mut [i64]) -> bool
         requires some { 0 < length totals.old }
         requires within { from + length totals.old ≤ self.now.items.layout.now.count }

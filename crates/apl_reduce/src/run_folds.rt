@@ -59,7 +59,8 @@ fn near_folds(changes: Four<NearSum>, totals: Four<i64>) -> Option<Four<i64>>
     })
 }
 
-/// The folds of four runs of pairs of neighbours onto their totals at once, unless one is in doubt, or this is not quicker, as of long runs.
+/// The folds of four runs of pairs of neighbours onto their totals at once, unless one is in doubt, or this is not quicker, as of long
+/// runs.
 #[inline(always)]
 pub(crate) fn quick_folds<F: Function>(
     numbers: &[i64],

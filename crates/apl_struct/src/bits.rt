@@ -22,8 +22,8 @@ pub(crate) fn push_times(table: &mut Vec<u32>, index: u32, times: usize)
     }
 }
 
-/// Puts the indexes of the ones from `from` up to before `to` into a table, after those of the ones before them. What is put at the index of
-/// a zero is written over by the next, so no jump depends on a truth value, which no processor can foresee.
+/// Puts the indexes of the ones from `from` up to before `to` into a table, after those of the ones before them. What is put at the index
+/// of a zero is written over by the next, so no jump depends on a truth value, which no processor can foresee.
 #[inline(always)]
 fn keep_up_to(truths: &[bool], from: usize, to: usize, table: &mut Vec<u32>)
     requires order { from ≤ to }

@@ -185,7 +185,8 @@ fn replicate_all<W: Crew>(
 }
 
 /// `A/B`, compress and replicate: each index of an axis as often as its number in `A` says, in order.
-/// Shape: that of `B`, where the axis has the sum of `A`. One number serves all indexes, and a scalar `B` serves as a vector of `A`'s count.
+/// Shape: that of `B`, where the axis has the sum of `A`. One number serves all indexes, and a scalar `B` serves as a vector of
+/// `A`'s count.
 /// Errors in order: INDEX of the axis, RANK of `A`, LENGTH, DOMAIN of its kind and its numbers, LIMIT.
 /// Source: APL\360 User's Manual, compression; numbers other than 0 and 1, and the order of errors, are this calculator's own.
 pub fn compress<R: Threads + Sync, C: Cut + Sync, G: Gate + Sync>(

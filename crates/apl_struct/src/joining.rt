@@ -238,7 +238,8 @@ fn join_along<W: Crew>(
 }
 
 /// `A,B`, catenate: the slices of `A` along an axis, then those of `B`.
-/// Shape: that of the argument of higher rank, where the axis has both lengths. A scalar, and an argument of a rank lower by one, is one slice.
+/// Shape: that of the argument of higher rank, where the axis has both lengths. A scalar, and an argument of a rank lower by one, is one
+/// slice.
 /// Errors in order: INDEX of the axis, RANK, LENGTH of the other axes, DOMAIN of the kinds, LIMIT.
 /// Source: APL\360 User's Manual, catenation of vectors; ISO 8485:1989, along an axis; the order of errors is this calculator's own.
 pub fn catenate<R: Threads + Sync, C: Cut + Sync, G: Gate + Sync>(
