@@ -1,4 +1,7 @@
-use Rattle.std.proofs.Common.{◌+◌, rules}
+use Rattle.std.proofs.Common.{◌≡◌, ◌+◌, ℤ, Ok, map, sym, ap, subst, ◌∙◌, arith, rules}
+use Rattle.apl_array.specs.declared.array.Elem.TheVariants.{Int}
+use Rattle.apl_reduce.specs.Folded.{folded_onto}
+use Rattle.apl_reduce.specs.Items.{item_in}
 use Rattle.apl_reduce.proofs.ExtremeFolds.{one_more, of_both}
 use Rattle.apl_reduce.proofs.extreme_folds.extreme_onto.Goals as goal
 
@@ -14,5 +17,13 @@ loop-k-preserved g c =
 pub returns : goal.returns
 returns g c =
     let f = g.E.Extreme.function in
-    let joined = of_both f g.E.Extreme.of_two c.of_two.ensures.laws c.args.numbers.now c.args.first c.args.half c.args.total _ _ in
-    search rules
+    let numbers = c.args.numbers.now in
+    let item = item_in (map Int numbers) in
+    let first = c.args.first in
+    let half = c.args.half in
+    let total = c.args.total in
+    let done : c.loop-k.k ≡ half = omega (arith, c.loop-k-test.false, c.loop-k.auto.k-end) in
+    let low = subst (λ n. folded_onto f item first n (Ok total) ≡ Ok c.loop-k.low) done c.loop-k.invariant.low in
+    let high = subst (λ n. folded_onto f item (first + half) n (Ok total) ≡ Ok c.loop-k.high) done c.loop-k.invariant.high in
+    of_both f g.E.Extreme.of_two c.of_two.ensures.laws numbers first half total c.loop-k.low c.loop-k.high low high
+    ∙ ap (λ (z : ℤ). Ok z) (sym c.of_two.ensures.value)
