@@ -1,4 +1,4 @@
-use Rattle.std.proofs.Common.{◌≡◌, ◌+◌, ℤ, Ok, map, sym, ap, subst, ◌∙◌, arith, rules}
+use Rattle.std.proofs.Common.{◌≡◌, ◌+◌, ℤ, Ok, map, to_z, of_z, w64, sym, ap, subst, ◌∙◌, arith, rules}
 use Rattle.apl_array.specs.declared.array.Elem.TheVariants.{Int}
 use Rattle.apl_reduce.specs.Folded.{folded_onto}
 use Rattle.apl_reduce.specs.Items.{item_in}
@@ -22,8 +22,11 @@ returns g c =
     let first = c.args.first in
     let half = c.args.half in
     let total = c.args.total in
+    let read : to_z w64 (of_z w64 total) ≡ total = search rules in
     let done : c.loop-k.k ≡ half = omega (arith, c.loop-k-test.false, c.loop-k.auto.k-end) in
-    let low = subst (λ n. folded_onto f item first n (Ok total) ≡ Ok c.loop-k.low) done c.loop-k.invariant.low in
-    let high = subst (λ n. folded_onto f item (first + half) n (Ok total) ≡ Ok c.loop-k.high) done c.loop-k.invariant.high in
-    of_both f g.E.Extreme.of_two c.of_two.ensures.laws numbers first half total c.loop-k.low c.loop-k.high low high
+    let low = subst (λ n. folded_onto f item first n (Ok (to_z w64 (of_z w64 total))) ≡ Ok c.loop-k.low) done c.loop-k.invariant.low in
+    let high = subst (λ n. folded_onto f item (first + half) n (Ok (to_z w64 (of_z w64 total))) ≡ Ok c.loop-k.high) done c.loop-k.invariant.high in
+    let of_low = subst (λ (z : ℤ). folded_onto f item first half (Ok z) ≡ Ok c.loop-k.low) read low in
+    let of_high = subst (λ (z : ℤ). folded_onto f item (first + half) half (Ok z) ≡ Ok c.loop-k.high) read high in
+    of_both f g.E.Extreme.of_two c.of_two.ensures.laws numbers first half total c.loop-k.low c.loop-k.high of_low of_high
     ∙ ap (λ (z : ℤ). Ok z) (sym c.of_two.ensures.value)
