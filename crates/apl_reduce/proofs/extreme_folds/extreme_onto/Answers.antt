@@ -24,9 +24,11 @@ returns g c =
     let total = c.args.total in
     let read : to_z w64 (of_z w64 total) ≡ total = search rules in
     let done : c.loop-k.k ≡ half = omega (arith, c.loop-k-test.false, c.loop-k.auto.k-end) in
-    let low = subst (λ n. folded_onto f item first n (Ok (to_z w64 (of_z w64 total))) ≡ Ok c.loop-k.low) done c.loop-k.invariant.low in
-    let high = subst (λ n. folded_onto f item (first + half) n (Ok (to_z w64 (of_z w64 total))) ≡ Ok c.loop-k.high) done c.loop-k.invariant.high in
-    let of_low = subst (λ (z : ℤ). folded_onto f item first half (Ok z) ≡ Ok c.loop-k.low) read low in
-    let of_high = subst (λ (z : ℤ). folded_onto f item (first + half) half (Ok z) ≡ Ok c.loop-k.high) read high in
-    of_both f g.E.Extreme.of_two c.of_two.ensures.laws numbers first half total c.loop-k.low c.loop-k.high of_low of_high
+    let x = to_z w64 c.loop-k.low-bits in
+    let y = to_z w64 c.loop-k.high-bits in
+    let low = subst (λ n. folded_onto f item first n (Ok (to_z w64 (of_z w64 total))) ≡ Ok x) done c.loop-k.invariant.low in
+    let high = subst (λ n. folded_onto f item (first + half) n (Ok (to_z w64 (of_z w64 total))) ≡ Ok y) done c.loop-k.invariant.high in
+    let of_low = subst (λ (z : ℤ). folded_onto f item first half (Ok z) ≡ Ok x) read low in
+    let of_high = subst (λ (z : ℤ). folded_onto f item (first + half) half (Ok z) ≡ Ok y) read high in
+    of_both f g.E.Extreme.of_two c.of_two.ensures.laws numbers first half total x y of_low of_high
     ∙ ap (λ (z : ℤ). Ok z) (sym c.of_two.ensures.value)
