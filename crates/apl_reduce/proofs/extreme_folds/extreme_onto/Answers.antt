@@ -30,5 +30,5 @@ returns g c =
     let high = subst (λ n. folded_onto f item (first + half) n (Ok (to_z w64 (of_z w64 total))) ≡ Ok y) done c.loop-k.invariant.high in
     let of_low = subst (λ (z : ℤ). folded_onto f item first half (Ok z) ≡ Ok x) read low in
     let of_high = subst (λ (z : ℤ). folded_onto f item (first + half) half (Ok z) ≡ Ok y) read high in
-    of_both f g.E.Extreme.of_two c.of_two.ensures.laws numbers first half total x y of_low of_high
-    ∙ ap (λ (z : ℤ). Ok z) (sym c.of_two.ensures.value)
+    let joined = of_both f g.E.Extreme.of_two c.of_two.ensures.laws numbers first half total x y of_low of_high in
+    search rules
