@@ -16,7 +16,7 @@ pub(crate) fn write_same<T: Copy>(value: T, count: usize, room: &mut [T])
 }
 
 /// From so many neighbours up to `MOST_COPIED` the C library's copy is quicker than a loop.
-const FEWEST_COPIED: usize = 16;
+const FEWEST_COPIED: usize = 64;
 
 const MOST_COPIED: usize = 256;
 

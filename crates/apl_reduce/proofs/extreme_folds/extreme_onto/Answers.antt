@@ -1,4 +1,4 @@
-use Rattle.std.proofs.Common.{◌≡◌, ◌+◌, ℤ, Ok, map, to_z, of_z, w64, sym, ap, subst, ◌∙◌, arith, rules}
+use Rattle.std.proofs.Common.{◌≡◌, ◌+◌, ℤ, Ok, map, to_z, of_z, w64, subst, arith, rules}
 use Rattle.apl_array.specs.declared.array.Elem.TheVariants.{Int}
 use Rattle.apl_reduce.specs.Folded.{folded_onto}
 use Rattle.apl_reduce.specs.Items.{item_in}
