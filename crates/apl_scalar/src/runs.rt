@@ -40,6 +40,9 @@ pub trait Results: Copy {
 
     /// Whether the likely results have no branches, so that a run of them is quick.
     fn have_runs() -> bool;
+
+    /// Whether a doubt is a fault. Then no results after it are needed.
+    fn doubts_are_faults() -> bool;
 }
 
 /// Writes the likely results into the room for the places from `from` on. It answers the doubts whether they are right.
@@ -166,8 +169,21 @@ fn write_halves<P: Results, H: HeldRuns>(
     all_doubts == 0
 }
 
-/// Writes a run of likely results into the room for the places from `from` on. It answers whether all are sure. Numbers at the front go in
-/// one stream: those of a short array are in a processor's caches, which give one stream faster than two.
+/// How many blocks of each half of a run are written in turn. Numbers at the front have none: those of a short array are in a processor's
+/// caches, which give one stream faster than two.
+#[inline(always)]
+fn blocks_of_half<H: HeldRuns>(from: usize, count: usize) -> usize
+    requires most { from + count ≤ MOST_PLACES }
+    ensures within { result * H.block * 2 ≤ count }
+{
+    let size = H::block_places();
+    if size == 1 && from + count <= LONGEST_RUN {
+        return 0;
+    }
+    count / (size * 2)
+}
+
+/// Writes a run of likely results into the room for the places from `from` on. It answers whether all are sure.
 #[inline(always)]
 fn write_run<P: Results, H: HeldRuns>(results: P, from: usize, count: usize, room: &mut [H]) -> bool
     requires places { from + count ≤ P.served results }
@@ -176,12 +192,8 @@ fn write_run<P: Results, H: HeldRuns>(results: P, from: usize, count: usize, roo
     ensures values { result ≡ true → AreWritten (λ place. H.held (P.outcome results place)) from (from + count) room.new }
     ensures len { length room.new ≡ length room.old }
 {
-    let size = H::block_places();
-    if size == 1 && from + count <= LONGEST_RUN {
-        return write_likely(results, from, count, room) == 0;
-    }
-    let blocks = count / (size * 2);
-    let done = blocks * size * 2;
+    let blocks = blocks_of_half::<H>(from, count);
+    let done = blocks * H::block_places() * 2;
     write_halves(results, from, blocks, room)
         && write_likely(results, from + done, count - done, &mut room[done..]) == 0
 }
@@ -275,7 +287,7 @@ fn write_sure_runs<P: Results, H: HeldRuns>(
 
 /// Writes results into the room for the places from `from` up to before `to`. It answers the place at which it stopped: that of a fault, or
 /// where a run ends. If one result of the first run is not sure, the results up to `to` are written one by one, since the next runs tend to
-/// be like this one. Results that have no quick runs are written one by one too.
+/// be like this one. Results that have no quick runs are written one by one too. Where these may be many, a turn of the loop writes several.
 #[inline(always)]
 pub(crate) fn write_results<P: Results, H: HeldRuns>(
     results: P,
@@ -296,6 +308,9 @@ pub(crate) fn write_results<P: Results, H: HeldRuns>(
         let done = write_sure_runs(results, from, to - from, room);
         if done > 0 {
             return from + done;
+        }
+        if P::doubts_are_faults() {
+            return write_some(results, from, 0, to - from, room);
         }
     }
     write_before_fault(results, from, to - from, room)
