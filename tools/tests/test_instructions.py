@@ -55,6 +55,7 @@ class Words(unittest.TestCase):
             (["/"], "/ is no program"),
             ([str(TOP / "aplcalc")], "aplcalc is a script"),
             ([PROGRAM, "A+A", "A?B"], "there is no row 'A?B'; the rows are A+A; A-A;"),
+            ([PROGRAM, "--jobs", "2", "A?B"], "there is no row 'A?B'; the rows are A+A; A-A;"),
         ]:
             with self.subTest(words):
                 run = asked(*words)

@@ -77,6 +77,7 @@ class Words(unittest.TestCase):
             (["/nowhere"], "/nowhere is no program"),
             (["/"], "/ is no program"),
             ([PROGRAM, "A?B"], "there is no row 'A?B'"),
+            ([PROGRAM, "--starts", "3", "A?B"], "there is no row 'A?B'"),
         ]:
             with self.subTest(words):
                 run = asked(*words)
