@@ -70,6 +70,7 @@ const BLOCK: usize = 16;
 pub trait HeldRuns: Held {
     ghost use Rattle.std.specs.Prelude.{◌≡◌, ℕ, ◌+◌, ◌<◌, ◌≤◌, length};
     ghost use Rattle.apl_pool.specs.declared.kernel.TheConstants.{MOST_PLACES};
+    ghost use Rattle.apl_pool.specs.Runs.{AreWritten};
     ghost use Rattle.apl_scalar.specs.declared.runs.TheConstants.{BLOCK};
     ghost use Rattle.apl_scalar.specs.Runs.{HasPart, DiffersIn};
 
@@ -94,6 +95,23 @@ pub trait HeldRuns: Held {
         ensures values { result ≡ 0 → HasPart (λ place. Self.held (P.outcome results place)) from done block room.new }
         ensures others { DiffersIn done block room.old room.new }
         ensures len { length room.new ≡ length room.old };
+
+    /// Writes the likely results of a run of `count` places from `from` on, of which the first `done` are written. It answers the doubts
+    /// whether they are right. It takes no memory.
+    fn write_rest<P: Results>(
+        results: P,
+        from: usize,
+        done: usize,
+        count: usize,
+        room: &mut [Self],
+    ) -> u64
+        requires order { done ≤ count }
+        requires places { from + count ≤ P.served results }
+        requires most { from + count ≤ MOST_PLACES }
+        requires room { count ≤ length room.old }
+        requires before { AreWritten (λ place. Self.held (P.outcome results place)) from (from + done) room.old }
+        ensures values { result ≡ 0 → AreWritten (λ place. Self.held (P.outcome results place)) from (from + count) room.new }
+        ensures len { length room.new ≡ length room.old };
 }
 
 impl HeldRuns for i64 {
@@ -114,6 +132,17 @@ impl HeldRuns for i64 {
         let (value, doubts) = results.likely_at(from + done);
         room[done] = value;
         doubts
+    }
+
+    #[inline(always)]
+    fn write_rest<P: Results>(
+        results: P,
+        from: usize,
+        done: usize,
+        count: usize,
+        room: &mut [i64],
+    ) -> u64 {
+        write_likely(results, from + done, count - done, &mut room[done..])
     }
 }
 
@@ -141,6 +170,27 @@ impl HeldRuns for bool {
             room[done + k] = block[k];
         }
         doubts
+    }
+
+    /// The last block ends where the run does, and what it has in common with the one before it is written twice. A run of less than a block
+    /// is in doubt.
+    #[inline(always)]
+    fn write_rest<P: Results>(
+        results: P,
+        from: usize,
+        done: usize,
+        count: usize,
+        room: &mut [bool],
+    ) -> u64 {
+        if count < BLOCK {
+            return 1;
+        }
+        let mut all_doubts = 0;
+        for k in 0..(count - done + (BLOCK - 1)) / BLOCK {
+            let first = (done + k * BLOCK).min(count - BLOCK);
+            all_doubts |= Self::write_block(results, from, first, room);
+        }
+        all_doubts
     }
 }
 
@@ -195,7 +245,7 @@ fn write_run<P: Results, H: HeldRuns>(results: P, from: usize, count: usize, roo
     let blocks = blocks_of_half::<H>(from, count);
     let done = blocks * H::block_places() * 2;
     write_halves(results, from, blocks, room)
-        && write_likely(results, from + done, count - done, &mut room[done..]) == 0
+        && H::write_rest(results, from, done, count, room) == 0
 }
 
 /// How many results are written in one turn of a loop.
