@@ -28,7 +28,6 @@ use apl_divisor::Divisor;
 use apl_pool::{Crew, Fault, Kernel, Stop, fill};
 use apl_scalar::function_types::Function;
 use apl_scalar::with_type;
-use std::marker::PhantomData;
 
 /// The items along an axis of an array, two and more at each place of a result with elements.
 #[derive(Drop)]
@@ -129,22 +128,120 @@ impl<T> AxisItems<'_, T> {
     }
 }
 
-/// The folds of the items at each place.
-#[derive(Drop)]
-struct AxisFolds<'a, T, F> {
-    axis: &'a AxisItems<'a, T>,
-    function: PhantomData<F>,
+impl<T: Foldable> AxisItems<'_, T> {
+    /// Puts the folds at the places from `from` on, all of them in a row, in place of the totals. It says whether no place has a fault, or
+    /// may have one.
+    #[inline(always)]
+    fn fold_with<F: Function>(&self, doubts: Doubts, from: usize, totals: &mut [i64]) -> bool
+        requires some { 0 < length totals.old }
+        requires within { from + length totals.old ≤ self.now.count }
+        requires row { from % self.now.inner + length totals.old ≤ self.now.inner }
+        ensures values { let a = self.now in
+            result ≡ true → AreWritten (fold_at F.FUNCTION (map T.elem_of a.elements.now) a.items a.block a.inner) from (from + length totals.old) totals.new }
+        ensures len { length totals.new ≡ length totals.old }
+    {
+        let stride = self.inner.number();
+        let first = self.first_item(from);
+        let more = self.items - 2;
+        let last = first + more * stride;
+        let left = from_place(self.elements, last);
+        let right = from_place(self.elements, last + stride);
+        fold_last_rows::<F, T>(left, right, totals)
+            && fold_rows::<F, T>(self.elements, first, stride, more, doubts, totals)
+    }
+
+    /// The same: as if all numbers were near 0, if that is quicker, and anew if one is not.
+    fn fold_run<F: Function>(&self, from: usize, totals: &mut [i64]) -> bool
+        requires some { 0 < length totals.old }
+        requires within { from + length totals.old ≤ self.now.count }
+        requires row { from % self.now.inner + length totals.old ≤ self.now.inner }
+        ensures values { let a = self.now in
+            result ≡ true → AreWritten (fold_at F.FUNCTION (map T.elem_of a.elements.now) a.items a.block a.inner) from (from + length totals.old) totals.new }
+        ensures len { length totals.new ≡ length totals.old }
+    {
+        (has_near_rows::<F>() && self.fold_with::<F>(Doubts::Numbers, from, totals))
+            || self.fold_with::<F>(Doubts::Results, from, totals)
+    }
+
+    /// Writes the folds at four places, the items of each of which are neighbours. It answers the place after them, or `from` if it
+    /// wrote none.
+    fn write_lines<F: Function>(&self, from: usize, to: usize, room: &mut [i64]) -> usize
+        requires order { from ≤ to }
+        requires places { to ≤ self.now.count }
+        requires room { from + length room.old ≡ to }
+        requires near { self.now.inner ≡ 1 }
+        ensures order { from ≤ result }
+        ensures within { result ≤ to }
+        ensures values { let a = self.now in
+            AreWritten (fold_at F.FUNCTION (map T.elem_of a.elements.now) a.items a.block a.inner) from result room.new }
+        ensures len { length room.new ≡ length room.old }
+    {
+        if to - from < 4 {
+            return from;
+        }
+        match fold_lines::<F, T>(self.elements, self.four_lines(from), self.items) {
+            Some(folds) => {
+                put_four(folds, room);
+                from + 4
+            }
+            None => from,
+        }
+    }
 }
 
-impl<T: Foldable, F: Function> Kernel for AxisFolds<'_, T, F> {
+/// The fold of the items at a place.
+fn fold_place<F: Function, T: Foldable>(axis: &AxisItems<T>, place: usize) -> Result<i64, Fault>
+    requires { place < axis.now.count }
+    ensures { let a = axis.now in result ≡ fold_at F.FUNCTION (map T.elem_of a.elements.now) a.items a.block a.inner place }
+{
+    let stride = axis.inner.number();
+    fold_along::<F, T>(axis.elements, axis.first_item(place), stride, axis.items)
+}
+
+/// Writes the folds at some places from `from` on: of a row of them, or of four whose items are neighbours. It answers the place after them,
+/// or `from` if it wrote none.
+fn write_folds<F: Function, T: Foldable>(
+    axis: &AxisItems<T>,
+    from: usize,
+    to: usize,
+    room: &mut [i64],
+) -> usize
+    requires order { from ≤ to }
+    requires places { to ≤ axis.now.count }
+    requires room { from + length room.old ≡ to }
+    ensures order { from ≤ result }
+    ensures within { result ≤ to }
+    ensures values { let a = axis.now in
+        AreWritten (fold_at F.FUNCTION (map T.elem_of a.elements.now) a.items a.block a.inner) from result room.new }
+    ensures len { length room.new ≡ length room.old }
+{
+    if axis.inner.number() == 1 {
+        return axis.write_lines::<F>(from, to, room);
+    }
+    let len = axis.run_length(from, to);
+    if len == 0 || !axis.fold_run::<F>(from, &mut room[..len]) {
+        return from;
+    }
+    from + len
+}
+
+/// The folds of the items at each place. The function is chosen anew for each run of places, so that a pass of the pool is compiled once for
+/// all functions.
+#[derive(Drop)]
+struct AxisFolds<'a, T> {
+    f: ScalarFunction,
+    axis: &'a AxisItems<'a, T>,
+}
+
+impl<T: Foldable> Kernel for AxisFolds<'_, T> {
     ghost use Rattle.std.specs.Prelude.{map};
-    ghost use Rattle.apl_reduce.specs.Folded.{fold_at, number_of_axis};
+    ghost use Rattle.apl_reduce.specs.Folded.{fold_at};
 
     type Out = i64;
 
     ghost place_count = { λ k. k.axis.now.count };
 
-    ghost outcome = { λ k place. fold_at F.FUNCTION (map T.elem_of k.axis.now.elements.now) k.axis.now.items k.axis.now.block k.axis.now.inner place };
+    ghost outcome = { λ k place. fold_at k.f (map T.elem_of k.axis.now.elements.now) k.axis.now.items k.axis.now.block k.axis.now.inner place };
 
     fn count(&self) -> usize {
         self.axis.count
@@ -164,86 +261,11 @@ impl<T: Foldable, F: Function> Kernel for AxisFolds<'_, T, F> {
     }
 
     fn at(&self, place: usize) -> Result<i64, Fault> {
-        let axis = self.axis;
-        let stride = axis.inner.number();
-        fold_along::<F, T>(axis.elements, axis.first_item(place), stride, axis.items)
+        with_type!(self.f, fold_place::<F, T>(self.axis, place))
     }
 
     fn write_run(&self, from: usize, to: usize, room: &mut [i64]) -> usize {
-        if self.axis.inner.number() == 1 {
-            return self.write_lines(from, to, room);
-        }
-        let len = self.axis.run_length(from, to);
-        if len == 0 || !self.fold_run(from, &mut room[..len]) {
-            return from;
-        }
-        from + len
-    }
-}
-
-impl<T: Foldable, F: Function> AxisFolds<'_, T, F> {
-    /// Puts the folds at the places from `from` on, all of them in a row, in place of the totals. It says whether no place has a fault, or
-    /// may have one.
-    #[inline(always)]
-    fn fold_with(&self, doubts: Doubts, from: usize, totals: &mut [i64]) -> bool
-        requires some { 0 < length totals.old }
-        requires within { from + length totals.old ≤ self.now.axis.now.count }
-        requires row { from % self.now.axis.now.inner + length totals.old ≤ self.now.axis.now.inner }
-        ensures values { let a = self.now.axis.now in
-            result ≡ true → AreWritten (fold_at F.FUNCTION (map T.elem_of a.elements.now) a.items a.block a.inner) from (from + length totals.old) totals.new }
-        ensures len { length totals.new ≡ length totals.old }
-    {
-        let axis = self.axis;
-        let stride = axis.inner.number();
-        let first = axis.first_item(from);
-        let more = axis.items - 2;
-        let last = first + more * stride;
-        let left = from_place(axis.elements, last);
-        let right = from_place(axis.elements, last + stride);
-        fold_last_rows::<F, T>(left, right, totals)
-            && fold_rows::<F, T>(axis.elements, first, stride, more, doubts, totals)
-    }
-
-    /// The same: as if all numbers were near 0, if that is quicker, and anew if one is not.
-    fn fold_run(&self, from: usize, totals: &mut [i64]) -> bool
-        requires some { 0 < length totals.old }
-        requires within { from + length totals.old ≤ self.now.axis.now.count }
-        requires row { from % self.now.axis.now.inner + length totals.old ≤ self.now.axis.now.inner }
-        ensures values { let a = self.now.axis.now in
-            result ≡ true → AreWritten (fold_at F.FUNCTION (map T.elem_of a.elements.now) a.items a.block a.inner) from (from + length totals.old) totals.new }
-        ensures len { length totals.new ≡ length totals.old }
-    {
-        (has_near_rows::<F>() && self.fold_with(Doubts::Numbers, from, totals))
-            || self.fold_with(Doubts::Results, from, totals)
-    }
-
-    /// Writes the folds at four places, the items of each of which are neighbours. It answers the place after them, or `from` if it
-    /// wrote none.
-    fn write_lines(&self, from: usize, to: usize, room: &mut [i64]) -> usize
-        requires order { from ≤ to }
-        requires places { to ≤ self.now.axis.now.count }
-        requires room { from + length room.old ≡ to }
-        requires near { self.now.axis.now.inner ≡ 1 }
-        ensures order { from ≤ result }
-        ensures within { result ≤ to }
-        ensures values { let a = self.now.axis.now in
-            AreWritten (fold_at F.FUNCTION (map T.elem_of a.elements.now) a.items a.block a.inner) from result room.new }
-        ensures len { length room.new ≡ length room.old }
-    {
-        if to - from < 4 {
-            return from;
-        }
-        match fold_lines::<F, T>(
-            self.axis.elements,
-            self.axis.four_lines(from),
-            self.axis.items,
-        ) {
-            Some(folds) => {
-                put_four(folds, room);
-                from + 4
-            }
-            None => from,
-        }
+        with_type!(self.f, write_folds::<F, T>(self.axis, from, to, room))
     }
 }
 
@@ -272,17 +294,14 @@ impl<T: Numeric> PlacedItems for AxisItems<'_, T> {
     }
 }
 
-fn fill_folds<F: Function + Sync, T: Foldable + Sync, W: Crew>(
+fn fill_folds<T: Foldable + Sync, W: Crew>(
     workers: &W,
+    f: ScalarFunction,
     axis: &AxisItems<T>,
 ) -> Result<Vec<i64>, Stop>
-    ensures { IsFilled (fold_at F.FUNCTION (map T.elem_of axis.now.elements.now) axis.now.items axis.now.block axis.now.inner) axis.now.count result }
+    ensures { IsFilled (fold_at f (map T.elem_of axis.now.elements.now) axis.now.items axis.now.block axis.now.inner) axis.now.count result }
 {
-    let kernel = AxisFolds::<T, F> {
-        axis,
-        function: PhantomData,
-    };
-    fill(workers, &kernel)
+    fill(workers, &AxisFolds { f, axis })
 }
 
 /// The sums of the items at each place, if the workers share the numbers, and no number is far from 0. Then the items of a place are
@@ -319,7 +338,7 @@ pub(crate) fn fill_number_folds<W: Crew>(
     if shares_items(workers, f, axis.count, axis.items) {
         return apl_summary::fold_rows(workers, f, &ItemRows { items: axis });
     }
-    with_type!(f, fill_folds::<F, i64, W>(workers, axis))
+    fill_folds(workers, f, axis)
 }
 
 /// The folds of truth values at each place. If how many are true gives the fold of neighbours, one worker finds it sooner than several.
@@ -334,7 +353,7 @@ pub(crate) fn fill_truth_folds<W: Crew>(
     if !is_quick && shares_items(workers, f, axis.count, axis.items) {
         return apl_summary::fold_rows(workers, f, &ItemRows { items: axis });
     }
-    with_type!(f, fill_folds::<F, bool, W>(workers, axis))
+    fill_folds(workers, f, axis)
 }
 
 /// The folds of characters at each place.
@@ -345,5 +364,5 @@ pub(crate) fn fill_character_folds<W: Crew>(
 ) -> Result<Vec<i64>, Stop>
     ensures { IsFilled (fold_at f (map Chr axis.now.elements.now) axis.now.items axis.now.block axis.now.inner) axis.now.count result }
 {
-    with_type!(f, fill_folds::<F, char, W>(workers, axis))
+    fill_folds(workers, f, axis)
 }

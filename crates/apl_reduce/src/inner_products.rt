@@ -67,7 +67,6 @@ impl<T: ElementType, U: ElementType, F: Dyadic, P: Dyadic> Kernel for Reductions
         self.items.layout.work()
     }
 
-    #[inline(always)]
     fn at(&self, place: usize) -> Result<i64, Fault> {
         let items = self.items.line(place);
         reduced(&items, self.function)
@@ -320,7 +319,7 @@ fn share_lines<T: ElementType + Sync, U: ElementType + Sync, P: Dyadic + Sync, W
 }
 
 /// An inner product of any two arguments, of which the workers share the items of each place. Of the pairings only `×` is compiled on
-/// its own.
+/// its own. One worker does that of numbers and characters, whose items are all alike.
 fn share_inner<W: Crew>(
     workers: &W,
     f: ScalarFunction,
@@ -354,26 +353,8 @@ fn share_inner<W: Crew>(
                 Chosen(g),
             ),
         },
-        (Some(left), None) => {
-            share_lines(
-                workers,
-                layout,
-                left.as_slice(),
-                characters_of(b),
-                f,
-                Chosen(g),
-            )
-        }
-        (None, Some(right)) => {
-            share_lines(
-                workers,
-                layout,
-                characters_of(a),
-                right.as_slice(),
-                f,
-                Chosen(g),
-            )
-        }
+        (Some(left), None) => { chosen(workers, f, g, layout, left.as_slice(), characters_of(b)) }
+        (None, Some(right)) => { chosen(workers, f, g, layout, characters_of(a), right.as_slice()) }
         (None, None) => {
             share_lines(
                 workers,

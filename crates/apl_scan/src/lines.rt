@@ -14,7 +14,6 @@ use apl_pool::{Crew, Fault, Kernel, Stop, fill};
 use apl_scalar::function_types::Function;
 use apl_scalar::with_type;
 use apl_summary::has_summary;
-use std::marker::PhantomData;
 
 /// The numbers of an array, in lines along an axis.
 #[derive(Drop)]
@@ -88,14 +87,22 @@ fn fold_at<F: Function>(lines: &AxisLines, place: usize) -> Result<i64, Fault>
     fold_up_to::<F>(lines.numbers, place, lines.inner.number(), before)
 }
 
-/// The folds up to each place.
-#[derive(Drop)]
-struct PrefixFolds<'a, F> {
-    lines: &'a AxisLines<'a>,
-    function: PhantomData<F>,
+/// The fold up to a place by a scalar function.
+fn fold_by(f: ScalarFunction, lines: &AxisLines, place: usize) -> Result<i64, Fault>
+    requires { place < length lines.now.numbers.now }
+    ensures { result ≡ scan_at (dyadic_numbers f) lines.now.numbers.now lines.now.items lines.now.inner place }
+{
+    with_type!(f, fold_at::<F>(lines, place))
 }
 
-impl<F: Function> Kernel for PrefixFolds<'_, F> {
+/// The folds up to each place.
+#[derive(Drop)]
+struct PrefixFolds<'a> {
+    f: ScalarFunction,
+    lines: &'a AxisLines<'a>,
+}
+
+impl Kernel for PrefixFolds<'_> {
     ghost use Rattle.std.specs.Prelude.{length};
     ghost use Rattle.apl_scalar.specs.Scalar.{dyadic_numbers};
     ghost use Rattle.apl_scan.specs.Lines.{scan_at};
@@ -104,7 +111,7 @@ impl<F: Function> Kernel for PrefixFolds<'_, F> {
 
     ghost place_count = { λ k. length k.lines.now.numbers.now };
 
-    ghost outcome = { λ k place. scan_at (dyadic_numbers F.FUNCTION) k.lines.now.numbers.now k.lines.now.items k.lines.now.inner place };
+    ghost outcome = { λ k place. scan_at (dyadic_numbers k.f) k.lines.now.numbers.now k.lines.now.items k.lines.now.inner place };
 
     fn count(&self) -> usize {
         self.lines.numbers.len()
@@ -116,27 +123,8 @@ impl<F: Function> Kernel for PrefixFolds<'_, F> {
     }
 
     fn at(&self, place: usize) -> Result<i64, Fault> {
-        fold_at::<F>(self.lines, place)
+        fold_by(self.f, self.lines, place)
     }
-}
-
-fn fill_folds<F: Function + Sync, W: Crew>(workers: &W, lines: &AxisLines) -> Result<Vec<i64>, Stop>
-    ensures values { IfOk result (λ v. AreValues (scan_at (dyadic_numbers F.FUNCTION) lines.now.numbers.now lines.now.items lines.now.inner) (length lines.now.numbers.now) v.items) }
-    ensures stop { IfErr result (IsStopOf (scan_at (dyadic_numbers F.FUNCTION) lines.now.numbers.now lines.now.items lines.now.inner) (length lines.now.numbers.now)) }
-{
-    let kernel = PrefixFolds::<F> {
-        lines,
-        function: PhantomData,
-    };
-    fill(workers, &kernel)
-}
-
-/// The fold up to a place by a scalar function.
-fn fold_by(f: ScalarFunction, lines: &AxisLines, place: usize) -> Result<i64, Fault>
-    requires { place < length lines.now.numbers.now }
-    ensures { result ≡ scan_at (dyadic_numbers f) lines.now.numbers.now lines.now.items lines.now.inner place }
-{
-    with_type!(f, fold_at::<F>(lines, place))
 }
 
 /// The folds of numbers along their lines up to each place, each from the place on.
@@ -148,7 +136,7 @@ fn fill_by_places<W: Crew>(
     ensures values { IfOk result (λ v. AreValues (scan_at (dyadic_numbers f) lines.now.numbers.now lines.now.items lines.now.inner) (length lines.now.numbers.now) v.items) }
     ensures stop { IfErr result (IsStopOf (scan_at (dyadic_numbers f) lines.now.numbers.now lines.now.items lines.now.inner) (length lines.now.numbers.now)) }
 {
-    with_type!(f, fill_folds::<F, W>(workers, lines))
+    fill(workers, &PrefixFolds { f, lines })
 }
 
 /// The folds of numbers along their lines up to each place, by a function whose folds have summaries.

@@ -1,11 +1,11 @@
 use Rattle.std.proofs.Common.{ℕ, ◌+◌, ◌*◌, ◌/◌, ◌%◌, ◌<◌, ◌≤◌, length, map, sym, subst, arith}
 use Rattle.apl_reduce.specs.Folded.{fold_at}
 use Rattle.apl_reduce.proofs.FourPlaces.{line_within, line_fold, four_written}
-use Rattle.apl_reduce.proofs.axis_items.AxisFolds.write_lines.Goals as goal
+use Rattle.apl_reduce.proofs.axis_items.AxisItems.write_lines.Goals as goal
 
 pub fold_lines-requires-clause-within : goal.fold_lines-requires-clause-within
 fold_lines-requires-clause-within g c =
-    let axis = c.args.self.now.axis.now in
+    let axis = c.args.self.now in
     let from = c.args.from in
     let starts = c.four_lines.ensures in
     let Fits : ℕ → Type 0 = λ start. start + axis.items ≤ length axis.elements.now in
@@ -20,7 +20,7 @@ fold_lines-requires-clause-within g c =
 
 pub returns-in-Some-clause-values : goal.returns-in-Some-clause-values
 returns-in-Some-clause-values g c =
-    let axis = c.args.self.now.axis.now in
+    let axis = c.args.self.now in
     let from = c.args.from in
     let f = g.F.Function.FUNCTION in
     let elements = map g.T.ElementType.elem_of axis.elements.now in
