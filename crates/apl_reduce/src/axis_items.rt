@@ -198,9 +198,10 @@ fn fold_place<F: Function, T: Foldable>(axis: &AxisItems<T>, place: usize) -> Re
     fold_along::<F, T>(axis.elements, axis.first_item(place), stride, axis.items)
 }
 
-/// Writes the folds at some places from `from` on: of a row of them, or of four whose items are neighbours. It answers the place after them,
-/// or `from` if it wrote none.
-fn write_folds<F: Function, T: Foldable>(
+/// Writes the folds at some places from `from` on at once: of a row of them, or of four whose items are neighbours. It answers the place
+/// after them, or `from` if it wrote none.
+#[inline(always)]
+fn write_run<F: Function, T: Foldable>(
     axis: &AxisItems<T>,
     from: usize,
     to: usize,
@@ -223,6 +224,85 @@ fn write_folds<F: Function, T: Foldable>(
         return from;
     }
     from + len
+}
+
+/// Writes runs of folds from `from` on, up to the first that is empty. It answers the place after them.
+#[inline(always)]
+fn write_runs<F: Function, T: Foldable>(
+    axis: &AxisItems<T>,
+    from: usize,
+    to: usize,
+    room: &mut [i64],
+) -> usize
+    requires order { from ≤ to }
+    requires places { to ≤ axis.now.count }
+    requires room { from + length room.old ≡ to }
+    ensures order { from ≤ result }
+    ensures within { result ≤ to }
+    ensures values { let a = axis.now in
+        AreWritten (fold_at F.FUNCTION (map T.elem_of a.elements.now) a.items a.block a.inner) from result room.new }
+    ensures len { length room.new ≡ length room.old }
+{
+    let mut place = from;
+    loop {
+        let end = write_run::<F, T>(axis, place, to, &mut room[place - from..]);
+        if end == place {
+            return end;
+        }
+        place = end;
+    }
+}
+
+/// Writes the folds at `count` places one by one into the room for those from `from` on, of which it has `done`. It answers the place of the
+/// first fault, or where these end.
+#[inline(always)]
+fn write_places<F: Function, T: Foldable>(
+    axis: &AxisItems<T>,
+    from: usize,
+    done: usize,
+    count: usize,
+    room: &mut [i64],
+) -> usize
+    requires places { from + done + count ≤ axis.now.count }
+    requires room { done + count ≤ length room.old }
+    requires before { let a = axis.now in
+        AreWritten (fold_at F.FUNCTION (map T.elem_of a.elements.now) a.items a.block a.inner) from (from + done) room.old }
+    ensures order { from ≤ result }
+    ensures within { result ≤ from + done + count }
+    ensures values { let a = axis.now in
+        AreWritten (fold_at F.FUNCTION (map T.elem_of a.elements.now) a.items a.block a.inner) from result room.new }
+    ensures len { length room.new ≡ length room.old }
+{
+    for offset in 0..count {
+        let k = done + offset;
+        match fold_place::<F, T>(axis, from + k) {
+            Ok(number) => room[k] = number,
+            Err(_) => return from + k,
+        }
+    }
+    from + done + count
+}
+
+/// Writes the folds at the places from `from` on, up to the first that has a fault: by runs, and after an empty one place by place. So the
+/// function is chosen once for all of them. It answers the place after them.
+#[inline(never)]
+fn write_folds<F: Function, T: Foldable>(
+    axis: &AxisItems<T>,
+    from: usize,
+    to: usize,
+    room: &mut [i64],
+) -> usize
+    requires order { from ≤ to }
+    requires places { to ≤ axis.now.count }
+    requires room { from + length room.old ≡ to }
+    ensures order { from ≤ result }
+    ensures within { result ≤ to }
+    ensures values { let a = axis.now in
+        AreWritten (fold_at F.FUNCTION (map T.elem_of a.elements.now) a.items a.block a.inner) from result room.new }
+    ensures len { length room.new ≡ length room.old }
+{
+    let first = write_runs::<F, T>(axis, from, to, room);
+    write_places::<F, T>(axis, from, first - from, to - first, room)
 }
 
 /// The folds of the items at each place. The function is chosen anew for each run of places, so that a pass of the pool is compiled once for
