@@ -37,4 +37,5 @@ pub use rows::{RowSummaries, Rows};
 pub use schedule::Schedule;
 pub use summary::{LONGEST_RUN, Summary};
 pub use turns::write_each;
+pub use work::write_values;
 pub use workers::{Crew, Workers, fill};

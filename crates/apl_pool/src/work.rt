@@ -1,5 +1,5 @@
 //! What a worker does with a piece and with its share: it writes the values into the room for them.
-ghost use Rattle.std.specs.Prelude.{◌≡◌, ℕ, ◌+◌, ◌<◌, ◌≤◌, ◌^◌, ◌⊎◌, max, OnOk, IfOk, IfErr, length, slice_index, slice_index_or, vec_len};
+ghost use Rattle.std.specs.Prelude.{◌≡◌, ℕ, ◌+◌, ◌<◌, ◌≤◌, ◌^◌, ◌⊎◌, max, OnOk, IfOk, IfErr, IsErr, length, slice_index, slice_index_or, vec_len};
 ghost use Rattle.apl_pool.specs.Parts.{AreValuesFrom, AreValuesAt, IsStopFrom, IsPart};
 ghost use Rattle.apl_pool.specs.Runs.{AreWritten};
 
@@ -26,6 +26,7 @@ pub(crate) fn stop_at(place: usize, fault: Fault) -> Stop
 
 /// Writes the values of the kernel's runs into the room for the places from `from` up to before `to`.
 /// It answers the place at which it stopped.
+#[inline(always)]
 fn write_runs<K: Kernel>(kernel: &K, from: usize, to: usize, room: &mut [K::Out]) -> usize
 where
     K::Out: Copy,
@@ -49,7 +50,8 @@ where
 /// How many places are written before a test whether there are more.
 const TURN: usize = 4;
 
-/// Writes the values at `count` places from `first` on into the room for those from `from` on, one by one.
+/// Writes the values at `count` places from `first` on into the room for those from `from` on, one by one. It answers the place of the first
+/// fault, or where these end.
 #[inline(always)]
 fn write_some<K: Kernel>(
     kernel: &K,
@@ -57,7 +59,7 @@ fn write_some<K: Kernel>(
     first: usize,
     count: usize,
     room: &mut [K::Out],
-) -> Result<(), Stop>
+) -> usize
 where
     K::Out: Copy,
     requires order { from ≤ first }
@@ -65,28 +67,32 @@ where
     requires most { first + count ≤ MOST_PLACES }
     requires room { first + count ≤ from + length room.old }
     requires before { AreWritten (K.outcome kernel.now) from first room.old }
-    ensures ok { OnOk result (AreWritten (K.outcome kernel.now) from (first + count) room.new) }
-    ensures stop { (to : ℕ) → first + count ≤ to → IfErr result (IsStopFrom (K.outcome kernel.now) from to) }
+    ensures order { first ≤ result }
+    ensures within { result ≤ first + count }
+    ensures values { AreWritten (K.outcome kernel.now) from result room.new }
+    ensures fault { result < first + count → IsErr (K.outcome kernel.now result) }
     ensures len { length room.new ≡ length room.old }
 {
     for offset in 0..count {
         let place = first + offset;
         match kernel.at(place) {
             Ok(value) => room[place - from] = value,
-            Err(fault) => return Err(stop_at(place, fault)),
+            Err(_) => return place,
         }
     }
-    Ok(())
+    first + count
 }
 
-/// Writes the values at the places from `first` up to before `to` into the room for those from `from` on.
+/// Writes the values at the places from `first` up to before `to` into the room for those from `from` on, one by one. It answers the place of
+/// the first fault, or where these end.
+#[inline(always)]
 fn write_places<K: Kernel>(
     kernel: &K,
     from: usize,
     first: usize,
     to: usize,
     room: &mut [K::Out],
-) -> Result<(), Stop>
+) -> usize
 where
     K::Out: Copy,
     requires order { from ≤ first }
@@ -95,15 +101,42 @@ where
     requires most { to ≤ MOST_PLACES }
     requires room { from + length room.old ≡ to }
     requires before { AreWritten (K.outcome kernel.now) from first room.old }
-    ensures ok { OnOk result (AreValuesFrom (K.outcome kernel.now) from to room.new) }
-    ensures stop { IfErr result (IsStopFrom (K.outcome kernel.now) from to) }
+    ensures order { first ≤ result }
+    ensures within { result ≤ to }
+    ensures values { AreWritten (K.outcome kernel.now) from result room.new }
+    ensures fault { result < to → IsErr (K.outcome kernel.now result) }
     ensures len { length room.new ≡ length room.old }
 {
     let rest = (to - first) % TURN;
     for turn in 0..(to - first) / TURN {
-        write_some(kernel, from, first + turn * TURN, TURN, room)?;
+        let next = first + turn * TURN;
+        let end = write_some(kernel, from, next, TURN, room);
+        if end < next + TURN {
+            return end;
+        }
     }
     write_some(kernel, from, to - rest, rest, room)
+}
+
+/// Writes the values at the places from `from` up to before `to` into the room for them, up to the first place that has a fault: by runs, and
+/// after an empty run place by place. It answers that place, or `to` if there is none. A kernel that chooses among others lends the one that it
+/// chose to this, so that it chooses once for all these places.
+#[inline(always)]
+pub fn write_values<K: Kernel>(kernel: &K, from: usize, to: usize, room: &mut [K::Out]) -> usize
+where
+    K::Out: Copy,
+    requires places { to ≤ K.place_count kernel.now }
+    requires room { from + length room.old ≡ to }
+    ensures order { from ≤ result }
+    ensures within { result ≤ to }
+    ensures values { AreWritten (K.outcome kernel.now) from result room.new }
+    ensures fault { result < to → IsErr (K.outcome kernel.now result) }
+    ensures len { length room.new ≡ length room.old }
+{
+    // A kernel that was asked for its count is known to have few enough places.
+    let _count = kernel.count();
+    let first = write_runs(kernel, from, to, room);
+    write_places(kernel, from, first, to, room)
 }
 
 /// Puts the values of a piece into the room for them.
@@ -122,8 +155,14 @@ where
     ensures stop { IfErr result (IsStopFrom (K.outcome kernel.now) piece.from piece.to) }
     ensures len { length room.new ≡ length room.old }
 {
-    let first = write_runs(kernel, piece.from, piece.to, room);
-    write_places(kernel, piece.from, first, piece.to, room)
+    let end = write_values(kernel, piece.from, piece.to, room);
+    if end == piece.to {
+        return Ok(());
+    }
+    match kernel.at(end) {
+        Ok(_) => unreachable!(),
+        Err(fault) => Err(stop_at(end, fault)),
+    }
 }
 
 /// Puts the values of a piece at its places in the list.

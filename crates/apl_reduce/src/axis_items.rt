@@ -25,9 +25,10 @@ use apl_array::{
     replaced_index_has_place,
 };
 use apl_divisor::Divisor;
-use apl_pool::{Crew, Fault, Kernel, Stop, fill};
+use apl_pool::{Crew, Fault, Kernel, Stop, fill, write_values};
 use apl_scalar::function_types::Function;
 use apl_scalar::with_type;
+use std::marker::PhantomData;
 
 /// The items along an axis of an array, two and more at each place of a result with elements.
 #[derive(Drop)]
@@ -189,102 +190,62 @@ impl<T: Foldable> AxisItems<'_, T> {
     }
 }
 
+/// The folds of the items at each place, by the function of type `F`.
+#[derive(Drop)]
+struct TypedFolds<'a, T, F> {
+    axis: &'a AxisItems<'a, T>,
+    function: PhantomData<F>,
+}
+
+impl<T: Foldable, F: Function> Kernel for TypedFolds<'_, T, F> {
+    ghost use Rattle.std.specs.Prelude.{map};
+    ghost use Rattle.apl_reduce.specs.Folded.{fold_at};
+
+    type Out = i64;
+
+    ghost place_count = { λ k. k.axis.now.count };
+
+    ghost outcome = { λ k. fold_at F.FUNCTION (map T.elem_of k.axis.now.elements.now) k.axis.now.items k.axis.now.block k.axis.now.inner };
+
+    fn count(&self) -> usize {
+        self.axis.count
+    }
+
+    #[inline(always)]
+    fn at(&self, place: usize) -> Result<i64, Fault> {
+        let axis = self.axis;
+        let stride = axis.inner.number();
+        fold_along::<F, T>(axis.elements, axis.first_item(place), stride, axis.items)
+    }
+
+    /// Of a row of folds, or of four whose items are neighbours.
+    #[inline(always)]
+    fn write_run(&self, from: usize, to: usize, room: &mut [i64]) -> usize {
+        let axis = self.axis;
+        if axis.inner.number() == 1 {
+            return axis.write_lines::<F>(from, to, room);
+        }
+        let len = axis.run_length(from, to);
+        if len == 0 || !axis.fold_run::<F>(from, &mut room[..len]) {
+            return from;
+        }
+        from + len
+    }
+}
+
 /// The fold of the items at a place.
 fn fold_place<F: Function, T: Foldable>(axis: &AxisItems<T>, place: usize) -> Result<i64, Fault>
     requires { place < axis.now.count }
     ensures { let a = axis.now in result ≡ fold_at F.FUNCTION (map T.elem_of a.elements.now) a.items a.block a.inner place }
 {
-    let stride = axis.inner.number();
-    fold_along::<F, T>(axis.elements, axis.first_item(place), stride, axis.items)
+    let folds = TypedFolds::<T, F> {
+        axis,
+        function: PhantomData,
+    };
+    folds.at(place)
 }
 
-/// Writes the folds at some places from `from` on at once: of a row of them, or of four whose items are neighbours. It answers the place
-/// after them, or `from` if it wrote none.
-#[inline(always)]
-fn write_run<F: Function, T: Foldable>(
-    axis: &AxisItems<T>,
-    from: usize,
-    to: usize,
-    room: &mut [i64],
-) -> usize
-    requires order { from ≤ to }
-    requires places { to ≤ axis.now.count }
-    requires room { from + length room.old ≡ to }
-    ensures order { from ≤ result }
-    ensures within { result ≤ to }
-    ensures values { let a = axis.now in
-        AreWritten (fold_at F.FUNCTION (map T.elem_of a.elements.now) a.items a.block a.inner) from result room.new }
-    ensures len { length room.new ≡ length room.old }
-{
-    if axis.inner.number() == 1 {
-        return axis.write_lines::<F>(from, to, room);
-    }
-    let len = axis.run_length(from, to);
-    if len == 0 || !axis.fold_run::<F>(from, &mut room[..len]) {
-        return from;
-    }
-    from + len
-}
-
-/// Writes runs of folds from `from` on, up to the first that is empty. It answers the place after them.
-#[inline(always)]
-fn write_runs<F: Function, T: Foldable>(
-    axis: &AxisItems<T>,
-    from: usize,
-    to: usize,
-    room: &mut [i64],
-) -> usize
-    requires order { from ≤ to }
-    requires places { to ≤ axis.now.count }
-    requires room { from + length room.old ≡ to }
-    ensures order { from ≤ result }
-    ensures within { result ≤ to }
-    ensures values { let a = axis.now in
-        AreWritten (fold_at F.FUNCTION (map T.elem_of a.elements.now) a.items a.block a.inner) from result room.new }
-    ensures len { length room.new ≡ length room.old }
-{
-    let mut place = from;
-    loop {
-        let end = write_run::<F, T>(axis, place, to, &mut room[place - from..]);
-        if end == place {
-            return end;
-        }
-        place = end;
-    }
-}
-
-/// Writes the folds at `count` places one by one into the room for those from `from` on, of which it has `done`. It answers the place of the
-/// first fault, or where these end.
-#[inline(always)]
-fn write_places<F: Function, T: Foldable>(
-    axis: &AxisItems<T>,
-    from: usize,
-    done: usize,
-    count: usize,
-    room: &mut [i64],
-) -> usize
-    requires places { from + done + count ≤ axis.now.count }
-    requires room { done + count ≤ length room.old }
-    requires before { let a = axis.now in
-        AreWritten (fold_at F.FUNCTION (map T.elem_of a.elements.now) a.items a.block a.inner) from (from + done) room.old }
-    ensures order { from ≤ result }
-    ensures within { result ≤ from + done + count }
-    ensures values { let a = axis.now in
-        AreWritten (fold_at F.FUNCTION (map T.elem_of a.elements.now) a.items a.block a.inner) from result room.new }
-    ensures len { length room.new ≡ length room.old }
-{
-    for offset in 0..count {
-        let k = done + offset;
-        match fold_place::<F, T>(axis, from + k) {
-            Ok(number) => room[k] = number,
-            Err(_) => return from + k,
-        }
-    }
-    from + done + count
-}
-
-/// Writes the folds at the places from `from` on, up to the first that has a fault: by runs, and after an empty one place by place. So the
-/// function is chosen once for all of them. It answers the place after them.
+/// Writes the folds at the places from `from` on, up to the first that has a fault. It answers the place after them.
 #[inline(never)]
 fn write_folds<F: Function, T: Foldable>(
     axis: &AxisItems<T>,
@@ -292,7 +253,6 @@ fn write_folds<F: Function, T: Foldable>(
     to: usize,
     room: &mut [i64],
 ) -> usize
-    requires order { from ≤ to }
     requires places { to ≤ axis.now.count }
     requires room { from + length room.old ≡ to }
     ensures order { from ≤ result }
@@ -301,12 +261,15 @@ fn write_folds<F: Function, T: Foldable>(
         AreWritten (fold_at F.FUNCTION (map T.elem_of a.elements.now) a.items a.block a.inner) from result room.new }
     ensures len { length room.new ≡ length room.old }
 {
-    let first = write_runs::<F, T>(axis, from, to, room);
-    write_places::<F, T>(axis, from, first - from, to - first, room)
+    let folds = TypedFolds::<T, F> {
+        axis,
+        function: PhantomData,
+    };
+    write_values(&folds, from, to, room)
 }
 
-/// The folds of the items at each place. The function is chosen anew for each run of places, so that a pass of the pool is compiled once for
-/// all functions.
+/// The folds of the items at each place. The function is chosen once for all places of a piece, so that a pass of the pool is compiled once
+/// for all functions.
 #[derive(Drop)]
 struct AxisFolds<'a, T> {
     f: ScalarFunction,

@@ -293,11 +293,11 @@ fn fill_inner_characters<W: Crew>(
 }
 
 /// The reduction of the items at each place, which the workers share.
-fn share_lines<T: ElementType + Sync, U: ElementType + Sync, P: Dyadic + Sync, W: Crew>(
+fn share_lines<T: ElementType + Sync, P: Dyadic + Sync, W: Crew>(
     workers: &W,
     layout: &Layout,
     left: &[T],
-    right: &[U],
+    right: &[T],
     f: ScalarFunction,
     pairing: P,
 ) -> Result<Vec<i64>, Stop>
@@ -305,7 +305,7 @@ fn share_lines<T: ElementType + Sync, U: ElementType + Sync, P: Dyadic + Sync, W
     requires summary { has_summary f ≡ true }
     requires two { 2 ≤ layout.now.items }
     requires all { layout.now.count * layout.now.items ≤ MOST_PLACES }
-    ensures { IsFilled (inner_number layout.now (map T.elem_of left.now) (map U.elem_of right.now) f (P.function pairing)) layout.now.count result }
+    ensures { IsFilled (inner_number layout.now (map T.elem_of left.now) (map T.elem_of right.now) f (P.function pairing)) layout.now.count result }
 {
     let items = ProductItems {
         layout,
@@ -318,57 +318,47 @@ fn share_lines<T: ElementType + Sync, U: ElementType + Sync, P: Dyadic + Sync, W
     fold_rows(workers, f, &rows)
 }
 
-/// An inner product of any two arguments, of which the workers share the items of each place. Of the pairings only `×` is compiled on
-/// its own. One worker does that of numbers and characters, whose items are all alike.
-fn share_inner<W: Crew>(
+/// An inner product of numbers. The workers share the items of each place, or the places. Of the pairings of shared items only `×` is compiled
+/// on its own.
+fn fill_number_items<W: Crew>(
     workers: &W,
     f: ScalarFunction,
     g: ScalarFunction,
     layout: &Layout,
-    a: &Array,
-    b: &Array,
+    left: &[i64],
+    right: &[i64],
 ) -> Result<Vec<i64>, Stop>
-    requires within { IsWithin layout.now (length a.now.ravel) (length b.now.ravel) }
-    requires summary { has_summary f ≡ true }
-    requires two { 2 ≤ layout.now.items }
-    requires all { layout.now.count * layout.now.items ≤ MOST_PLACES }
-    ensures { IsFilled (inner_number layout.now a.now.ravel b.now.ravel f g) layout.now.count result }
+    requires { IsWithin layout.now (length left.now) (length right.now) }
+    ensures { IsFilled (inner_number layout.now (map Int left.now) (map Int right.now) f g) layout.now.count result }
 {
-    match (numbers_of(workers, a)?, numbers_of(workers, b)?) {
-        (Some(left), Some(right)) => match g {
-            Prim::Times => share_lines(
-                workers,
-                layout,
-                left.as_slice(),
-                right.as_slice(),
-                f,
-                Typed::<Times>(PhantomData),
-            ),
-            _ => share_lines(
-                workers,
-                layout,
-                left.as_slice(),
-                right.as_slice(),
-                f,
-                Chosen(g),
-            ),
-        },
-        (Some(left), None) => { chosen(workers, f, g, layout, left.as_slice(), characters_of(b)) }
-        (None, Some(right)) => { chosen(workers, f, g, layout, characters_of(a), right.as_slice()) }
-        (None, None) => {
-            share_lines(
-                workers,
-                layout,
-                characters_of(a),
-                characters_of(b),
-                f,
-                Chosen(g),
-            )
-        }
+    if !shares_items(workers, f, layout.count, layout.items) {
+        return fill_inner_rows(workers, f, g, layout, left, right);
+    }
+    match g {
+        Prim::Times => { share_lines(workers, layout, left, right, f, Typed::<Times>(PhantomData)) }
+        _ => share_lines(workers, layout, left, right, f, Chosen(g)),
     }
 }
 
-/// An inner product of any two arguments.
+/// An inner product of characters. The workers share the items of each place, or the places.
+fn fill_character_items<W: Crew>(
+    workers: &W,
+    f: ScalarFunction,
+    g: ScalarFunction,
+    layout: &Layout,
+    left: &[char],
+    right: &[char],
+) -> Result<Vec<i64>, Stop>
+    requires { IsWithin layout.now (length left.now) (length right.now) }
+    ensures { IsFilled (inner_number layout.now (map Chr left.now) (map Chr right.now) f g) layout.now.count result }
+{
+    if shares_items(workers, f, layout.count, layout.items) {
+        return share_lines(workers, layout, left, right, f, Chosen(g));
+    }
+    fill_inner_characters(workers, f, g, layout, left, right)
+}
+
+/// An inner product of any two arguments. The items of numbers and characters are all alike, so the workers do not share those of a place.
 fn fill_inner_elements<W: Crew>(
     workers: &W,
     f: ScalarFunction,
@@ -380,17 +370,14 @@ fn fill_inner_elements<W: Crew>(
     requires { IsWithin layout.now (length a.now.ravel) (length b.now.ravel) }
     ensures { IsFilled (inner_number layout.now a.now.ravel b.now.ravel f g) layout.now.count result }
 {
-    if shares_items(workers, f, layout.count, layout.items) {
-        return share_inner(workers, f, g, layout, a, b);
-    }
     match (numbers_of(workers, a)?, numbers_of(workers, b)?) {
         (Some(left), Some(right)) => {
-            fill_inner_rows(workers, f, g, layout, left.as_slice(), right.as_slice())
+            fill_number_items(workers, f, g, layout, left.as_slice(), right.as_slice())
         }
         (Some(left), None) => { chosen(workers, f, g, layout, left.as_slice(), characters_of(b)) }
         (None, Some(right)) => { chosen(workers, f, g, layout, characters_of(a), right.as_slice()) }
         (None, None) => {
-            fill_inner_characters(workers, f, g, layout, characters_of(a), characters_of(b))
+            fill_character_items(workers, f, g, layout, characters_of(a), characters_of(b))
         }
     }
 }

@@ -56,11 +56,6 @@ impl<A: Operand, F: Function + Copy> Results for ElementResults<A, F> {
     fn have_runs() -> bool {
         has_monadic_runs(F::FUNCTION)
     }
-
-    #[inline(always)]
-    fn doubts_are_faults() -> bool {
-        true
-    }
 }
 
 /// The results of a dyadic function of two arguments.
@@ -108,11 +103,6 @@ impl<L: Operand, R: Operand, F: Function + Copy> Results for PairResults<L, R, F
     #[inline(always)]
     fn have_runs() -> bool {
         has_dyadic_runs(F::FUNCTION)
-    }
-
-    #[inline(always)]
-    fn doubts_are_faults() -> bool {
-        !matches!(F::FUNCTION, ScalarFunction::Times | ScalarFunction::Star)
     }
 }
 

@@ -1,5 +1,5 @@
 //! One element with each of others, as in a row of an outer product, and the elements of two lists that meet, as in an inner product.
-ghost use Rattle.std.specs.Prelude.{◌≡◌, ◌≤◌, pos, length, map, slice_index_or};
+ghost use Rattle.std.specs.Prelude.{◌≡◌, ◌<◌, ◌≤◌, pos, IsErr, length, map, slice_index_or};
 ghost use Rattle.apl_array.specs.declared.array.Elem.TheVariants.{Int};
 ghost use Rattle.apl_pool.specs.declared.kernel.TheConstants.{MOST_PLACES};
 ghost use Rattle.apl_pool.specs.Runs.{AreWritten};
@@ -33,8 +33,8 @@ pub fn write_pairs<F: Function + Copy, T: ElementType, U: ElementType, H: HeldRu
     write_results(results, 0, others.len(), room)
 }
 
-/// Writes what the function of type `F` gives of the elements of two lists that meet at each place into the room for them. It ends at some
-/// place, or at the first that has a fault. It answers how many it wrote, and takes no memory.
+/// Writes what the function of type `F` gives of the elements of two lists that meet at each place into the room for them, up to the
+/// first that has a fault. It answers how many it wrote, and takes no memory.
 #[inline(always)]
 fn write_spaced<F: Function + Copy, T: ElementType, U: ElementType>(
     left: Spaced<T>,
@@ -46,14 +46,15 @@ fn write_spaced<F: Function + Copy, T: ElementType, U: ElementType>(
     requires room { left.count ≤ length room.old }
     ensures within { result ≤ left.entry.count }
     ensures values { AreWritten (meeting_number F.FUNCTION (map T.elem_of left.entry.elements.now) left.entry.first left.entry.stride (map U.elem_of right.entry.elements.now) right.entry.first right.entry.stride) 0 result room.new }
+    ensures fault { result < left.entry.count → IsErr (meeting_number F.FUNCTION (map T.elem_of left.entry.elements.now) left.entry.first left.entry.stride (map U.elem_of right.entry.elements.now) right.entry.first right.entry.stride result) }
     ensures len { length room.new ≡ length room.old }
 {
     let results = PairResults::<Spaced<T>, Spaced<U>, F>::new(left, right);
     write_results(results, 0, left.count, room)
 }
 
-/// Writes what the function of type `F` gives of the elements of two lists that meet at each place into the room for them. It ends at some
-/// place, or at the first that has a fault. It answers how many it wrote, and takes no memory. A loop over neighbours has no strides.
+/// Writes what the function of type `F` gives of the elements of two lists that meet at each place into the room for them, up to the
+/// first that has a fault. It answers how many it wrote, and takes no memory. A loop over neighbours has no strides.
 pub fn write_items<F: Function + Copy, T: ElementType, U: ElementType>(
     left: Spaced<T>,
     right: Spaced<U>,
@@ -64,6 +65,7 @@ pub fn write_items<F: Function + Copy, T: ElementType, U: ElementType>(
     requires room { left.count ≤ length room.old }
     ensures within { result ≤ left.entry.count }
     ensures values { AreWritten (meeting_number F.FUNCTION (map T.elem_of left.entry.elements.now) left.entry.first left.entry.stride (map U.elem_of right.entry.elements.now) right.entry.first right.entry.stride) 0 result room.new }
+    ensures fault { result < left.entry.count → IsErr (meeting_number F.FUNCTION (map T.elem_of left.entry.elements.now) left.entry.first left.entry.stride (map U.elem_of right.entry.elements.now) right.entry.first right.entry.stride result) }
     ensures len { length room.new ≡ length room.old }
 {
     if left.stride == 1 && right.stride == 1 {

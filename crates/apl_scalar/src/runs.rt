@@ -1,14 +1,15 @@
 //! Runs of results. A run is first written as if no place had a fault.
-ghost use Rattle.std.specs.Prelude.{◌≡◌, ◌+◌, ◌*◌, ◌≤◌, true, length};
+ghost use Rattle.std.specs.Prelude.{◌≡◌, ◌+◌, ◌*◌, ◌<◌, ◌≤◌, true, IsErr, length};
 ghost use Rattle.apl_pool.specs.declared.kernel.TheConstants.{MOST_PLACES};
 ghost use Rattle.apl_pool.specs.Runs.{AreWritten};
 ghost use Rattle.apl_scalar.specs.Scalar.{truth_outcome};
 ghost use Rattle.apl_scalar.specs.Runs.{HasPart, DiffersIn};
 
 use crate::function_types::is_truth_valued;
-use crate::held::Held;
+use crate::held::{Held, as_held};
 use apl_array::ScalarFunction;
-use apl_pool::Fault;
+use apl_pool::{Fault, Kernel, write_values};
+use std::marker::PhantomData;
 
 /// The most places of the first run, which tells what the next ones are like. What it leaves of a piece of 4096 places, or of a stretch of
 /// such pieces, has halves that are no whole number of pages long. So their numbers do not meet in the same lines of a processor's cache.
@@ -40,9 +41,6 @@ pub trait Results: Copy {
 
     /// Whether the likely results have no branches, so that a run of them is quick.
     fn have_runs() -> bool;
-
-    /// Whether a doubt is a fault. Then no results after it are needed.
-    fn doubts_are_faults() -> bool;
 }
 
 /// Writes the likely results into the room for the places from `from` on. It answers the doubts whether they are right.
@@ -248,64 +246,6 @@ fn write_run<P: Results, H: HeldRuns>(results: P, from: usize, count: usize, roo
         && H::write_rest(results, from, done, count, room) == 0
 }
 
-/// How many results are written in one turn of a loop.
-const TURN: usize = 4;
-
-/// Writes the next `count` results into the room for the places from `from` on, of which it has `done`. It answers the
-/// place of the first fault, or where these end.
-#[inline(always)]
-fn write_some<P: Results, H: Held>(
-    results: P,
-    from: usize,
-    done: usize,
-    count: usize,
-    room: &mut [H],
-) -> usize
-    requires places { from + done + count ≤ P.served results }
-    requires most { from + done + count ≤ MOST_PLACES }
-    requires room { done + count ≤ length room.old }
-    requires before { AreWritten (λ place. H.held (P.outcome results place)) from (from + done) room.old }
-    ensures order { from ≤ result }
-    ensures within { result ≤ from + done + count }
-    ensures values { AreWritten (λ place. H.held (P.outcome results place)) from result room.new }
-    ensures len { length room.new ≡ length room.old }
-{
-    for offset in 0..count {
-        let k = done + offset;
-        match results.result_at(from + k) {
-            Ok(value) => room[k] = H::of(value),
-            Err(_) => return from + k,
-        }
-    }
-    from + done + count
-}
-
-/// Writes results into the room for the places from `from` on, one by one. It answers the place of the first fault,
-/// or where the places end.
-fn write_before_fault<P: Results, H: Held>(
-    results: P,
-    from: usize,
-    count: usize,
-    room: &mut [H],
-) -> usize
-    requires places { from + count ≤ P.served results }
-    requires most { from + count ≤ MOST_PLACES }
-    requires room { count ≤ length room.old }
-    ensures order { from ≤ result }
-    ensures within { result ≤ from + count }
-    ensures values { AreWritten (λ place. H.held (P.outcome results place)) from result room.new }
-    ensures len { length room.new ≡ length room.old }
-{
-    for turn in 0..count / TURN {
-        let stopped = write_some(results, from, turn * TURN, TURN, room);
-        if stopped < from + turn * TURN + TURN {
-            return stopped;
-        }
-    }
-    let rest = count % TURN;
-    write_some(results, from, count - rest, rest, room)
-}
-
 /// Writes runs of likely results into the room for the places from `from` on, up to the first run of which one result is not sure. It answers
 /// how many results are sure.
 #[inline(always)]
@@ -335,9 +275,45 @@ fn write_sure_runs<P: Results, H: HeldRuns>(
     done
 }
 
-/// Writes results into the room for the places from `from` up to before `to`. It answers the place at which it stopped: that of a fault, or
-/// where a run ends. If one result of the first run is not sure, the results up to `to` are written one by one, since the next runs tend to
-/// be like this one. Results that have no quick runs are written one by one too. Where these may be many, a turn of the loop writes several.
+/// The results at the places up to before `to`, as they are held.
+#[derive(Drop)]
+struct HeldResults<P: Results, H> {
+    results: P,
+    to: usize,
+    held: PhantomData<H>,
+    ghost most: { to ≤ MOST_PLACES },
+    ghost served: { to ≤ P.served results },
+}
+
+impl<P: Results, H: HeldRuns> Kernel for HeldResults<P, H> {
+    type Out = H;
+
+    ghost place_count = { λ k. k.to };
+
+    ghost outcome = { λ k place. H.held (P.outcome k.results place) };
+
+    #[inline(always)]
+    fn count(&self) -> usize {
+        self.to
+    }
+
+    #[inline(always)]
+    fn at(&self, place: usize) -> Result<H, Fault> {
+        as_held(self.results.result_at(place))
+    }
+
+    #[inline(always)]
+    fn write_run(&self, from: usize, to: usize, room: &mut [H]) -> usize {
+        if !P::have_runs() {
+            return from;
+        }
+        from + write_sure_runs(self.results, from, to - from, room)
+    }
+}
+
+/// Writes results into the room for the places from `from` up to before `to`. It answers the place of the first fault, or `to`. If one result
+/// of the first run is not sure, all are written one by one, since the next runs tend to be like this one. After a later run that is not sure
+/// it begins anew with a first run. Results that have no quick runs are written one by one too.
 #[inline(always)]
 pub(crate) fn write_results<P: Results, H: HeldRuns>(
     results: P,
@@ -352,16 +328,13 @@ pub(crate) fn write_results<P: Results, H: HeldRuns>(
     ensures order { from ≤ result }
     ensures within { result ≤ to }
     ensures values { AreWritten (λ place. H.held (P.outcome results place)) from result room.new }
+    ensures fault { result < to → IsErr (H.held (P.outcome results result)) }
     ensures len { length room.new ≡ length room.old }
 {
-    if P::have_runs() {
-        let done = write_sure_runs(results, from, to - from, room);
-        if done > 0 {
-            return from + done;
-        }
-        if P::doubts_are_faults() {
-            return write_some(results, from, 0, to - from, room);
-        }
-    }
-    write_before_fault(results, from, to - from, room)
+    let kernel = HeldResults {
+        results,
+        to,
+        held: PhantomData,
+    };
+    write_values(&kernel, from, to, &mut room[..to - from])
 }

@@ -4,7 +4,7 @@ ghost use Rattle.apl_pool.specs.declared.kernel.TheConstants.{MOST_PLACES};
 
 use apl_pool::{
     Cut, Every, Fault, Gate, Kernel, MOST_PLACES, Open, Pool, Schedule, Stop, Thrifty, Workers,
-    fill,
+    fill, write_values,
 };
 use std::sync::atomic::{AtomicU64, Ordering};
 use std::test::Fail;
@@ -38,6 +38,40 @@ impl Kernel for Numbers {
         } else {
             Err(Fault::Limit)
         }
+    }
+}
+
+/// The same, with runs of one place up to `runs`.
+#[derive(Drop)]
+struct Singles {
+    numbers: Numbers,
+    runs: usize,
+}
+
+impl Kernel for Singles {
+    ghost use Rattle.std.specs.Prelude.{pos, nat_lt, Ok, Err, if◌then◌else◌};
+    ghost use Rattle.apl_pool.specs.declared.kernel.Fault.TheVariants.{Limit};
+
+    type Out = i64;
+
+    ghost place_count = { λ k. k.numbers.count };
+
+    ghost outcome = { λ k place. if nat_lt place k.numbers.limit then Ok (pos place) else Err Limit };
+
+    fn count(&self) -> usize {
+        self.numbers.count
+    }
+
+    fn at(&self, place: usize) -> Result<i64, Fault> {
+        self.numbers.at(place)
+    }
+
+    fn write_run(&self, from: usize, to: usize, room: &mut [i64]) -> usize {
+        if from == to || from >= self.runs || from >= self.numbers.limit {
+            return from;
+        }
+        room[0] = from as i64;
+        from + 1
     }
 }
 
@@ -100,6 +134,34 @@ fn the_least_fault_is_the_answer(rt: HostRuntime) -> Result<(), Fail> {
             };
             assert!(rt; answer.err() == Some(stop));
         }
+    }
+    Ok(())
+}
+
+/// The values from a place on are written up to the first fault or the last place, wherever the runs end.
+#[test]
+fn values_are_written_up_to_a_fault(rt: HostRuntime) -> Result<(), Fail> {
+    for (from, len, limit, runs, written) in [
+        (0usize, 0, 9, 9, 0),
+        (0, 7, 9, 0, 7),
+        (0, 9, 9, 4, 9),
+        (2, 9, 5, 9, 3),
+        (3, 9, 3, 9, 0),
+        (4, 9, 3, 0, 0),
+        (0, 100_000, 100_000, 50_000, 100_000),
+        (5, 100_000, 100_004, 0, 99_999),
+        (1, 100_000, 50_001, 70_000, 50_000),
+        (1, 100_000, 70_002, 50_000, 70_001),
+    ] {
+        let count = from + len;
+        let kernel = Singles {
+            numbers: Numbers { count, limit },
+            runs,
+        };
+        let mut room = vec![in rt.alloc(); -1; len]?;
+        let end = write_values(&kernel, from, count, room.as_mut_slice());
+        let mut values = room.iter().take(written).enumerate();
+        assert!(rt; end == from + written && values.all(|(k, value)| (from + k) as i64 == *value));
     }
     Ok(())
 }

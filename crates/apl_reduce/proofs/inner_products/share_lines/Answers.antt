@@ -7,7 +7,7 @@ pub returns : goal.returns
 returns g c =
     let layout = c.args.layout.now in
     let left = map g.T.ElementType.elem_of c.args.left.now in
-    let right = map g.U.ElementType.elem_of c.args.right.now in
+    let right = map g.T.ElementType.elem_of c.args.right.now in
     let pairing = g.P.Dyadic.function c.args.pairing in
     let number = inner_number layout left right c.args.f pairing in
     record {
