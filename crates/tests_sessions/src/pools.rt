@@ -141,27 +141,30 @@ fn the_least_fault_is_the_answer(rt: HostRuntime) -> Result<(), Fail> {
 /// The values from a place on are written up to the first fault or the last place, wherever the runs end.
 #[test]
 fn values_are_written_up_to_a_fault(rt: HostRuntime) -> Result<(), Fail> {
-    for (from, len, limit, runs, written) in [
+    for (from, count, limit, runs, written) in [
         (0usize, 0, 9, 9, 0),
         (0, 7, 9, 0, 7),
         (0, 9, 9, 4, 9),
-        (2, 9, 5, 9, 3),
-        (3, 9, 3, 9, 0),
-        (4, 9, 3, 0, 0),
+        (2, 11, 5, 9, 3),
+        (3, 12, 3, 9, 0),
+        (4, 13, 3, 0, 0),
         (0, 100_000, 100_000, 50_000, 100_000),
-        (5, 100_000, 100_004, 0, 99_999),
-        (1, 100_000, 50_001, 70_000, 50_000),
-        (1, 100_000, 70_002, 50_000, 70_001),
+        (5, 100_005, 100_004, 0, 99_999),
+        (1, 100_001, 50_001, 70_000, 50_000),
+        (1, 100_001, 70_002, 50_000, 70_001),
     ] {
-        let count = from + len;
+        let count = count.min(MOST_PLACES);
+        let from = from.min(count);
         let kernel = Singles {
             numbers: Numbers { count, limit },
             runs,
         };
-        let mut room = vec![in rt.alloc(); -1; len]?;
+        let mut room = vec![in rt.alloc(); -1; count - from]?;
         let end = write_values(&kernel, from, count, room.as_mut_slice());
         let mut values = room.iter().take(written).enumerate();
-        assert!(rt; end == from + written && values.all(|(k, value)| (from + k) as i64 == *value));
+        assert!(rt;
+            end - from == written && values.all(|(k, value)| from.wrapping_add(k) as i64 == *value)
+        );
     }
     Ok(())
 }
