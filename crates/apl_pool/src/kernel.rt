@@ -15,6 +15,13 @@ pub enum Fault {
     Index,
 }
 
+/// The first of some places that has a fault, and that fault.
+#[derive(Clone, Copy, Debug, PartialEq, Eq)]
+pub struct FirstFault {
+    pub place: usize,
+    pub fault: Fault,
+}
+
 /// Why a pass over all places gave no values.
 #[derive(Clone, Copy, Debug, PartialEq, Eq)]
 pub enum Stop {
@@ -40,9 +47,9 @@ pub const MOST_PLACES: usize = 1 << 30;
 
 /// A value or a fault at each place below a count. A kernel is lent to all workers.
 pub trait Kernel {
-    ghost use Rattle.std.specs.Prelude.{◌+◌, ◌≤◌, length};
+    ghost use Rattle.std.specs.Prelude.{◌+◌, ◌≤◌, IfErr, IfSome, OnOk, length};
     ghost use Rattle.apl_pool.specs.declared.kernel.Fault.{Fault};
-    ghost use Rattle.apl_pool.specs.Runs.{AreWritten};
+    ghost use Rattle.apl_pool.specs.Runs.{AreWritten, IsFaultAfter};
 
     /// The type of the values.
     type Out;
@@ -87,5 +94,24 @@ pub trait Kernel {
         ensures len { length _room.new ≡ length _room.old }
     {
         from
+    }
+
+    /// Writes the values into the room for the places from `from` up to before `to`, up to the first that has a fault. It is for kernels that
+    /// choose among others: such a kernel lends the one that it chose to `write_values`. So it chooses once for all these places, and no
+    /// place is asked for twice. `None` says that it is no such kernel.
+    fn write_chosen(
+        &self,
+        _from: usize,
+        _to: usize,
+        _room: &mut [Self::Out],
+    ) -> Option<Result<(), FirstFault>>
+        requires order { _from ≤ _to }
+        requires places { _to ≤ place_count self.now }
+        requires room { _from + length _room.old ≡ _to }
+        ensures values { IfSome result (λ written. OnOk written (AreWritten (outcome self.now) _from _to _room.new)) }
+        ensures fault { IfSome result (λ written. IfErr written (λ first. IsFaultAfter (outcome self.now) _from _to first.place first.fault _room.new)) }
+        ensures len { length _room.new ≡ length _room.old }
+    {
+        None
     }
 }

@@ -31,7 +31,7 @@ mod workers;
 pub use cut::{Cut, Every, Thrifty, USUAL_PIECE};
 pub use gate::{Gate, Open};
 pub use kept::{KeptLists, Reused};
-pub use kernel::{Fault, Kernel, MOST_PLACES, Stop};
+pub use kernel::{Fault, FirstFault, Kernel, MOST_PLACES, Stop};
 pub use pool::{MOST_WORKERS, Pool};
 pub use rows::{RowSummaries, Rows};
 pub use schedule::Schedule;

@@ -1,11 +1,11 @@
 //! What a worker does with a piece and with its share: it writes the values into the room for them.
 ghost use Rattle.std.specs.Prelude.{◌≡◌, ℕ, ◌+◌, ◌<◌, ◌≤◌, ◌^◌, ◌⊎◌, max, OnOk, IfOk, IfErr, IsErr, length, slice_index, slice_index_or, vec_len};
 ghost use Rattle.apl_pool.specs.Parts.{AreValuesFrom, AreValuesAt, IsStopFrom, IsPart};
-ghost use Rattle.apl_pool.specs.Runs.{AreWritten};
+ghost use Rattle.apl_pool.specs.Runs.{AreWritten, IsFaultAfter};
 
 use crate::cut::Cut;
 use crate::gate::Gate;
-use crate::kernel::{Fault, Kernel, MOST_PLACES, Stop};
+use crate::kernel::{Fault, FirstFault, Kernel, MOST_PLACES, Stop};
 use crate::pieces::{Piece, piece_end};
 use std::alloc::AllocError;
 
@@ -50,8 +50,7 @@ where
 /// How many places are written before a test whether there are more.
 const TURN: usize = 4;
 
-/// Writes the values at `count` places from `first` on into the room for those from `from` on, one by one. It answers the place of the first
-/// fault, or where these end.
+/// Writes the values at `count` places from `first` on into the room for those from `from` on, one by one, up to the first that has a fault.
 #[inline(always)]
 fn write_some<K: Kernel>(
     kernel: &K,
@@ -59,7 +58,7 @@ fn write_some<K: Kernel>(
     first: usize,
     count: usize,
     room: &mut [K::Out],
-) -> usize
+) -> Result<(), FirstFault>
 where
     K::Out: Copy,
     requires order { from ≤ first }
@@ -67,24 +66,22 @@ where
     requires most { first + count ≤ MOST_PLACES }
     requires room { first + count ≤ from + length room.old }
     requires before { AreWritten (K.outcome kernel.now) from first room.old }
-    ensures order { first ≤ result }
-    ensures within { result ≤ first + count }
-    ensures values { AreWritten (K.outcome kernel.now) from result room.new }
-    ensures fault { result < first + count → IsErr (K.outcome kernel.now result) }
+    ensures values { OnOk result (AreWritten (K.outcome kernel.now) from (first + count) room.new) }
+    ensures fault { IfErr result (λ fault. IsFaultAfter (K.outcome kernel.now) from (first + count) fault.place fault.fault room.new) }
     ensures len { length room.new ≡ length room.old }
 {
     for offset in 0..count {
         let place = first + offset;
         match kernel.at(place) {
             Ok(value) => room[place - from] = value,
-            Err(_) => return place,
+            Err(fault) => return Err(FirstFault { place, fault }),
         }
     }
-    first + count
+    Ok(())
 }
 
-/// Writes the values at the places from `first` up to before `to` into the room for those from `from` on, one by one. It answers the place of
-/// the first fault, or where these end.
+/// Writes the values at the places from `first` up to before `to` into the room for those from `from` on, one by one, up to the first that
+/// has a fault.
 #[inline(always)]
 fn write_places<K: Kernel>(
     kernel: &K,
@@ -92,7 +89,7 @@ fn write_places<K: Kernel>(
     first: usize,
     to: usize,
     room: &mut [K::Out],
-) -> usize
+) -> Result<(), FirstFault>
 where
     K::Out: Copy,
     requires order { from ≤ first }
@@ -101,42 +98,62 @@ where
     requires most { to ≤ MOST_PLACES }
     requires room { from + length room.old ≡ to }
     requires before { AreWritten (K.outcome kernel.now) from first room.old }
-    ensures order { first ≤ result }
-    ensures within { result ≤ to }
-    ensures values { AreWritten (K.outcome kernel.now) from result room.new }
-    ensures fault { result < to → IsErr (K.outcome kernel.now result) }
+    ensures values { OnOk result (AreWritten (K.outcome kernel.now) from to room.new) }
+    ensures fault { IfErr result (λ fault. IsFaultAfter (K.outcome kernel.now) from to fault.place fault.fault room.new) }
     ensures len { length room.new ≡ length room.old }
 {
     let rest = (to - first) % TURN;
     for turn in 0..(to - first) / TURN {
-        let next = first + turn * TURN;
-        let end = write_some(kernel, from, next, TURN, room);
-        if end < next + TURN {
-            return end;
-        }
+        write_some(kernel, from, first + turn * TURN, TURN, room)?;
     }
     write_some(kernel, from, to - rest, rest, room)
 }
 
-/// Writes the values at the places from `from` up to before `to` into the room for them, up to the first place that has a fault: by runs, and
-/// after an empty run place by place. It answers that place, or `to` if there is none. A kernel that chooses among others lends the one that it
-/// chose to this, so that it chooses once for all these places.
+/// Writes the values at the places from `from` up to before `to` into the room for them, up to the first that has a fault: by runs, and
+/// after an empty run place by place. A kernel that chooses among others lends the one that it chose to this.
 #[inline(always)]
-pub fn write_values<K: Kernel>(kernel: &K, from: usize, to: usize, room: &mut [K::Out]) -> usize
+pub fn write_values<K: Kernel>(
+    kernel: &K,
+    from: usize,
+    to: usize,
+    room: &mut [K::Out],
+) -> Result<(), FirstFault>
 where
     K::Out: Copy,
+    requires order { from ≤ to }
     requires places { to ≤ K.place_count kernel.now }
     requires room { from + length room.old ≡ to }
-    ensures order { from ≤ result }
-    ensures within { result ≤ to }
-    ensures values { AreWritten (K.outcome kernel.now) from result room.new }
-    ensures fault { result < to → IsErr (K.outcome kernel.now result) }
+    ensures values { OnOk result (AreWritten (K.outcome kernel.now) from to room.new) }
+    ensures fault { IfErr result (λ fault. IsFaultAfter (K.outcome kernel.now) from to fault.place fault.fault room.new) }
     ensures len { length room.new ≡ length room.old }
 {
     // A kernel that was asked for its count is known to have few enough places.
     let _count = kernel.count();
     let first = write_runs(kernel, from, to, room);
     write_places(kernel, from, first, to, room)
+}
+
+/// The same by the kernel, or by the one that it chooses.
+#[inline(always)]
+fn write_by<K: Kernel>(
+    kernel: &K,
+    from: usize,
+    to: usize,
+    room: &mut [K::Out],
+) -> Result<(), FirstFault>
+where
+    K::Out: Copy,
+    requires order { from ≤ to }
+    requires places { to ≤ K.place_count kernel.now }
+    requires room { from + length room.old ≡ to }
+    ensures values { OnOk result (AreWritten (K.outcome kernel.now) from to room.new) }
+    ensures fault { IfErr result (λ fault. IsFaultAfter (K.outcome kernel.now) from to fault.place fault.fault room.new) }
+    ensures len { length room.new ≡ length room.old }
+{
+    match kernel.write_chosen(from, to, room) {
+        Some(written) => written,
+        None => write_values(kernel, from, to, room),
+    }
 }
 
 /// Puts the values of a piece into the room for them.
@@ -155,13 +172,9 @@ where
     ensures stop { IfErr result (IsStopFrom (K.outcome kernel.now) piece.from piece.to) }
     ensures len { length room.new ≡ length room.old }
 {
-    let end = write_values(kernel, piece.from, piece.to, room);
-    if end == piece.to {
-        return Ok(());
-    }
-    match kernel.at(end) {
-        Ok(_) => unreachable!(),
-        Err(fault) => Err(stop_at(end, fault)),
+    match write_by(kernel, piece.from, piece.to, room) {
+        Ok(()) => Ok(()),
+        Err(first) => Err(stop_at(first.place, first.fault)),
     }
 }
 

@@ -1,7 +1,7 @@
 //! The items along an axis, folded at each place of the result.
-ghost use Rattle.std.specs.Prelude.{◌≡◌, ℕ, ◌+◌, ◌-◌, ◌*◌, ◌/◌, ◌%◌, ◌<◌, ◌≤◌, true, IfErr, IfOk, IfSome, length, map, remove, slice_index, slice_index_or, drop};
+ghost use Rattle.std.specs.Prelude.{◌≡◌, ℕ, ◌+◌, ◌-◌, ◌*◌, ◌/◌, ◌%◌, ◌<◌, ◌≤◌, true, IfErr, IfOk, IfSome, OnOk, length, map, remove, slice_index, slice_index_or, drop};
 ghost use Rattle.apl_pool.specs.Pool.{AreValues, IsStopOf};
-ghost use Rattle.apl_pool.specs.Runs.{AreWritten};
+ghost use Rattle.apl_pool.specs.Runs.{AreWritten, IsFaultAfter};
 ghost use Rattle.apl_array.specs.declared.array.Elem.TheVariants.{Int, Chr};
 ghost use Rattle.apl_array.specs.Array.{truth_element};
 ghost use Rattle.apl_array.specs.Shape.{count_of};
@@ -25,7 +25,7 @@ use apl_array::{
     replaced_index_has_place,
 };
 use apl_divisor::Divisor;
-use apl_pool::{Crew, Fault, Kernel, Stop, fill, write_values};
+use apl_pool::{Crew, Fault, FirstFault, Kernel, Stop, fill, write_values};
 use apl_scalar::function_types::Function;
 use apl_scalar::with_type;
 use std::marker::PhantomData;
@@ -245,20 +245,21 @@ fn fold_place<F: Function, T: Foldable>(axis: &AxisItems<T>, place: usize) -> Re
     folds.at(place)
 }
 
-/// Writes the folds at the places from `from` on, up to the first that has a fault. It answers the place after them.
+/// Writes the folds at the places from `from` up to before `to`, up to the first that has a fault.
 #[inline(never)]
 fn write_folds<F: Function, T: Foldable>(
     axis: &AxisItems<T>,
     from: usize,
     to: usize,
     room: &mut [i64],
-) -> usize
+) -> Result<(), FirstFault>
+    requires order { from ≤ to }
     requires places { to ≤ axis.now.count }
     requires room { from + length room.old ≡ to }
-    ensures order { from ≤ result }
-    ensures within { result ≤ to }
     ensures values { let a = axis.now in
-        AreWritten (fold_at F.FUNCTION (map T.elem_of a.elements.now) a.items a.block a.inner) from result room.new }
+        OnOk result (AreWritten (fold_at F.FUNCTION (map T.elem_of a.elements.now) a.items a.block a.inner) from to room.new) }
+    ensures fault { let a = axis.now in
+        IfErr result (λ first. IsFaultAfter (fold_at F.FUNCTION (map T.elem_of a.elements.now) a.items a.block a.inner) from to first.place first.fault room.new) }
     ensures len { length room.new ≡ length room.old }
 {
     let folds = TypedFolds::<T, F> {
@@ -307,8 +308,17 @@ impl<T: Foldable> Kernel for AxisFolds<'_, T> {
         with_type!(self.f, fold_place::<F, T>(self.axis, place))
     }
 
-    fn write_run(&self, from: usize, to: usize, room: &mut [i64]) -> usize {
-        with_type!(self.f, write_folds::<F, T>(self.axis, from, to, room))
+    #[inline(always)]
+    fn write_chosen(
+        &self,
+        from: usize,
+        to: usize,
+        room: &mut [i64],
+    ) -> Option<Result<(), FirstFault>> {
+        Some(with_type!(
+            self.f,
+            write_folds::<F, T>(self.axis, from, to, room)
+        ))
     }
 }
 

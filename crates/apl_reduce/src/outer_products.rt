@@ -1,5 +1,5 @@
 //! Outer products.
-ghost use Rattle.std.specs.Prelude.{◌≡◌, ◌+◌, ◌<◌, ◌≤◌, ◌*◌, IfErr, IfOk, IsTrue, length, map};
+ghost use Rattle.std.specs.Prelude.{◌≡◌, ◌+◌, ◌<◌, ◌≤◌, ◌*◌, true, IfErr, IfOk, IsErr, IsTrue, length, map};
 ghost use Rattle.apl_array.specs.declared.array.Kind.TheVariants.{Number};
 ghost use Rattle.apl_array.specs.Shape.{count_of};
 ghost use Rattle.apl_array.specs.Valences.{has_dyadic};
@@ -69,8 +69,8 @@ impl<T: ElementType, U: ElementType> EachPair<'_, T, U> {
     }
 }
 
-/// Writes what a function gives of one element and each of others into the room for them, as results are held. It ends at some other, or at
-/// the first that has a fault, and answers how many it wrote.
+/// Writes what a function gives of one element and each of others into the room for them, as results are held, up to the first that has a
+/// fault. It answers how many it wrote.
 #[inline(always)]
 fn write_row<T: ElementType, U: ElementType, H: HeldRuns>(
     f: ScalarFunction,
@@ -78,10 +78,12 @@ fn write_row<T: ElementType, U: ElementType, H: HeldRuns>(
     others: &[U],
     room: &mut [H],
 ) -> usize
+    requires held { H.is_of f ≡ true }
     requires most { length others.now ≤ MOST_PLACES }
     requires room { length others.now ≤ length room.old }
     ensures within { result ≤ length others.now }
     ensures values { AreWritten (λ k. H.held (pair_number f (T.elem_of x) (map U.elem_of others.now) k)) 0 result room.new }
+    ensures fault { result < length others.now → IsErr (H.held (pair_number f (T.elem_of x) (map U.elem_of others.now) result)) }
     ensures len { length room.new ≡ length room.old }
 {
     with_type!(f, write_pairs::<F, T, U, H>(x, others, room))
@@ -89,9 +91,10 @@ fn write_row<T: ElementType, U: ElementType, H: HeldRuns>(
 
 /// What a function gives of each pair, as results are held.
 #[derive(Drop)]
-struct HeldPairs<'a, T, U, H> {
+struct HeldPairs<'a, T, U, H: HeldRuns> {
     pairs: EachPair<'a, T, U>,
     held: PhantomData<H>,
+    ghost is_held: { H.is_of pairs.f ≡ true },
 }
 
 impl<T: ElementType, U: ElementType, H: HeldRuns> Kernel for HeldPairs<'_, T, U, H> {

@@ -7,5 +7,5 @@ use Rattle.apl_scalar.specs.declared.operands.Pairs.{Pairs}
 use Rattle.apl_scalar.specs.Operands.{pair_at}
 
 -- a dyadic function of the two elements that serve at a place
-abbrev pub pair_in : {T : Type 0} → ScalarFunction → (T → Elem) → Pairs T → ℕ → Result ℤ Fault
-pair_in f elem_of pairs place = pair_at f (map elem_of pairs.left.now) pairs.left_is_whole (map elem_of pairs.right.now) pairs.right_is_whole place
+abbrev pub pair_in : {T U : Type 0} → ScalarFunction → (T → Elem) → (U → Elem) → Pairs T U → ℕ → Result ℤ Fault
+pair_in f left_of right_of pairs place = pair_at f (map left_of pairs.left.now) pairs.left_is_whole (map right_of pairs.right.now) pairs.right_is_whole place

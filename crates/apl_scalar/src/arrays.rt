@@ -11,7 +11,7 @@ use crate::elements::compare;
 use crate::extend::extended;
 use crate::operands::Pairs;
 use crate::passes::{fill_elements, fill_pairs};
-use apl_answer::{OpFault, constant_array, numbers_of};
+use apl_answer::{ElementType, OpFault, constant_array};
 use apl_array::{Array, Elements, ScalarFunction, Shape, places_match_index_lists};
 use apl_pool::{Crew, Cut, Fault, Gate, Pool, Workers};
 use std::alloc::Global;
@@ -88,6 +88,23 @@ fn truths_of(a: &Array) -> Option<&[bool]>
     }
 }
 
+/// The same function of the elements of two arrays, as they are held.
+fn fill_extended<T: ElementType + Sync, U: ElementType + Sync, W: Crew>(
+    workers: &W,
+    f: ScalarFunction,
+    shape: Shape,
+    (left, xs): (&Array, &[T]),
+    (right, ys): (&Array, &[U]),
+) -> Result<Array, OpFault>
+    requires shape { extended_shape left.now.shape right.now.shape ≡ Ok shape }
+    requires left { left.now.ravel ≡ map T.elem_of xs.now }
+    requires right { right.now.ravel ≡ map U.elem_of ys.now }
+    ensures { IsAnswerOf (answer_over f left.now right.now (Ok shape)) result }
+{
+    let pairs = Pairs::new(left, xs, right, ys, &shape);
+    fill_pairs(workers, f, shape, &pairs)
+}
+
 fn fill_dyadic<W: Crew>(
     workers: &W,
     f: ScalarFunction,
@@ -103,21 +120,21 @@ fn fill_dyadic<W: Crew>(
         return constant_array(workers, shape, compare(f, false));
     }
     if let (Some(xs), Some(ys)) = (truths_of(left), truths_of(right)) {
-        let pairs = Pairs::new(left, xs, right, ys, &shape);
-        return fill_pairs(workers, f, shape, &pairs);
+        return fill_extended(workers, f, shape, (left, xs), (right, ys));
     }
     match (left.elements(), right.elements()) {
+        (Elements::Numbers(xs), Elements::Numbers(ys)) => {
+            fill_extended(workers, f, shape, (left, xs), (right, ys))
+        }
+        (Elements::Numbers(xs), Elements::Truths(ys)) => {
+            fill_extended(workers, f, shape, (left, xs), (right, ys))
+        }
+        (Elements::Truths(xs), Elements::Numbers(ys)) => {
+            fill_extended(workers, f, shape, (left, xs), (right, ys))
+        }
         (Elements::Characters(xs), Elements::Characters(ys)) => {
-            let pairs = Pairs::new(left, xs, right, ys, &shape);
-            fill_pairs(workers, f, shape, &pairs)
+            fill_extended(workers, f, shape, (left, xs), (right, ys))
         }
-        _ => {
-            let (Some(xs), Some(ys)) = (numbers_of(workers, left)?, numbers_of(workers, right)?)
-            else {
-                unreachable!()
-            };
-            let pairs = Pairs::new(left, xs.as_slice(), right, ys.as_slice(), &shape);
-            fill_pairs(workers, f, shape, &pairs)
-        }
+        _ => unreachable!(),
     }
 }

@@ -1,7 +1,7 @@
 //! What a scalar function gives at each place.
-ghost use Rattle.std.specs.Prelude.{◌≡◌, ℕ, ◌+◌, ◌<◌, ◌≤◌, length};
+ghost use Rattle.std.specs.Prelude.{◌≡◌, ℕ, ◌+◌, ◌<◌, ◌≤◌, true, IfErr, OnOk, length};
 ghost use Rattle.apl_pool.specs.declared.kernel.TheConstants.{MOST_PLACES};
-ghost use Rattle.apl_pool.specs.Runs.{AreWritten};
+ghost use Rattle.apl_pool.specs.Runs.{AreWritten, IsFaultAfter};
 ghost use Rattle.apl_scalar.specs.Scalar.{dyadic_of, monadic_of};
 
 use crate::elements::{dyadic_elements, likely_element, likely_elements, monadic_element};
@@ -11,7 +11,7 @@ use crate::operands::Operand;
 use crate::runs::{HeldRuns, Results, write_results};
 use crate::with_type;
 use apl_array::ScalarFunction;
-use apl_pool::{Fault, Kernel};
+use apl_pool::{Fault, FirstFault, Kernel};
 use std::marker::PhantomData;
 
 /// The results of a monadic function of an argument.
@@ -109,10 +109,14 @@ impl<L: Operand, R: Operand, F: Function + Copy> Results for PairResults<L, R, F
 /// The results of a scalar function that is chosen anew for each run of places. So a pass of the pool is compiled once for all functions, and
 /// the loop over a run for each of them.
 pub(crate) trait Chosen: Copy {
-    ghost use Rattle.std.specs.Prelude.{◌≡◌, ◌+◌, ◌<◌, ◌≤◌, ℕ, ℤ, Result, length};
+    ghost use Rattle.std.specs.Prelude.{◌≡◌, ◌+◌, ◌<◌, ◌≤◌, ℕ, ℤ, true, IfErr, OnOk, Result, length};
+    ghost use Rattle.apl_array.specs.declared.function.ScalarFunction.{ScalarFunction};
     ghost use Rattle.apl_pool.specs.declared.kernel.Fault.{Fault};
     ghost use Rattle.apl_pool.specs.declared.kernel.TheConstants.{MOST_PLACES};
-    ghost use Rattle.apl_pool.specs.Runs.{AreWritten};
+    ghost use Rattle.apl_pool.specs.Runs.{AreWritten, IsFaultAfter};
+
+    // The function that is chosen.
+    ghost function: { Self → ScalarFunction };
 
     // How many places there are.
     ghost served: { Self → ℕ };
@@ -125,15 +129,20 @@ pub(crate) trait Chosen: Copy {
         requires { place < served self.now }
         ensures { result ≡ outcome self.now place };
 
-    /// Writes a run of results, as `write_results`.
-    fn write<H: HeldRuns>(&self, from: usize, to: usize, room: &mut [H]) -> usize
+    /// Writes results, as `write_results`.
+    fn write<H: HeldRuns>(
+        &self,
+        from: usize,
+        to: usize,
+        room: &mut [H],
+    ) -> Result<(), FirstFault>
+        requires held { H.is_of (function self.now) ≡ true }
         requires order { from ≤ to }
         requires places { to ≤ served self.now }
         requires most { to ≤ MOST_PLACES }
-        requires room { to ≤ from + length room.old }
-        ensures order { from ≤ result }
-        ensures within { result ≤ to }
-        ensures values { AreWritten (λ place. H.held (outcome self.now place)) from result room.new }
+        requires room { from + length room.old ≡ to }
+        ensures values { OnOk result (AreWritten (λ place. H.held (outcome self.now place)) from to room.new) }
+        ensures fault { IfErr result (λ first. IsFaultAfter (λ place. H.held (outcome self.now place)) from to first.place first.fault room.new) }
         ensures len { length room.new ≡ length room.old };
 }
 
@@ -156,24 +165,27 @@ fn write_elements<F: Function + Copy, A: Operand, H: HeldRuns>(
     from: usize,
     to: usize,
     room: &mut [H],
-) -> usize
+) -> Result<(), FirstFault>
+    requires held { H.is_of F.FUNCTION ≡ true }
     requires order { from ≤ to }
     requires places { to ≤ A.served argument }
     requires most { to ≤ MOST_PLACES }
-    requires room { to ≤ from + length room.old }
-    ensures order { from ≤ result }
-    ensures within { result ≤ to }
-    ensures values { AreWritten (λ place. H.held (monadic_of F.FUNCTION (A.element argument place))) from result room.new }
+    requires room { from + length room.old ≡ to }
+    ensures values { OnOk result (AreWritten (λ place. H.held (monadic_of F.FUNCTION (A.element argument place))) from to room.new) }
+    ensures fault { IfErr result (λ first. IsFaultAfter (λ place. H.held (monadic_of F.FUNCTION (A.element argument place))) from to first.place first.fault room.new) }
     ensures len { length room.new ≡ length room.old }
 {
+    // So no loop is made where results are held in another way.
     if !H::holds(F::FUNCTION) {
-        return from;
+        unreachable!()
     }
     write_results(ElementResults::<A, F>::new(argument), from, to, room)
 }
 
 impl<A: Operand> Chosen for OfElements<A> {
     ghost use Rattle.apl_scalar.specs.Scalar.{monadic_of};
+
+    ghost function = { λ r. r.f };
 
     ghost served = { λ r. A.served r.argument };
 
@@ -183,7 +195,12 @@ impl<A: Operand> Chosen for OfElements<A> {
         with_type!(self.f, element_at::<F, A>(self.argument, place))
     }
 
-    fn write<H: HeldRuns>(&self, from: usize, to: usize, room: &mut [H]) -> usize {
+    fn write<H: HeldRuns>(
+        &self,
+        from: usize,
+        to: usize,
+        room: &mut [H],
+    ) -> Result<(), FirstFault> {
         with_type!(
             self.f,
             write_elements::<F, A, H>(self.argument, from, to, room)
@@ -217,19 +234,20 @@ fn write_pairs<F: Function + Copy, L: Operand, R: Operand, H: HeldRuns>(
     from: usize,
     to: usize,
     room: &mut [H],
-) -> usize
+) -> Result<(), FirstFault>
+    requires held { H.is_of F.FUNCTION ≡ true }
     requires order { from ≤ to }
     requires left { to ≤ L.served left }
     requires right { to ≤ R.served right }
     requires most { to ≤ MOST_PLACES }
-    requires room { to ≤ from + length room.old }
-    ensures order { from ≤ result }
-    ensures within { result ≤ to }
-    ensures values { AreWritten (λ place. H.held (dyadic_of F.FUNCTION (L.element left place) (R.element right place))) from result room.new }
+    requires room { from + length room.old ≡ to }
+    ensures values { OnOk result (AreWritten (λ place. H.held (dyadic_of F.FUNCTION (L.element left place) (R.element right place))) from to room.new) }
+    ensures fault { IfErr result (λ first. IsFaultAfter (λ place. H.held (dyadic_of F.FUNCTION (L.element left place) (R.element right place))) from to first.place first.fault room.new) }
     ensures len { length room.new ≡ length room.old }
 {
+    // So no loop is made where results are held in another way.
     if !H::holds(F::FUNCTION) {
-        return from;
+        unreachable!()
     }
     write_results(PairResults::<L, R, F>::new(left, right), from, to, room)
 }
@@ -237,6 +255,8 @@ fn write_pairs<F: Function + Copy, L: Operand, R: Operand, H: HeldRuns>(
 impl<L: Operand, R: Operand> Chosen for OfPairs<L, R> {
     ghost use Rattle.std.specs.Prelude.{min};
     ghost use Rattle.apl_scalar.specs.Scalar.{dyadic_of};
+
+    ghost function = { λ r. r.f };
 
     ghost served = { λ r. min (L.served r.left) (R.served r.right) };
 
@@ -246,7 +266,12 @@ impl<L: Operand, R: Operand> Chosen for OfPairs<L, R> {
         with_type!(self.f, pair_at::<F, L, R>(self.left, self.right, place))
     }
 
-    fn write<H: HeldRuns>(&self, from: usize, to: usize, room: &mut [H]) -> usize {
+    fn write<H: HeldRuns>(
+        &self,
+        from: usize,
+        to: usize,
+        room: &mut [H],
+    ) -> Result<(), FirstFault> {
         with_type!(
             self.f,
             write_pairs::<F, L, R, H>(self.left, self.right, from, to, room)
@@ -256,13 +281,14 @@ impl<L: Operand, R: Operand> Chosen for OfPairs<L, R> {
 
 /// The results at the first `count` places, as they are held.
 #[derive(Drop)]
-pub(crate) struct ResultKernel<C: Chosen, H> {
+pub(crate) struct ResultKernel<C: Chosen, H: HeldRuns> {
     pub results: C,
     pub count: usize,
     pub work: usize,
     pub held: PhantomData<H>,
     ghost most: { count ≤ MOST_PLACES },
     ghost served: { count ≤ C.served results },
+    ghost is_held: { H.is_of (C.function results) ≡ true },
 }
 
 impl<C: Chosen, H: HeldRuns> Kernel for ResultKernel<C, H> {
@@ -284,7 +310,13 @@ impl<C: Chosen, H: HeldRuns> Kernel for ResultKernel<C, H> {
         as_held(self.results.result_at(place))
     }
 
-    fn write_run(&self, from: usize, to: usize, room: &mut [H]) -> usize {
-        self.results.write(from, to, room)
+    #[inline(always)]
+    fn write_chosen(
+        &self,
+        from: usize,
+        to: usize,
+        room: &mut [H],
+    ) -> Option<Result<(), FirstFault>> {
+        Some(self.results.write(from, to, room))
     }
 }

@@ -108,12 +108,12 @@ impl<T: ElementType> Operand for Spaced<'_, T> {
     }
 }
 
-/// Two arguments of one kind in row order. One that is whole has an element for each of `count`
+/// Two arguments in row order. One that is whole has an element for each of `count`
 /// places; the other has one element, which serves at all of them.
 #[derive(Drop)]
-pub(crate) struct Pairs<'a, T> {
+pub(crate) struct Pairs<'a, T, U> {
     pub left: &'a [T],
-    pub right: &'a [T],
+    pub right: &'a [U],
     pub left_is_whole: bool,
     pub right_is_whole: bool,
     pub count: usize,
@@ -125,21 +125,21 @@ pub(crate) struct Pairs<'a, T> {
     ghost one_whole: { left_is_whole ≡ false → right_is_whole ≡ true },
 }
 
-impl<'a, T: ElementType> Pairs<'a, T> {
+impl<'a, T: ElementType, U: ElementType> Pairs<'a, T, U> {
     /// The pairs of the elements of two arrays, which `shape` extends.
     pub(crate) fn new(
         left_array: &Array,
         left: &'a [T],
         right_array: &Array,
-        right: &'a [T],
+        right: &'a [U],
         shape: &Shape,
-    ) -> Pairs<'a, T>
+    ) -> Pairs<'a, T, U>
         requires shape { extended_shape left_array.now.shape right_array.now.shape ≡ Ok shape.now }
         requires left { left_array.now.ravel ≡ map T.elem_of left.now }
-        requires right { right_array.now.ravel ≡ map T.elem_of right.now }
+        requires right { right_array.now.ravel ≡ map U.elem_of right.now }
         ensures count { result.count ≡ count_of shape.now }
         ensures left { ServesFor (map T.elem_of result.left.now) result.left_is_whole left_array.now shape.now }
-        ensures right { ServesFor (map T.elem_of result.right.now) result.right_is_whole right_array.now shape.now }
+        ensures right { ServesFor (map U.elem_of result.right.now) result.right_is_whole right_array.now shape.now }
     {
         places_match_index_lists();
         Pairs {

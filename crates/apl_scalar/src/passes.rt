@@ -45,6 +45,7 @@ fn fill_results<C: Chosen + Sync, W: Crew>(
     work: usize,
 ) -> Result<Array, OpFault>
     requires places { count_of shape ≤ C.served results }
+    requires function { C.function results ≡ f }
     requires truths { IsTrue (is_truth_valued f) → (place : ℕ) → place < count_of shape
         → element_outcome truth_element (truth_outcome (C.outcome results place)) ≡ as_element (C.outcome results place) }
     ensures { IsAnswerAt shape Number (λ place. as_element (C.outcome results place)) result }
@@ -107,18 +108,19 @@ fn fill_operands<A: Operand + Sync, B: Operand + Sync, W: Crew>(
     fill_results(workers, f, shape, OfPairs { f, left, right }, work)
 }
 
-/// A dyadic function of each pair of elements of one type. A pass is compiled for each way in which the arguments may be extended.
-pub(crate) fn fill_pairs<T: ElementType + Sync, W: Crew>(
+/// A dyadic function of each pair of elements. A pass is compiled for each two ways to hold them and for each way in which the arguments may
+/// be extended.
+pub(crate) fn fill_pairs<T: ElementType + Sync, U: ElementType + Sync, W: Crew>(
     workers: &W,
     f: ScalarFunction,
     shape: Shape,
-    pairs: &Pairs<T>,
+    pairs: &Pairs<T, U>,
 ) -> Result<Array, OpFault>
     requires { pairs.now.count ≡ count_of shape }
-    ensures { IsAnswerAt shape Number (λ place. as_element (pair_in f T.elem_of pairs.now place)) result }
+    ensures { IsAnswerAt shape Number (λ place. as_element (pair_in f T.elem_of U.elem_of pairs.now place)) result }
 {
     let (left, right) = (Whole(pairs.left), Whole(pairs.right));
-    let work = work_of_pairs::<T>(f, pairs.count);
+    let work = work_of_pairs::<T>(f, pairs.count).max(work_of_pairs::<U>(f, pairs.count));
     if pairs.left_is_whole && pairs.right_is_whole {
         fill_operands(workers, f, shape, left, right, work)
     } else if pairs.left_is_whole {

@@ -1,5 +1,5 @@
 //! One element with each of others, as in a row of an outer product, and the elements of two lists that meet, as in an inner product.
-ghost use Rattle.std.specs.Prelude.{◌≡◌, ◌<◌, ◌≤◌, pos, IsErr, length, map, slice_index_or};
+ghost use Rattle.std.specs.Prelude.{◌≡◌, ◌<◌, ◌≤◌, pos, true, IsErr, length, map, slice_index_or};
 ghost use Rattle.apl_array.specs.declared.array.Elem.TheVariants.{Int};
 ghost use Rattle.apl_pool.specs.declared.kernel.TheConstants.{MOST_PLACES};
 ghost use Rattle.apl_pool.specs.Runs.{AreWritten};
@@ -12,25 +12,32 @@ use crate::operands::{Spaced, Value, Whole};
 use crate::runs::{HeldRuns, write_results};
 use apl_answer::ElementType;
 
-/// Writes what the function of type `F` gives of `x` and each of others into the room for them. It ends at some other, or
-/// at the first that has a fault. It answers how many it wrote, and takes no memory.
+/// Writes what the function of type `F` gives of `x` and each of others into the room for them, up to the first that has a fault. It
+/// answers how many it wrote, and takes no memory.
 #[inline(always)]
 pub fn write_pairs<F: Function + Copy, T: ElementType, U: ElementType, H: HeldRuns>(
     x: T,
     others: &[U],
     room: &mut [H],
 ) -> usize
+    requires held { H.is_of F.FUNCTION ≡ true }
     requires most { length others.now ≤ MOST_PLACES }
     requires room { length others.now ≤ length room.old }
     ensures within { result ≤ length others.now }
     ensures values { AreWritten (λ k. H.held (dyadic_of F.FUNCTION (T.elem_of x) (slice_index_or (map U.elem_of others.now) k (Int (pos 0))))) 0 result room.new }
+    ensures fault { result < length others.now → IsErr (H.held (dyadic_of F.FUNCTION (T.elem_of x) (slice_index_or (map U.elem_of others.now) result (Int (pos 0))))) }
     ensures len { length room.new ≡ length room.old }
 {
+    // So no loop is made where results are held in another way.
     if !H::holds(F::FUNCTION) {
-        return 0;
+        unreachable!()
     }
     let results = PairResults::<Value<T>, Whole<U>, F>::new(Value(x), Whole(others));
-    write_results(results, 0, others.len(), room)
+    let count = others.len();
+    match write_results(results, 0, count, &mut room[..count]) {
+        Ok(()) => count,
+        Err(first) => first.place,
+    }
 }
 
 /// Writes what the function of type `F` gives of the elements of two lists that meet at each place into the room for them, up to the
@@ -50,7 +57,11 @@ fn write_spaced<F: Function + Copy, T: ElementType, U: ElementType>(
     ensures len { length room.new ≡ length room.old }
 {
     let results = PairResults::<Spaced<T>, Spaced<U>, F>::new(left, right);
-    write_results(results, 0, left.count, room)
+    let count = left.count;
+    match write_results(results, 0, count, &mut room[..count]) {
+        Ok(()) => count,
+        Err(first) => first.place,
+    }
 }
 
 /// Writes what the function of type `F` gives of the elements of two lists that meet at each place into the room for them, up to the

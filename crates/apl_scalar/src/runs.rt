@@ -1,14 +1,14 @@
 //! Runs of results. A run is first written as if no place had a fault.
-ghost use Rattle.std.specs.Prelude.{◌≡◌, ◌+◌, ◌*◌, ◌<◌, ◌≤◌, true, IsErr, length};
+ghost use Rattle.std.specs.Prelude.{◌≡◌, ◌+◌, ◌*◌, ◌<◌, ◌≤◌, true, IfErr, OnOk, length};
 ghost use Rattle.apl_pool.specs.declared.kernel.TheConstants.{MOST_PLACES};
-ghost use Rattle.apl_pool.specs.Runs.{AreWritten};
+ghost use Rattle.apl_pool.specs.Runs.{AreWritten, IsFaultAfter};
 ghost use Rattle.apl_scalar.specs.Scalar.{truth_outcome};
 ghost use Rattle.apl_scalar.specs.Runs.{HasPart, DiffersIn};
 
 use crate::function_types::is_truth_valued;
 use crate::held::{Held, as_held};
 use apl_array::ScalarFunction;
-use apl_pool::{Fault, Kernel, write_values};
+use apl_pool::{Fault, FirstFault, Kernel, write_values};
 use std::marker::PhantomData;
 
 /// The most places of the first run, which tells what the next ones are like. What it leaves of a piece of 4096 places, or of a stretch of
@@ -66,7 +66,8 @@ const BLOCK: usize = 16;
 
 /// A type that results are held as, with its quick runs of these.
 pub trait HeldRuns: Held {
-    ghost use Rattle.std.specs.Prelude.{◌≡◌, ℕ, ◌+◌, ◌<◌, ◌≤◌, length};
+    ghost use Rattle.std.specs.Prelude.{◌≡◌, ℕ, ◌+◌, ◌<◌, ◌≤◌, Bool, length};
+    ghost use Rattle.apl_array.specs.declared.function.ScalarFunction.{ScalarFunction};
     ghost use Rattle.apl_pool.specs.declared.kernel.TheConstants.{MOST_PLACES};
     ghost use Rattle.apl_pool.specs.Runs.{AreWritten};
     ghost use Rattle.apl_scalar.specs.declared.runs.TheConstants.{BLOCK};
@@ -75,6 +76,9 @@ pub trait HeldRuns: Held {
     // How many places are a block.
     ghost block: { ℕ };
 
+    // Whether the results of a function are held so.
+    ghost is_of: { ScalarFunction → Bool };
+
     /// How many places are a block.
     fn block_places() -> usize
         ensures value { result ≡ block }
@@ -82,7 +86,8 @@ pub trait HeldRuns: Held {
         ensures few { result ≤ BLOCK };
 
     /// Whether the results of a function are held so. As no others are, no loops are made for them.
-    fn holds(f: ScalarFunction) -> bool;
+    fn holds(f: ScalarFunction) -> bool
+        ensures { result ≡ is_of f };
 
     /// Writes the block of likely results after the first `done` into the room for the places from `from` on. It answers the doubts whether
     /// they are right. It takes no memory.
@@ -113,7 +118,12 @@ pub trait HeldRuns: Held {
 }
 
 impl HeldRuns for i64 {
+    ghost use Rattle.std.specs.Prelude.{not};
+    ghost use Rattle.apl_scalar.specs.Scalar.{is_truth_valued};
+
     ghost block = { 1 };
+
+    ghost is_of = { λ f. not (is_truth_valued f) };
 
     #[inline(always)]
     fn block_places() -> usize {
@@ -147,8 +157,11 @@ impl HeldRuns for i64 {
 /// Truth values are written beside the room first, so that no store comes between two reads, and a processor compares a block at once.
 impl HeldRuns for bool {
     ghost use Rattle.apl_scalar.specs.declared.runs.TheConstants.{BLOCK};
+    ghost use Rattle.apl_scalar.specs.Scalar.{is_truth_valued};
 
     ghost block = { BLOCK };
+
+    ghost is_of = { is_truth_valued };
 
     #[inline(always)]
     fn block_places() -> usize {
@@ -311,24 +324,22 @@ impl<P: Results, H: HeldRuns> Kernel for HeldResults<P, H> {
     }
 }
 
-/// Writes results into the room for the places from `from` up to before `to`. It answers the place of the first fault, or `to`. If one result
-/// of the first run is not sure, all are written one by one, since the next runs tend to be like this one. After a later run that is not sure
-/// it begins anew with a first run. Results that have no quick runs are written one by one too.
+/// Writes results into the room for the places from `from` up to before `to`, up to the first that has a fault. If one result of the first
+/// run is not sure, all are written one by one, since the next runs tend to be like this one. After a later run that is not sure it begins
+/// anew with a first run. Results that have no quick runs are written one by one too.
 #[inline(always)]
 pub(crate) fn write_results<P: Results, H: HeldRuns>(
     results: P,
     from: usize,
     to: usize,
     room: &mut [H],
-) -> usize
+) -> Result<(), FirstFault>
     requires order { from ≤ to }
     requires places { to ≤ P.served results }
     requires most { to ≤ MOST_PLACES }
-    requires room { to ≤ from + length room.old }
-    ensures order { from ≤ result }
-    ensures within { result ≤ to }
-    ensures values { AreWritten (λ place. H.held (P.outcome results place)) from result room.new }
-    ensures fault { result < to → IsErr (H.held (P.outcome results result)) }
+    requires room { from + length room.old ≡ to }
+    ensures values { OnOk result (AreWritten (λ place. H.held (P.outcome results place)) from to room.new) }
+    ensures fault { IfErr result (λ first. IsFaultAfter (λ place. H.held (P.outcome results place)) from to first.place first.fault room.new) }
     ensures len { length room.new ≡ length room.old }
 {
     let kernel = HeldResults {
@@ -336,5 +347,5 @@ pub(crate) fn write_results<P: Results, H: HeldRuns>(
         to,
         held: PhantomData,
     };
-    write_values(&kernel, from, to, &mut room[..to - from])
+    write_values(&kernel, from, to, room)
 }

@@ -1,20 +1,19 @@
--- Truth values in lines of neighbours, joined by ∧ or ∨.
+-- Truth values in lines of neighbours, joined by "and" or "or".
 use Rattle.std.proofs.Common.{◌≡◌, ◌⊎◌, ℕ, zero, suc, ℤ, pos, ◌+◌, ◌-◌, ◌*◌, ◌/◌, ◌%◌, ◌<◌, ◌≤◌, Bool, true, false, not, List, map, length, take, drop, Ok, Result, slice_index_or, get_or-drop, get_or-take, inl, inr, ⊎_elim, ap, sym, ◌∙◌, refl, arith, mul-le-mul_right}
-use Rattle.std.specs.Prelude.{◌&&◌, ◌||◌}
 use Rattle.std.proofs.lemmas.Bool.{cases_lt}
 use Rattle.std.proofs.lemmas.List.{length-map, get_or_default}
 use Rattle.std.proofs.Math.ListN.{get_or-map}
 use Rattle.std.proofs.Math.Nat.{mod-lt, div-one, div-add-mod'}
 use Rattle.apl_array.specs.declared.array.Elem.TheVariants.{Int}
 use Rattle.apl_array.specs.declared.function.ScalarFunction.{ScalarFunction}
-use Rattle.apl_array.specs.declared.function.ScalarFunction.TheVariants.{And, Or}
+use Rattle.apl_array.specs.declared.function.ScalarFunction.TheVariants.{Times, Floor, Ceiling, And, Or}
 use Rattle.apl_array.specs.Array.{bit, truth_element}
 use Rattle.apl_pool.specs.declared.kernel.Fault.{Fault}
 use Rattle.apl_pool.specs.Pool.{AreValues}
 use Rattle.apl_scalar.specs.Scalar.{dyadic_numbers, is_one, truth_outcome}
 use Rattle.apl_answer.specs.Elements.{element_outcome}
 use Rattle.apl_scan.specs.Lines.{folded, number_along, numbers_before, scan_at}
-use Rattle.apl_scan.specs.TruthLines.{IsEndOf, IsEnded, AreEnded, AreTruthScans}
+use Rattle.apl_scan.specs.TruthLines.{join, IsEndOf, IsEnded, AreEnded, AreTruthScans}
 
 -- what is at a place of a part of a list
 pub part_at : (xs : List Bool) (from to k : ℕ) (d : Bool) → k < to - from → slice_index_or (take (to - from) (drop from xs)) k d ≡ slice_index_or xs (from + k) d
@@ -28,29 +27,35 @@ still_ended end truths first items old new ended same = record {
   after = λ j k d order inside is. same (first + k) d (omega (arith, inside)) ∙ ended.after j k d order inside is;
 }
 
--- two truth values, by the function whose lines have this end
-abbrev join : Bool → Bool → Bool → Bool
-join false x y = x && y
-join true x y = x || y
+is_and : (f : ScalarFunction) → dyadic_numbers f (pos 1) (pos 1) ≡ Ok (pos 1) → dyadic_numbers f (pos 1) (pos 0) ≡ Ok (pos 0)
+    → dyadic_numbers f (pos 0) (pos 1) ≡ Ok (pos 0) → dyadic_numbers f (pos 0) (pos 0) ≡ Ok (pos 0) → IsEndOf f false
+is_and f both left right none true true = both
+is_and f both left right none true false = left
+is_and f both left right none false true = right
+is_and f both left right none false false = none
 
-and_is : (x y : Bool) → dyadic_numbers And (bit x) (bit y) ≡ Ok (bit (join false x y))
-and_is true true = refl
-and_is true false = refl
-and_is false true = refl
-and_is false false = refl
+is_or : (f : ScalarFunction) → dyadic_numbers f (pos 1) (pos 1) ≡ Ok (pos 1) → dyadic_numbers f (pos 1) (pos 0) ≡ Ok (pos 1)
+    → dyadic_numbers f (pos 0) (pos 1) ≡ Ok (pos 1) → dyadic_numbers f (pos 0) (pos 0) ≡ Ok (pos 0) → IsEndOf f true
+is_or f both left right none true true = both
+is_or f both left right none true false = left
+is_or f both left right none false true = right
+is_or f both left right none false false = none
 
-or_is : (x y : Bool) → dyadic_numbers Or (bit x) (bit y) ≡ Ok (bit (join true x y))
-or_is true true = refl
-or_is true false = refl
-or_is false true = refl
-or_is false false = refl
+-- the functions that are "and" or "or" of truth values
+pub end_of_and : IsEndOf And false
+end_of_and = is_and And refl refl refl refl
 
-step_is : (f : ScalarFunction) (end : Bool) → IsEndOf f end → (x y : Bool) → dyadic_numbers f (bit x) (bit y) ≡ Ok (bit (join end x y))
-step_is f end ends x y =
-    ⊎_elim
-    (λ p. rw (p.0, p.1) (and_is x y))
-    (λ p. rw (p.0, p.1) (or_is x y))
-    ends
+pub end_of_times : IsEndOf Times false
+end_of_times = is_and Times refl refl refl refl
+
+pub end_of_floor : IsEndOf Floor false
+end_of_floor = is_and Floor refl refl refl refl
+
+pub end_of_or : IsEndOf Or true
+end_of_or = is_or Or refl refl refl refl
+
+pub end_of_ceiling : IsEndOf Ceiling true
+end_of_ceiling = is_or Ceiling refl refl refl refl
 
 end_stays : (end y : Bool) → join end end y ≡ end
 end_stays true y = refl
@@ -136,7 +141,7 @@ module _ (f : ScalarFunction) (end : Bool) (ends : IsEndOf f end) (truths : List
       (λ one. one_is_end end t 0 k one.0 (omega (arith, one.1)) (ap t (flat one.0) ∙ one.2) ∙ sym (here.after one.0 k d (omega (arith, one.1)) within (sym (read one.0) ∙ one.2)))
       (some_or_none end t (k + 1)) in
       ap (λ n. folded (dyadic_numbers f) (number_along (map bit truths) (place - n * 1) 1) 0 n) before
-      ∙ fold_is end t (dyadic_numbers f) (step_is f end ends) number are 0 k
+      ∙ fold_is end t (dyadic_numbers f) ends number are 0 k
       ∙ ap (λ b. Ok (bit b)) (value ∙ ap (λ p. slice_index_or values p d) at)
 
   -- so these are the folds

@@ -1,7 +1,6 @@
 -- Truth values in lines of neighbours. No contract of a public function cites this file.
-use Rattle.std.specs.Prelude.{◌≡◌, ◌⊎◌, ℕ, ◌+◌, ◌*◌, ◌<◌, ◌≤◌, ℤ, pos, neg_ℤ, ◌-ℤ◌, ◌≤ℤ◌, Bool, true, false, not, List, map, length, slice_index_or}
+use Rattle.std.specs.Prelude.{◌≡◌, ℕ, ◌+◌, ◌*◌, ◌<◌, ◌≤◌, ℤ, pos, neg_ℤ, ◌-ℤ◌, ◌≤ℤ◌, Bool, true, false, not, ◌&&◌, ◌||◌, List, map, length, slice_index_or, Ok}
 use Rattle.apl_array.specs.declared.function.ScalarFunction.{ScalarFunction}
-use Rattle.apl_array.specs.declared.function.ScalarFunction.TheVariants.{And, Or}
 use Rattle.apl_array.specs.Array.{bit}
 use Rattle.apl_pool.specs.Pool.{AreValues}
 use Rattle.apl_scalar.specs.Scalar.{dyadic_numbers}
@@ -12,11 +11,16 @@ use Rattle.apl_scan.specs.Lines.{scan_at}
 abbrev pub AreTruthScans : ScalarFunction → List Bool → (items : ℕ) → List ℤ → Type 0
 AreTruthScans f truths items numbers = AreValues (scan_at (dyadic_numbers f) (map bit truths) items 1) (length truths) numbers
 
--- ---- joined by ∧ or ∨
+-- ---- joined by "and" or "or"
 
--- the value that ends a line: false for ∧, true for ∨
+-- two truth values joined by "and", whose lines are ended by false, or by "or", whose lines are ended by true
+abbrev pub join : Bool → Bool → Bool → Bool
+join false x y = x && y
+join true x y = x || y
+
+-- of truth values the function is the one whose lines have this end
 abbrev pub IsEndOf : ScalarFunction → Bool → Type 0
-IsEndOf f end = ((f ≡ And) × (end ≡ false)) ⊎ ((f ≡ Or) × (end ≡ true))
+IsEndOf f end = (x y : Bool) → dyadic_numbers f (bit x) (bit y) ≡ Ok (bit (join end x y))
 
 -- what is joined of the line of `items` truth values from place `first` on: the end from the first one on that is the end, and the other
 -- value before it

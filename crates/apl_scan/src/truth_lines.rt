@@ -1,4 +1,4 @@
-//! Truth values in lines of neighbours, each joined with all before it in its line by `∧` or `∨`. A line keeps one value up to the first
+//! Truth values in lines of neighbours, each joined with all before it in its line by "and" or "or". A line keeps one value up to the first
 //! that ends it, and has that one from there on.
 ghost use Rattle.std.specs.Prelude.{◌≡◌, ◌⊎◌, ℕ, ◌+◌, ◌*◌, ◌/◌, ◌<◌, ◌≤◌, Bool, true, false, not, IfOk, IfSome, length, slice_index_or, vec_len};
 ghost use Rattle.apl_scan.specs.TruthLines.{IsEndOf, IsEnded, AreEnded};
@@ -7,13 +7,13 @@ use apl_array::ScalarFunction;
 use apl_pool::Crew;
 use std::alloc::AllocError;
 
-/// The value that ends a line: false for `∧`, true for `∨`.
+/// The value that ends a line: false for `∧`, `×` and `⌊`, which are all "and" of truth values, and true for `∨` and `⌈`.
 pub(crate) fn end_of(f: ScalarFunction) -> Option<bool>
     ensures { IfSome result (IsEndOf f) }
 {
     match f {
-        ScalarFunction::And => Some(false),
-        ScalarFunction::Or => Some(true),
+        ScalarFunction::And | ScalarFunction::Times | ScalarFunction::Floor => Some(false),
+        ScalarFunction::Or | ScalarFunction::Ceiling => Some(true),
         _ => None,
     }
 }

@@ -9,11 +9,10 @@ invariant_of-result g c =
     let a = c.args.left_array.now in
     let b = c.args.right_array.now in
     let shape = c.args.shape.now in
-    let elem_of = g.T.ElementType.elem_of in
-    let left_same : is_same_shape a.shape shape ≡ c.eq.result = grind (arith, c.eq.ensures, c.lengths.ensures.lengths, c.shape.ensures.shape, c.lengths-2.ensures.lengths) in
+        let left_same : is_same_shape a.shape shape ≡ c.eq.result = grind (arith, c.eq.ensures, c.lengths.ensures.lengths, c.shape.ensures.shape, c.lengths-2.ensures.lengths) in
     let right_same : is_same_shape b.shape shape ≡ c.eq-2.result = grind (arith, c.eq-2.ensures, c.lengths-3.ensures.lengths, c.shape-2.ensures.shape, c.lengths-4.ensures.lengths) in
-    let left_count = count_of_items a elem_of c.args.left.now c.requires.left c.shape.ensures.lawful in
-    let right_count = count_of_items b elem_of c.args.right.now c.requires.right c.shape-2.ensures.lawful in
+    let left_count = count_of_items a g.T.ElementType.elem_of c.args.left.now c.requires.left c.shape.ensures.lawful in
+    let right_count = count_of_items b g.U.ElementType.elem_of c.args.right.now c.requires.right c.shape-2.ensures.lawful in
     record {
       most = omega (arith, c.count.ensures.count, c.count.ensures.lawful.count);
       left_whole = λ whole. left_count ∙ ap count_of (same_from_test a.shape shape (left_same ∙ whole)) ∙ sym c.count.ensures.count;
@@ -35,4 +34,4 @@ returns-clause-right g c =
     let b = c.args.right_array.now in
     let shape = c.args.shape.now in
     let same : is_same_shape b.shape shape ≡ c.eq-2.result = grind (arith, c.eq-2.ensures, c.lengths-3.ensures.lengths, c.shape-2.ensures.shape, c.lengths-4.ensures.lengths) in
-    operand_from_source c.places_match_index_lists.ensures.same_place b (map g.T.ElementType.elem_of c.args.right.now) shape c.eq-2.result c.requires.right same
+    operand_from_source c.places_match_index_lists.ensures.same_place b (map g.U.ElementType.elem_of c.args.right.now) shape c.eq-2.result c.requires.right same
