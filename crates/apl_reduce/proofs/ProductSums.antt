@@ -10,6 +10,7 @@ use Rattle.apl_array.specs.declared.function.ScalarFunction.TheVariants.{Plus, T
 use Rattle.apl_array.specs.Range.{IsInRange, in_range}
 use Rattle.apl_scalar.specs.Meeting.{meeting_number}
 use Rattle.apl_scalar.specs.Scalar.{dyadic_of}
+use Rattle.apl_reduce.specs.declared.product_sums.Bounds.{Bounds}
 use Rattle.apl_reduce.specs.declared.product_sums.ProductSum.{ProductSum}
 use Rattle.apl_reduce.specs.Items.{as_number, judged_items, item_in}
 use Rattle.apl_reduce.specs.Magnitudes.{IsSumNear, meeting_product, IsProductSum}
@@ -17,8 +18,8 @@ use Rattle.apl_reduce.proofs.Adding.{exact_fits, judged_sum}
 use Rattle.apl_reduce.proofs.Distances.{sum_near}
 use Rattle.apl_reduce.proofs.NearSums.{sum_is_near}
 
-pub near_product : (near : ℕ) (x y : ℤ) → unsigned_abs x ≤ near → unsigned_abs y ≤ near → unsigned_abs (x *ℤ y) ≤ near * near
-near_product near x y left right = rw unsigned_abs-mul (mul-le-mul left right)
+pub near_product : (most other : ℕ) (x y : ℤ) → unsigned_abs x ≤ most → unsigned_abs y ≤ other → unsigned_abs (x *ℤ y) ≤ most * other
+near_product most other x y left right = rw unsigned_abs-mul (mul-le-mul left right)
 
 -- a sum and one product more stay in the range
 pub next_fits : (number : ℕ → ℤ) (most count : ℕ) (sum : ℤ) → IsSumNear number most count sum → unsigned_abs (number count) ≤ most → most * (count + 1) < 2 ^ 63 → unsigned_abs (sum +ℤ number count) < 2 ^ 63
@@ -31,7 +32,7 @@ both_fit number later most m n low high before after small =
     omega (arith, sum_near low high, sum_is_near number most m low before, sum_is_near later most n high after, small)
 
 -- the sum of both halves of `n` products, or of all but the last
-pub halves_sum : (left right : List ℤ) (near n k : ℕ) (low high both : ProductSum) → n / 2 ≤ k → k ≤ n / 2 → IsProductSum left right near 0 k low → IsProductSum left right near (n / 2) k high
+pub halves_sum : (left right : List ℤ) (near : Bounds) (n k : ℕ) (low high both : ProductSum) → n / 2 ≤ k → k ≤ n / 2 → IsProductSum left right near 0 k low → IsProductSum left right near (n / 2) k high
     → (IsProductSum left right near 0 (n / 2) low → IsProductSum left right near (0 + n / 2) (n / 2) high → IsProductSum left right near 0 (n / 2 + n / 2) both)
     → IsProductSum left right near 0 (n / 2 + n / 2) both
 halves_sum left right near n k low high both above below low_is high_is joined =
@@ -60,11 +61,11 @@ line_within start stride count len next some last =
 
 -- ---- its fold
 
-module _ (decided : (z : ℤ) → (in_range z ≡ true) ↔ IsInRange z) (bits : (z : ℤ) → IsInRange z ↔ FitsSigned w64 z) (left right : List ℤ) (start stride other gap count near : ℕ)
+module _ (decided : (z : ℤ) → (in_range z ≡ true) ↔ IsInRange z) (bits : (z : ℤ) → IsInRange z ↔ FitsSigned w64 z) (left right : List ℤ) (start stride other gap count most : ℕ)
     (left_line right_line : List ℤ) (left_next : stride ≡ 1) (right_next : gap ≡ 1)
     (left_is : (k : ℕ) → k < count → slice_index_or left_line k (pos 0) ≡ slice_index_or left (start + k) (pos 0))
     (right_is : (k : ℕ) → k < count → slice_index_or right_line k (pos 0) ≡ slice_index_or right (other + k) (pos 0))
-    (small : near * near * count < 2 ^ 63) (sum : ℤ) (is : IsSumNear (meeting_product left_line right_line 0) (near * near) count sum) where
+    (small : most * count < 2 ^ 63) (sum : ℤ) (is : IsSumNear (meeting_product left_line right_line 0) most count sum) where
   abbrev number : ℕ → ℤ
   number = meeting_product left_line right_line 0
 
@@ -77,8 +78,8 @@ module _ (decided : (z : ℤ) → (in_range z ≡ true) ↔ IsInRange z) (bits :
       let y = slice_index_or right (other + k) (pos 0) in
       let same : number k ≡ x *ℤ y = ap (λ n. slice_index_or left_line n (pos 0) *ℤ slice_index_or right_line n (pos 0)) here ∙ ap (λ z. z *ℤ slice_index_or right_line k (pos 0)) (left_is k below) ∙ ap (λ z. x *ℤ z) (right_is k below) in
       let some : 1 ≤ count = omega (arith, below) in
-      let most : near * near * 1 ≤ near * near * count = mul-le-mul (le_refl (near * near)) some in
-      let fits : unsigned_abs (x *ℤ y) < 2 ^ 63 = omega (arith, most, small, subst (λ z. unsigned_abs z ≤ near * near) same (is.near k below)) in
+      let one : most * 1 ≤ most * count = mul-le-mul (le_refl most) some in
+      let fits : unsigned_abs (x *ℤ y) < 2 ^ 63 = omega (arith, one, small, subst (λ z. unsigned_abs z ≤ most) same (is.near k below)) in
       ap (λ n. dyadic_of Times (item_in (map Int left) n) (item_in (map Int right) (other + k * gap))) i
       ∙ ap (λ n. dyadic_of Times (item_in (map Int left) (start + k)) (item_in (map Int right) n)) j
       ∙ ap (λ e. dyadic_of Times e (item_in (map Int right) (other + k))) (get_or-map Int left (start + k) (pos 0))
@@ -88,5 +89,5 @@ module _ (decided : (z : ℤ) → (in_range z ≡ true) ↔ IsInRange z) (bits :
 
   pub line_sum : as_number (judged_items (meeting_number Times (map Int left) start stride (map Int right) other gap) Plus count) ≡ Ok sum
   line_sum =
-      sym (judged_sum number (near * near) count is.near decided bits small (meeting_number Times (map Int left) start stride (map Int right) other gap) item_is count (omega arith))
+      sym (judged_sum number most count is.near decided bits small (meeting_number Times (map Int left) start stride (map Int right) other gap) item_is count (omega arith))
       ∙ ap Ok (sym is.is)

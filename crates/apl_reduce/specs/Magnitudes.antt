@@ -1,6 +1,7 @@
 -- How far numbers are from 0, and sums of them. No contract of a public function cites this file.
 use Rattle.std.specs.Prelude.{◌≡◌, ℕ, zero, suc, ℤ, pos, negsuc, ◌+◌, ◌-◌, ◌*◌, ◌^◌, ◌<◌, ◌≤◌, ◌+ℤ◌, ◌*ℤ◌, List, [], ◌∷◌, unsigned_abs, max, slice_index_or}
 use Rattle.apl_reduce.specs.declared.near_sums.NearSum.{NearSum}
+use Rattle.apl_reduce.specs.declared.product_sums.Bounds.{Bounds}
 use Rattle.apl_reduce.specs.declared.product_sums.ProductSum.{ProductSum}
 
 -- the greatest distance from 0 among numbers, and 0 among none
@@ -39,6 +40,8 @@ IsSum numbers first step count near = near.bits < 2 ^ 47 → IsSumNear (spaced_n
 abbrev pub meeting_product : (left right : List ℤ) → (first k : ℕ) → ℤ
 meeting_product left right first k = slice_index_or left (first + k) (pos 0) *ℤ slice_index_or right (first + k) (pos 0)
 
--- a sum of such products, if so many of numbers at most `near` from 0 stay in the range, and no bits say that a number is farther
-abbrev pub IsProductSum : (left right : List ℤ) → (near first count : ℕ) → ProductSum → Type 0
-IsProductSum left right near first count s = near * near * count < 2 ^ 63 → s.bits < 2 * near → IsSumNear (meeting_product left right first) (near * near) count s.sum
+-- a sum of such products, if so many of numbers within these bounds stay in the range, and no bits say that a number is farther from 0
+abbrev pub IsProductSum : (left right : List ℤ) → Bounds → (first count : ℕ) → ProductSum → Type 0
+IsProductSum left right near first count s =
+    near.left * near.right * count < 2 ^ 63 → s.left < 2 * near.left → s.right < 2 * near.right
+    → IsSumNear (meeting_product left right first) (near.left * near.right) count s.sum

@@ -315,10 +315,7 @@ impl<T: Foldable> Kernel for AxisFolds<'_, T> {
         to: usize,
         room: &mut [i64],
     ) -> Option<Result<(), FirstFault>> {
-        Some(with_type!(
-            self.f,
-            write_folds::<F, T>(self.axis, from, to, room)
-        ))
+        Some(with_type!(self.f, write_folds::<F, T>(self.axis, from, to, room)))
     }
 }
 

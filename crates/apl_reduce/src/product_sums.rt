@@ -11,7 +11,7 @@ ghost use Rattle.apl_reduce.specs.Magnitudes.{IsProductSum};
 use crate::dyadic::Typed;
 use crate::items::reduced;
 use crate::layouts::Layout;
-use crate::magnitudes::sums_are_small;
+use crate::magnitudes::{magnitude, sums_are_small};
 use crate::near_sums::{above_least, wrapped_sum};
 use crate::product_items::{LineItems, ProductItems};
 use crate::sums::narrow_product;
@@ -21,47 +21,62 @@ use apl_pool::{Crew, Fault, Kernel, Stop, fill};
 use apl_scalar::function_types::{Plus, Times};
 use std::marker::PhantomData;
 
+/// How far from 0 the numbers of two lists that meet may be.
+#[derive(Clone, Copy)]
+pub(crate) struct Bounds {
+    left: u64,
+    right: u64,
+}
+
 /// A sum of products. If one of the numbers is far from 0, it may have wrapped.
 #[derive(Clone, Copy)]
 pub(crate) struct ProductSum {
     sum: i64,
-    /// The bits that one or more of the numbers has, each counted from the least one that is near 0.
-    bits: u64,
+    /// The bits that one or more of the left numbers has, each counted from the least one that is near 0.
+    left: u64,
+    /// The same of the right numbers.
+    right: u64,
 }
 
 impl ProductSum {
     /// The sum of no product.
     #[inline(always)]
     fn none() -> ProductSum
-        ensures { (left right : List ℤ) (near first : ℕ) → IsProductSum left right near first 0 result }
+        ensures { (left right : List ℤ) (near : Bounds) (first : ℕ) → IsProductSum left right near first 0 result }
     {
-        ProductSum { sum: 0, bits: 0 }
+        ProductSum {
+            sum: 0,
+            left: 0,
+            right: 0,
+        }
     }
 
     /// The sum with the product of the numbers that meet at a place.
     #[inline(always)]
-    fn with_next(&self, left: &[i64], right: &[i64], near: u64, place: usize) -> ProductSum
+    fn with_next(&self, left: &[i64], right: &[i64], near: Bounds, place: usize) -> ProductSum
         requires left { place < length left.now }
         requires right { place < length right.now }
-        requires near { near ≤ 2 ^ 30 }
+        requires near { (near.left ≤ 2 ^ 30) × (near.right ≤ 2 ^ 30) }
         ensures { (first count : ℕ) → first + count ≡ place → IsProductSum left.now right.now near first count self.now → IsProductSum left.now right.now near first (count + 1) result }
     {
         let (x, y) = (left[place], right[place]);
         ProductSum {
             sum: wrapped_sum(self.sum, narrow_product(x, y)),
-            bits: self.bits | above_least(x, near) | above_least(y, near),
+            left: self.left | above_least(x, near.left),
+            right: self.right | above_least(y, near.right),
         }
     }
 
     /// The sum with that of the products that are next.
     #[inline(always)]
     fn joined(&self, next: &ProductSum) -> ProductSum
-        ensures { (left right : List ℤ) (near first count more : ℕ) → IsProductSum left right near first count self.now → IsProductSum left right near (first + count) more next.now
+        ensures { (left right : List ℤ) (near : Bounds) (first count more : ℕ) → IsProductSum left right near first count self.now → IsProductSum left right near (first + count) more next.now
             → IsProductSum left right near first (count + more) result }
     {
         ProductSum {
             sum: wrapped_sum(self.sum, next.sum),
-            bits: self.bits | next.bits,
+            left: self.left | next.left,
+            right: self.right | next.right,
         }
     }
 }
@@ -69,9 +84,9 @@ impl ProductSum {
 /// The sum of the products of the numbers that meet in two lists. A turn takes a pair of each half, since memory gives two streams
 /// faster than one. The loop has no branches, and a processor multiplies several numbers at once.
 #[inline(never)]
-fn product_sum(left: &[i64], right: &[i64], near: u64) -> ProductSum
+fn product_sum(left: &[i64], right: &[i64], near: Bounds) -> ProductSum
     requires same { length right.now ≡ length left.now }
-    requires near { near ≤ 2 ^ 30 }
+    requires near { (near.left ≤ 2 ^ 30) × (near.right ≤ 2 ^ 30) }
     ensures { IsProductSum left.now right.now near 0 (length left.now) result }
 {
     let half = left.len() / 2;
@@ -89,6 +104,9 @@ fn product_sum(left: &[i64], right: &[i64], near: u64) -> ProductSum
     }
 }
 
+/// How many numbers at either end of a list are looked at before its bound is chosen.
+const FEW: usize = 32;
+
 /// How far from 0 the numbers of a line of `count` items may be. Then no sum of their products leaves the range.
 pub(crate) fn near_bound(count: usize) -> u64
     ensures near { result ≤ 2 ^ 30 }
@@ -101,11 +119,38 @@ pub(crate) fn near_bound(count: usize) -> u64
     near
 }
 
-/// The sum of the products of some items that are neighbours, if all numbers are at most `near` from 0.
-fn sure_sum(items: &LineItems<'_, i64, i64, Typed<Times>>, near: u64) -> Option<i64>
+/// How far the first and the last of some numbers are from 0: the rest may well be about so far.
+fn typical(numbers: &[i64]) -> u64 {
+    let few = numbers.len().min(FEW);
+    magnitude(&numbers[..few]).max(magnitude(&numbers[numbers.len() - few..]))
+}
+
+/// How far from 0 the numbers of two lists may be, of which so many meet at each place. Then no sum of their products leaves the range. The
+/// list whose numbers seem to be farther from 0 may have greater ones.
+fn bounds_of(left: &[i64], right: &[i64], count: usize) -> Bounds
+    ensures near { (result.left ≤ 2 ^ 30) × (result.right ≤ 2 ^ 30) }
+    ensures small { result.left * result.right * count < 2 ^ 63 }
+{
+    let (left_most, right_most) = (typical(left).max(1), typical(right).max(1));
+    let mut near = Bounds {
+        left: 1 << 30,
+        right: 1 << 30,
+    };
+    while !sums_are_small(near.left, near.right, count) {
+        if near.left / left_most > near.right / right_most {
+            near.left /= 2;
+        } else {
+            near.right /= 2;
+        }
+    }
+    near
+}
+
+/// The sum of the products of some items that are neighbours, if all numbers are within these bounds.
+fn sure_sum(items: &LineItems<'_, i64, i64, Typed<Times>>, near: Bounds) -> Option<i64>
     requires some { 0 < items.now.count }
-    requires near { near ≤ 2 ^ 30 }
-    requires small { near * near * items.now.count < 2 ^ 63 }
+    requires near { (near.left ≤ 2 ^ 30) × (near.right ≤ 2 ^ 30) }
+    requires small { near.left * near.right * items.now.count < 2 ^ 63 }
     requires left { items.now.left_stride ≡ 1 }
     requires right { items.now.right_stride ≡ 1 }
     ensures { let x = items.now in
@@ -116,7 +161,7 @@ fn sure_sum(items: &LineItems<'_, i64, i64, Typed<Times>>, near: u64) -> Option<
     let left = &items.left[items.left_start..items.left_start + items.count];
     let right = &items.right[items.right_start..items.right_start + items.count];
     let line = product_sum(left, right, near);
-    if line.bits < 2 * near {
+    if line.left < 2 * near.left && line.right < 2 * near.right {
         Some(line.sum)
     } else {
         None
@@ -128,9 +173,9 @@ fn sure_sum(items: &LineItems<'_, i64, i64, Typed<Times>>, near: u64) -> Option<
 struct ProductSums<'a> {
     items: ProductItems<'a, i64, i64, Typed<Times>>,
     /// How far from 0 the numbers of a line may be.
-    near: u64,
-    ghost near_most: { near ≤ 2 ^ 30 },
-    ghost small: { near * near * items.layout.now.items < 2 ^ 63 },
+    near: Bounds,
+    ghost near_most: { (near.left ≤ 2 ^ 30) × (near.right ≤ 2 ^ 30) },
+    ghost small: { near.left * near.right * items.layout.now.items < 2 ^ 63 },
     ghost some: { 0 < items.layout.now.items },
     ghost left_near: { items.layout.now.left.item ≡ 1 },
     ghost right_near: { items.layout.now.right.item ≡ 1 },
@@ -189,6 +234,6 @@ pub(crate) fn fill_product_sums<W: Crew>(
         right,
         pairing: Typed::<Times>(PhantomData),
     };
-    let near = near_bound(layout.items);
+    let near = bounds_of(left, right, layout.items);
     fill(workers, &ProductSums { items, near })
 }

@@ -93,8 +93,10 @@ fn fill_extended<T: ElementType + Sync, U: ElementType + Sync, W: Crew>(
     workers: &W,
     f: ScalarFunction,
     shape: Shape,
-    (left, xs): (&Array, &[T]),
-    (right, ys): (&Array, &[U]),
+    left: &Array,
+    xs: &[T],
+    right: &Array,
+    ys: &[U],
 ) -> Result<Array, OpFault>
     requires shape { extended_shape left.now.shape right.now.shape ≡ Ok shape }
     requires left { left.now.ravel ≡ map T.elem_of xs.now }
@@ -120,20 +122,23 @@ fn fill_dyadic<W: Crew>(
         return constant_array(workers, shape, compare(f, false));
     }
     if let (Some(xs), Some(ys)) = (truths_of(left), truths_of(right)) {
-        return fill_extended(workers, f, shape, (left, xs), (right, ys));
+        return fill_extended(workers, f, shape, left, xs, right, ys);
     }
     match (left.elements(), right.elements()) {
         (Elements::Numbers(xs), Elements::Numbers(ys)) => {
-            fill_extended(workers, f, shape, (left, xs), (right, ys))
+            fill_extended(workers, f, shape, left, xs, right, ys)
         }
         (Elements::Numbers(xs), Elements::Truths(ys)) => {
-            fill_extended(workers, f, shape, (left, xs), (right, ys))
+            fill_extended(workers, f, shape, left, xs, right, ys)
         }
         (Elements::Truths(xs), Elements::Numbers(ys)) => {
-            fill_extended(workers, f, shape, (left, xs), (right, ys))
+            fill_extended(workers, f, shape, left, xs, right, ys)
+        }
+        (Elements::Truths(xs), Elements::Truths(ys)) => {
+            fill_extended(workers, f, shape, left, xs, right, ys)
         }
         (Elements::Characters(xs), Elements::Characters(ys)) => {
-            fill_extended(workers, f, shape, (left, xs), (right, ys))
+            fill_extended(workers, f, shape, left, xs, right, ys)
         }
         _ => unreachable!(),
     }

@@ -130,12 +130,7 @@ pub(crate) trait Chosen: Copy {
         ensures { result ≡ outcome self.now place };
 
     /// Writes results, as `write_results`.
-    fn write<H: HeldRuns>(
-        &self,
-        from: usize,
-        to: usize,
-        room: &mut [H],
-    ) -> Result<(), FirstFault>
+    fn write<H: HeldRuns>(&self, from: usize, to: usize, room: &mut [H]) -> Result<(), FirstFault>
         requires held { H.is_of (function self.now) ≡ true }
         requires order { from ≤ to }
         requires places { to ≤ served self.now }
@@ -195,12 +190,7 @@ impl<A: Operand> Chosen for OfElements<A> {
         with_type!(self.f, element_at::<F, A>(self.argument, place))
     }
 
-    fn write<H: HeldRuns>(
-        &self,
-        from: usize,
-        to: usize,
-        room: &mut [H],
-    ) -> Result<(), FirstFault> {
+    fn write<H: HeldRuns>(&self, from: usize, to: usize, room: &mut [H]) -> Result<(), FirstFault> {
         with_type!(
             self.f,
             write_elements::<F, A, H>(self.argument, from, to, room)
@@ -266,12 +256,7 @@ impl<L: Operand, R: Operand> Chosen for OfPairs<L, R> {
         with_type!(self.f, pair_at::<F, L, R>(self.left, self.right, place))
     }
 
-    fn write<H: HeldRuns>(
-        &self,
-        from: usize,
-        to: usize,
-        room: &mut [H],
-    ) -> Result<(), FirstFault> {
+    fn write<H: HeldRuns>(&self, from: usize, to: usize, room: &mut [H]) -> Result<(), FirstFault> {
         with_type!(
             self.f,
             write_pairs::<F, L, R, H>(self.left, self.right, from, to, room)

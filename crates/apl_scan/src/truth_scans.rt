@@ -11,7 +11,7 @@ use apl_array::ScalarFunction;
 use apl_pool::{Crew, MOST_PLACES};
 use std::alloc::AllocError;
 
-/// A scan of truth values. It is of truth values by `∧`, `∨` and `≠`, and of numbers by `+` and `-`.
+/// A scan of truth values. It is of numbers by `+` and `-`, and of truth values by other functions.
 #[derive(Drop)]
 pub(crate) enum TruthScan {
     Truths(Vec<bool>),

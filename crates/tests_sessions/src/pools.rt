@@ -160,7 +160,11 @@ fn values_are_written_up_to_a_fault(rt: HostRuntime) -> Result<(), Fail> {
             runs,
         };
         let mut room = vec![in rt.alloc(); -1; count - from]?;
-        let end = write_values(&kernel, from, count, room.as_mut_slice());
+        let end = match write_values(&kernel, from, count, room.as_mut_slice()) {
+            Ok(()) => count,
+            Err(first) if first.fault == Fault::Limit => first.place,
+            Err(_) => count + 1,
+        };
         let mut values = room.iter().take(written).enumerate();
         assert!(rt;
             end - from == written && values.all(|(k, value)| from.wrapping_add(k) as i64 == *value)
