@@ -106,8 +106,8 @@ impl<L: Operand, R: Operand, F: Function + Copy> Results for PairResults<L, R, F
     }
 }
 
-/// The results of a scalar function that is chosen anew for each run of places. So a pass of the pool is compiled once for all functions, and
-/// the loop over a run for each of them.
+/// The results of a scalar function that is chosen once for all places that the pool asks for together. So a pass of the pool is compiled once
+/// for all functions, and the loop over these places for each of them.
 pub(crate) trait Chosen: Copy {
     ghost use Rattle.std.specs.Prelude.{◌≡◌, ◌+◌, ◌<◌, ◌≤◌, ℕ, ℤ, true, IfErr, OnOk, Result, length};
     ghost use Rattle.apl_array.specs.declared.function.ScalarFunction.{ScalarFunction};

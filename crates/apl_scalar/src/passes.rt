@@ -108,8 +108,8 @@ fn fill_operands<A: Operand + Sync, B: Operand + Sync, W: Crew>(
     fill_results(workers, f, shape, OfPairs { f, left, right }, work)
 }
 
-/// A dyadic function of each pair of elements. A pass is compiled for each two ways to hold them and for each way in which the arguments may
-/// be extended.
+/// A dyadic function of each pair of elements. A pass is compiled for each way to hold either argument, and for each way in which they may be
+/// extended.
 pub(crate) fn fill_pairs<T: ElementType + Sync, U: ElementType + Sync, W: Crew>(
     workers: &W,
     f: ScalarFunction,
