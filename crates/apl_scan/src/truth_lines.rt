@@ -8,6 +8,7 @@ use apl_pool::Crew;
 use std::alloc::AllocError;
 
 /// The value that ends a line: false for `∧`, `×` and `⌊`, which are all "and" of truth values, and true for `∨` and `⌈`.
+#[tactic(auto, using(crate::proofs::TruthLines::end_of_and, crate::proofs::TruthLines::end_of_times, crate::proofs::TruthLines::end_of_floor, crate::proofs::TruthLines::end_of_or, crate::proofs::TruthLines::end_of_ceiling))]
 pub(crate) fn end_of(f: ScalarFunction) -> Option<bool>
     ensures { IfSome result (IsEndOf f) }
 {

@@ -3,8 +3,8 @@ use Rattle.apl_reduce.specs.Magnitudes.{IsSumNear, meeting_product}
 use Rattle.apl_reduce.proofs.ProductSums.{line, line_length, line_at, line_within, line_sum}
 use Rattle.apl_reduce.proofs.product_sums.sure_sum.Goals as goal
 
-pub returns-then-line-near : goal.returns-then-line-near
-returns-then-line-near c =
+pub returns-then-line-near-2 : goal.returns-then-line-near-2
+returns-then-line-near-2 c =
     let items = c.args.items.now in
     let law = c.range_is_decided.ensures in
     let most = c.args.near.left * c.args.near.right in
@@ -18,7 +18,7 @@ returns-then-line-near c =
     let all = line_length left items.left_start items.count left_within in
     let read : to_z w64 (of_z w64 c.product_sum-line.result.sum) ≡ c.product_sum-line.result.sum = search rules in
     let small = subst (λ n. most * n < 2 ^ 63) (sym all) c.requires.small in
-    let is = subst (λ n. IsSumNear (meeting_product left_line right_line 0) most n c.product_sum-line.result.sum) all (c.product_sum-line.ensures small c.if-line-near.true.0 c.if-line-near.true.1) in
+    let is = subst (λ n. IsSumNear (meeting_product left_line right_line 0) most n c.product_sum-line.result.sum) all (c.product_sum-line.ensures small c.if-line-near.true c.if-line-near-2.true) in
     line_sum law.decided law.bits left right items.left_start items.left_stride items.right_start items.right_stride items.count most left_line right_line c.requires.left c.requires.right
     (line_at left items.left_start items.count left_within) (line_at right items.right_start items.count right_within) c.requires.small _ is
     ∙ ap Ok (sym read)
