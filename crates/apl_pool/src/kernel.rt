@@ -97,8 +97,8 @@ pub trait Kernel {
     }
 
     /// Writes the values into the room for the places from `from` up to before `to`, up to the first that has a fault. It is for kernels that
-    /// choose among others: such a kernel lends the one that it chose to `write_values`. So it chooses once for all these places, and no
-    /// place is asked for twice. `None` says that it is no such kernel.
+    /// choose among others: such a kernel lends the one that it chose to `write_values`. So it chooses once for all these places, and the
+    /// pool asks for no place again to tell its fault. `None` says that it is no such kernel.
     fn write_chosen(
         &self,
         _from: usize,
