@@ -1,22 +1,19 @@
 -- The elements of arguments that serve at a place of the extended shape.
 use Rattle.std.proofs.Common.{◌≡◌, ℕ, ◌<◌, ◌==◌, ◌&&◌, Bool, true, false, List, [], ◌∷◌, length, map, replicate, Result, Ok, Err, refl, sym, ap, ◌∙◌, ⊎_elim, arith, if◌then◌else◌, pos}
-use Rattle.std.proofs.lemmas.List.{get_or-map, length-map}
+use Rattle.std.proofs.lemmas.List.{length-map}
 use Rattle.std.proofs.lemmas.Slice.Eq.{bytes_eq-Decides}
 use Rattle.std.proofs.lemmas.Bool.{cases_Bool, true≢false}
 use Rattle.std.specs.Prelude.{nat_lt}
 use Rattle.apl_array.specs.declared.array.Elem.{Elem}
 use Rattle.apl_array.specs.declared.array.Elem.TheVariants.{Int, Chr}
-use Rattle.apl_array.specs.declared.array.Kind.TheVariants.{Character}
 use Rattle.apl_array.specs.Shape.{count_of, place_of, index_at}
 use Rattle.apl_array.specs.Array.{ArrayValue, IsArray, element_in, element_at, kind_of}
-use Rattle.apl_pool.specs.declared.kernel.Fault.TheVariants.{Domain}
 use Rattle.apl_answer.specs.declared.fault.OpFault.{OpFault}
 use Rattle.apl_answer.specs.declared.fault.OpFault.TheVariants.{Rank, Length}
 use Rattle.apl_array.specs.declared.function.ScalarFunction.{ScalarFunction}
-use Rattle.apl_array.specs.declared.function.ScalarFunction.TheVariants.{Equal, NotEqual}
 use Rattle.apl_answer.specs.Arguments.{is_same_shape, has_one_element}
 use Rattle.apl_scalar.specs.Extension.{extended_shape, source_index}
-use Rattle.apl_scalar.specs.Operands.{operand_at, pair_at}
+use Rattle.apl_scalar.specs.Operands.{operand_at}
 use Rattle.apl_scalar.specs.Scalar.{dyadic_of, compare_elements}
 use Rattle.apl_scalar.specs.Dyadic.{dyadic_number}
 
@@ -129,28 +126,3 @@ module _ (same_place : (shape : List ℕ) (place : ℕ) → place < count_of sha
       mixed (Int x) (Chr d) first second = refl
       mixed (Chr c) (Int y) first second = refl
       mixed (Chr c) (Chr d) first second = absurd (differ (sym first ∙ second))
-
--- a function that does not compare refuses characters
-refused_alike : (f : ScalarFunction) (same : Bool) → (f ≡ Equal → ⊥) → (f ≡ NotEqual → ⊥) → Err Domain ≡ compare_elements f same
-refused_alike Equal same equal not_equal = absurd (equal refl)
-refused_alike NotEqual same equal not_equal = absurd (not_equal refl)
-refused_alike _ same equal not_equal = refl
-
-refused_pair : (f : ScalarFunction) (x y : Elem) → (f ≡ Equal → ⊥) → (f ≡ NotEqual → ⊥) → kind_of x ≡ Character → kind_of y ≡ Character → Err Domain ≡ dyadic_of f x y
-refused_pair f (Int x) y equal not_equal first second = absurd cc
-refused_pair f (Chr c) (Int y) equal not_equal first second = absurd cc
-refused_pair f (Chr c) (Chr d) equal not_equal first second = refused_alike f (c == d) equal not_equal
-
-character_operand : (characters : List ℕ) (is_whole : Bool) (count place : ℕ) → place < count → (is_whole ≡ true → length characters ≡ count) → (is_whole ≡ false → length characters ≡ 1)
-    → kind_of (operand_at (map Chr characters) is_whole place) ≡ Character
-character_operand characters true count place inside whole one = ap kind_of (get_or-map Chr characters place 0 (Int (pos 0)) (omega (arith, whole refl)))
-character_operand characters false count place inside whole one = ap kind_of (get_or-map Chr characters 0 0 (Int (pos 0)) (omega (arith, one refl)))
-
-pub refused_characters : (f : ScalarFunction) (left right : List ℕ) (left_is_whole right_is_whole : Bool) (count : ℕ) → (f ≡ Equal → ⊥) → (f ≡ NotEqual → ⊥)
-    → (left_is_whole ≡ true → length left ≡ count) → (left_is_whole ≡ false → length left ≡ 1)
-    → (right_is_whole ≡ true → length right ≡ count) → (right_is_whole ≡ false → length right ≡ 1)
-    → (place : ℕ) → place < count → Err Domain ≡ pair_at f (map Chr left) left_is_whole (map Chr right) right_is_whole place
-refused_characters f left right left_is_whole right_is_whole count equal not_equal left_whole left_one right_whole right_one place inside =
-    refused_pair f (operand_at (map Chr left) left_is_whole place) (operand_at (map Chr right) right_is_whole place) equal not_equal
-    (character_operand left left_is_whole count place inside left_whole left_one)
-    (character_operand right right_is_whole count place inside right_whole right_one)

@@ -1,6 +1,7 @@
 //! The scalar functions of arrays.
 ghost use Rattle.std.specs.Prelude.{◌≡◌, Ok, IfSome, IsTrue, map};
-ghost use Rattle.apl_array.specs.Array.{IsArray, truth_element};
+ghost use Rattle.apl_array.specs.declared.array.Elem.TheVariants.{Int};
+ghost use Rattle.apl_array.specs.Array.{truth_element};
 ghost use Rattle.apl_array.specs.Valences.{has_monadic, has_dyadic};
 ghost use Rattle.apl_scalar.specs.Extension.{extended_shape};
 ghost use Rattle.apl_answer.specs.Pointwise.{IsAnswerOf};
@@ -75,15 +76,13 @@ pub fn dyadic<R: Threads + Sync, C: Cut + Sync, G: Gate + Sync>(
     fill_dyadic(&workers, f, shape, left, right)
 }
 
-/// The elements of an array as truth values, if it holds them so, or if it is one number that is 0 or 1.
-fn truths_of(a: &Array) -> Option<&[bool]>
-    ensures truths { IfSome result (λ truths. a.now.ravel ≡ map truth_element truths.now) }
-    ensures lawful { IsArray a.now }
+/// One number that is 0 or 1, as a truth value.
+fn truth_of(numbers: &[i64]) -> Option<&[bool]>
+    ensures { IfSome result (λ truths. map Int numbers.now ≡ map truth_element truths.now) }
 {
-    match a.elements() {
-        Elements::Truths(truths) => Some(truths),
-        Elements::Numbers([0]) => Some(&[false]),
-        Elements::Numbers([1]) => Some(&[true]),
+    match numbers {
+        [0] => Some(&[false]),
+        [1] => Some(&[true]),
         _ => None,
     }
 }
@@ -117,29 +116,28 @@ fn fill_dyadic<W: Crew>(
     requires { extended_shape left.now.shape right.now.shape ≡ Ok shape }
     ensures { IsAnswerOf (answer_over f left.now right.now (Ok shape)) result }
 {
-    if left.kind() != right.kind() {
-        places_match_index_lists();
-        return constant_array(workers, shape, compare(f, false));
-    }
-    if let (Some(xs), Some(ys)) = (truths_of(left), truths_of(right)) {
-        return fill_extended(workers, f, shape, left, xs, right, ys);
-    }
     match (left.elements(), right.elements()) {
         (Elements::Numbers(xs), Elements::Numbers(ys)) => {
             fill_extended(workers, f, shape, left, xs, right, ys)
         }
-        (Elements::Numbers(xs), Elements::Truths(ys)) => {
-            fill_extended(workers, f, shape, left, xs, right, ys)
-        }
-        (Elements::Truths(xs), Elements::Numbers(ys)) => {
-            fill_extended(workers, f, shape, left, xs, right, ys)
-        }
+        (Elements::Numbers(xs), Elements::Truths(ys)) => match truth_of(xs) {
+            Some(x) => fill_extended(workers, f, shape, left, x, right, ys),
+            None => fill_extended(workers, f, shape, left, xs, right, ys),
+        },
+        (Elements::Truths(xs), Elements::Numbers(ys)) => match truth_of(ys) {
+            Some(y) => fill_extended(workers, f, shape, left, xs, right, y),
+            None => fill_extended(workers, f, shape, left, xs, right, ys),
+        },
         (Elements::Truths(xs), Elements::Truths(ys)) => {
             fill_extended(workers, f, shape, left, xs, right, ys)
         }
         (Elements::Characters(xs), Elements::Characters(ys)) => {
             fill_extended(workers, f, shape, left, xs, right, ys)
         }
-        _ => unreachable!(),
+        // A number and a character.
+        _ => {
+            places_match_index_lists();
+            constant_array(workers, shape, compare(f, false))
+        }
     }
 }

@@ -68,6 +68,20 @@ pub(crate) fn compare(f: ScalarFunction, same: bool) -> Result<i64, Fault>
     }
 }
 
+/// A monadic function of an element, of which the function is chosen at the call. It takes no memory.
+pub(crate) fn monadic_result(f: ScalarFunction, x: Elem) -> Result<i64, Fault>
+    ensures { result ≡ monadic_of f x }
+{
+    with_type!(f, monadic_element::<F>(x))
+}
+
+/// A dyadic function of two elements, of which the function is chosen at the call. It takes no memory.
+pub fn dyadic_result(f: ScalarFunction, x: Elem, y: Elem) -> Result<i64, Fault>
+    ensures { result ≡ dyadic_of f x y }
+{
+    with_type!(f, dyadic_elements::<F>(x, y))
+}
+
 fn own_identity<F: Function>() -> Option<i64>
     ensures { result ≡ identity_of F.FUNCTION }
 {
@@ -82,7 +96,7 @@ pub fn apply1(f: ScalarFunction, x: Elem) -> Result<Elem, Fault>
     requires { IsTrue (has_monadic f) }
     ensures { result ≡ as_element (monadic_of f x) }
 {
-    match with_type!(f, monadic_element::<F>(x)) {
+    match monadic_result(f, x) {
         Ok(z) => Ok(Elem::Int(z)),
         Err(fault) => Err(fault),
     }
@@ -97,7 +111,7 @@ pub fn apply2(f: ScalarFunction, x: Elem, y: Elem) -> Result<Elem, Fault>
     requires { IsTrue (has_dyadic f) }
     ensures { result ≡ as_element (dyadic_of f x y) }
 {
-    match with_type!(f, dyadic_elements::<F>(x, y)) {
+    match dyadic_result(f, x, y) {
         Ok(z) => Ok(Elem::Int(z)),
         Err(fault) => Err(fault),
     }

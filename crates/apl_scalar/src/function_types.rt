@@ -109,33 +109,56 @@ pub fn is_truth_valued(f: ScalarFunction) -> bool
     )
 }
 
-/// The call of a generic function at the type of a scalar function: `F` is first among the type arguments. No other code lists
-/// the functions' types.
+/// The call of a generic function at the type of a scalar function whose results are numbers: `F` is first among the type arguments. For a
+/// truth-valued function it is what comes last.
+#[macro_export]
+macro_rules! with_number_type {
+    ($f:expr, $($call:ident).+::<F $(, $parameter:ident)*>($($argument:expr),*), $otherwise:expr) => {
+        match $f {
+            $crate::Prim::Plus => $($call).+::<$crate::function_types::Plus $(, $parameter)*>($($argument),*),
+            $crate::Prim::Minus => $($call).+::<$crate::function_types::Minus $(, $parameter)*>($($argument),*),
+            $crate::Prim::Times => $($call).+::<$crate::function_types::Times $(, $parameter)*>($($argument),*),
+            $crate::Prim::Divide => $($call).+::<$crate::function_types::Divide $(, $parameter)*>($($argument),*),
+            $crate::Prim::Stile => $($call).+::<$crate::function_types::Stile $(, $parameter)*>($($argument),*),
+            $crate::Prim::Star => $($call).+::<$crate::function_types::Star $(, $parameter)*>($($argument),*),
+            $crate::Prim::Bang => $($call).+::<$crate::function_types::Bang $(, $parameter)*>($($argument),*),
+            $crate::Prim::Floor => $($call).+::<$crate::function_types::Floor $(, $parameter)*>($($argument),*),
+            $crate::Prim::Ceiling => $($call).+::<$crate::function_types::Ceiling $(, $parameter)*>($($argument),*),
+            _ => $otherwise,
+        }
+    };
+}
+
+/// The same for a truth-valued function, and what comes last for any other.
+#[macro_export]
+macro_rules! with_truth_type {
+    ($f:expr, $($call:ident).+::<F $(, $parameter:ident)*>($($argument:expr),*), $otherwise:expr) => {
+        match $f {
+            $crate::Prim::And => $($call).+::<$crate::function_types::And $(, $parameter)*>($($argument),*),
+            $crate::Prim::Or => $($call).+::<$crate::function_types::Or $(, $parameter)*>($($argument),*),
+            $crate::Prim::Nand => $($call).+::<$crate::function_types::Nand $(, $parameter)*>($($argument),*),
+            $crate::Prim::Nor => $($call).+::<$crate::function_types::Nor $(, $parameter)*>($($argument),*),
+            $crate::Prim::Less => $($call).+::<$crate::function_types::Less $(, $parameter)*>($($argument),*),
+            $crate::Prim::LessOrEqual => $($call).+::<$crate::function_types::LessOrEqual $(, $parameter)*>($($argument),*),
+            $crate::Prim::Equal => $($call).+::<$crate::function_types::Equal $(, $parameter)*>($($argument),*),
+            $crate::Prim::GreaterOrEqual => $($call).+::<$crate::function_types::GreaterOrEqual $(, $parameter)*>($($argument),*),
+            $crate::Prim::Greater => $($call).+::<$crate::function_types::Greater $(, $parameter)*>($($argument),*),
+            $crate::Prim::NotEqual => $($call).+::<$crate::function_types::NotEqual $(, $parameter)*>($($argument),*),
+            $crate::Prim::Tilde => $($call).+::<$crate::function_types::Tilde $(, $parameter)*>($($argument),*),
+            _ => $otherwise,
+        }
+    };
+}
+
+/// The same for each function.
 #[macro_export]
 macro_rules! with_type {
-    ($f:expr, $call:ident::<F $(, $parameter:ident)*>($($argument:expr),*)) => {
-        match $f {
-            $crate::Prim::Plus => $call::<$crate::function_types::Plus $(, $parameter)*>($($argument),*),
-            $crate::Prim::Minus => $call::<$crate::function_types::Minus $(, $parameter)*>($($argument),*),
-            $crate::Prim::Times => $call::<$crate::function_types::Times $(, $parameter)*>($($argument),*),
-            $crate::Prim::Divide => $call::<$crate::function_types::Divide $(, $parameter)*>($($argument),*),
-            $crate::Prim::Stile => $call::<$crate::function_types::Stile $(, $parameter)*>($($argument),*),
-            $crate::Prim::Star => $call::<$crate::function_types::Star $(, $parameter)*>($($argument),*),
-            $crate::Prim::Bang => $call::<$crate::function_types::Bang $(, $parameter)*>($($argument),*),
-            $crate::Prim::Floor => $call::<$crate::function_types::Floor $(, $parameter)*>($($argument),*),
-            $crate::Prim::Ceiling => $call::<$crate::function_types::Ceiling $(, $parameter)*>($($argument),*),
-            $crate::Prim::And => $call::<$crate::function_types::And $(, $parameter)*>($($argument),*),
-            $crate::Prim::Or => $call::<$crate::function_types::Or $(, $parameter)*>($($argument),*),
-            $crate::Prim::Nand => $call::<$crate::function_types::Nand $(, $parameter)*>($($argument),*),
-            $crate::Prim::Nor => $call::<$crate::function_types::Nor $(, $parameter)*>($($argument),*),
-            $crate::Prim::Less => $call::<$crate::function_types::Less $(, $parameter)*>($($argument),*),
-            $crate::Prim::LessOrEqual => $call::<$crate::function_types::LessOrEqual $(, $parameter)*>($($argument),*),
-            $crate::Prim::Equal => $call::<$crate::function_types::Equal $(, $parameter)*>($($argument),*),
-            $crate::Prim::GreaterOrEqual => $call::<$crate::function_types::GreaterOrEqual $(, $parameter)*>($($argument),*),
-            $crate::Prim::Greater => $call::<$crate::function_types::Greater $(, $parameter)*>($($argument),*),
-            $crate::Prim::NotEqual => $call::<$crate::function_types::NotEqual $(, $parameter)*>($($argument),*),
-            $crate::Prim::Tilde => $call::<$crate::function_types::Tilde $(, $parameter)*>($($argument),*),
-        }
+    ($f:expr, $($call:ident).+::<F $(, $parameter:ident)*>($($argument:expr),*)) => {
+        $crate::with_number_type!(
+            $f,
+            $($call).+::<F $(, $parameter)*>($($argument),*),
+            $crate::with_truth_type!($f, $($call).+::<F $(, $parameter)*>($($argument),*), unreachable!())
+        )
     };
 }
 

@@ -1,15 +1,16 @@
 //! What a scalar function gives at each place.
-ghost use Rattle.std.specs.Prelude.{◌≡◌, ℕ, ◌+◌, ◌<◌, ◌≤◌, true, IfErr, OnOk, length};
+ghost use Rattle.std.specs.Prelude.{◌≡◌, ◌≤◌, true};
 ghost use Rattle.apl_pool.specs.declared.kernel.TheConstants.{MOST_PLACES};
-ghost use Rattle.apl_pool.specs.Runs.{AreWritten, IsFaultAfter};
-ghost use Rattle.apl_scalar.specs.Scalar.{dyadic_of, monadic_of};
 
-use crate::elements::{dyadic_elements, likely_element, likely_elements, monadic_element};
+use crate::elements::{
+    dyadic_elements, dyadic_result, likely_element, likely_elements, monadic_element,
+    monadic_result,
+};
 use crate::function_types::{Function, has_dyadic_runs, has_monadic_runs};
 use crate::held::as_held;
+use crate::loops::HeldLoops;
 use crate::operands::Operand;
 use crate::runs::{HeldRuns, Results, write_results};
-use crate::with_type;
 use apl_array::ScalarFunction;
 use apl_pool::{Fault, FirstFault, Kernel};
 use std::marker::PhantomData;
@@ -106,182 +107,118 @@ impl<L: Operand, R: Operand, F: Function + Copy> Results for PairResults<L, R, F
     }
 }
 
-/// The results of a scalar function that is chosen once for all places that the pool asks for together. So a pass of the pool is compiled once
-/// for all functions, and the loop over these places for each of them.
-pub(crate) trait Chosen: Copy {
-    ghost use Rattle.std.specs.Prelude.{◌≡◌, ◌+◌, ◌<◌, ◌≤◌, ℕ, ℤ, true, IfErr, OnOk, Result, length};
+/// The arguments of a scalar function at each place.
+pub trait Arguments: Copy {
+    ghost use Rattle.std.specs.Prelude.{◌≡◌, ◌+◌, ◌<◌, ◌≤◌, ℕ, ℤ, IfErr, OnOk, Result, length};
     ghost use Rattle.apl_array.specs.declared.function.ScalarFunction.{ScalarFunction};
     ghost use Rattle.apl_pool.specs.declared.kernel.Fault.{Fault};
     ghost use Rattle.apl_pool.specs.declared.kernel.TheConstants.{MOST_PLACES};
     ghost use Rattle.apl_pool.specs.Runs.{AreWritten, IsFaultAfter};
 
-    // The function that is chosen.
-    ghost function: { Self → ScalarFunction };
-
     // How many places there are.
     ghost served: { Self → ℕ };
 
-    // The result at a place.
-    ghost outcome: { Self → ℕ → Result ℤ Fault };
+    // What a function gives at a place.
+    ghost outcome: { Self → ScalarFunction → ℕ → Result ℤ Fault };
 
-    /// The result at a place.
-    fn result_at(&self, place: usize) -> Result<i64, Fault>
+    /// What a function gives at a place.
+    fn result_at(&self, f: ScalarFunction, place: usize) -> Result<i64, Fault>
         requires { place < served self.now }
-        ensures { result ≡ outcome self.now place };
+        ensures { result ≡ outcome self.now f place };
 
-    /// Writes results, as `write_results`.
-    fn write<H: HeldRuns>(&self, from: usize, to: usize, room: &mut [H]) -> Result<(), FirstFault>
-        requires held { H.is_of (function self.now) ≡ true }
+    /// Writes the results of the function of type `F`, as `write_results`.
+    fn write<F: Function + Copy, H: HeldRuns>(
+        &self,
+        from: usize,
+        to: usize,
+        room: &mut [H],
+    ) -> Result<(), FirstFault>
         requires order { from ≤ to }
         requires places { to ≤ served self.now }
         requires most { to ≤ MOST_PLACES }
         requires room { from + length room.old ≡ to }
-        ensures values { OnOk result (AreWritten (λ place. H.held (outcome self.now place)) from to room.new) }
-        ensures fault { IfErr result (λ first. IsFaultAfter (λ place. H.held (outcome self.now place)) from to first.place first.fault room.new) }
+        ensures values { OnOk result (AreWritten (λ place. H.held (outcome self.now F.FUNCTION place)) from to room.new) }
+        ensures fault { IfErr result (λ first. IsFaultAfter (λ place. H.held (outcome self.now F.FUNCTION place)) from to first.place first.fault room.new) }
         ensures len { length room.new ≡ length room.old };
 }
 
-/// The results of a monadic function of an argument.
+/// The argument of a monadic function.
 #[derive(Clone, Copy)]
-pub(crate) struct OfElements<A> {
-    pub f: ScalarFunction,
-    pub argument: A,
-}
+pub(crate) struct Argument<A>(pub A);
 
-fn element_at<F: Function, A: Operand>(argument: A, place: usize) -> Result<i64, Fault>
-    requires { place < A.served argument }
-    ensures { result ≡ monadic_of F.FUNCTION (A.element argument place) }
-{
-    monadic_element::<F>(argument.at(place))
-}
-
-fn write_elements<F: Function + Copy, A: Operand, H: HeldRuns>(
-    argument: A,
-    from: usize,
-    to: usize,
-    room: &mut [H],
-) -> Result<(), FirstFault>
-    requires held { H.is_of F.FUNCTION ≡ true }
-    requires order { from ≤ to }
-    requires places { to ≤ A.served argument }
-    requires most { to ≤ MOST_PLACES }
-    requires room { from + length room.old ≡ to }
-    ensures values { OnOk result (AreWritten (λ place. H.held (monadic_of F.FUNCTION (A.element argument place))) from to room.new) }
-    ensures fault { IfErr result (λ first. IsFaultAfter (λ place. H.held (monadic_of F.FUNCTION (A.element argument place))) from to first.place first.fault room.new) }
-    ensures len { length room.new ≡ length room.old }
-{
-    // So no loop is made where results are held in another way.
-    if !H::holds(F::FUNCTION) {
-        unreachable!()
-    }
-    write_results(ElementResults::<A, F>::new(argument), from, to, room)
-}
-
-impl<A: Operand> Chosen for OfElements<A> {
+impl<A: Operand> Arguments for Argument<A> {
     ghost use Rattle.apl_scalar.specs.Scalar.{monadic_of};
 
-    ghost function = { λ r. r.f };
+    ghost served = { λ a. A.served a.0 };
 
-    ghost served = { λ r. A.served r.argument };
+    ghost outcome = { λ a f place. monadic_of f (A.element a.0 place) };
 
-    ghost outcome = { λ r place. monadic_of r.f (A.element r.argument place) };
-
-    fn result_at(&self, place: usize) -> Result<i64, Fault> {
-        with_type!(self.f, element_at::<F, A>(self.argument, place))
+    fn result_at(&self, f: ScalarFunction, place: usize) -> Result<i64, Fault> {
+        monadic_result(f, self.0.at(place))
     }
 
-    fn write<H: HeldRuns>(&self, from: usize, to: usize, room: &mut [H]) -> Result<(), FirstFault> {
-        with_type!(
-            self.f,
-            write_elements::<F, A, H>(self.argument, from, to, room)
-        )
+    #[inline(always)]
+    fn write<F: Function + Copy, H: HeldRuns>(
+        &self,
+        from: usize,
+        to: usize,
+        room: &mut [H],
+    ) -> Result<(), FirstFault> {
+        write_results(ElementResults::<A, F>::new(self.0), from, to, room)
     }
 }
 
-/// The results of a dyadic function of two arguments.
+/// The two arguments of a dyadic function.
 #[derive(Clone, Copy)]
-pub(crate) struct OfPairs<L, R> {
-    pub f: ScalarFunction,
+pub(crate) struct TwoArguments<L, R> {
     pub left: L,
     pub right: R,
 }
 
-fn pair_at<F: Function, L: Operand, R: Operand>(
-    left: L,
-    right: R,
-    place: usize,
-) -> Result<i64, Fault>
-    requires left { place < L.served left }
-    requires right { place < R.served right }
-    ensures { result ≡ dyadic_of F.FUNCTION (L.element left place) (R.element right place) }
-{
-    dyadic_elements::<F>(left.at(place), right.at(place))
-}
-
-fn write_pairs<F: Function + Copy, L: Operand, R: Operand, H: HeldRuns>(
-    left: L,
-    right: R,
-    from: usize,
-    to: usize,
-    room: &mut [H],
-) -> Result<(), FirstFault>
-    requires held { H.is_of F.FUNCTION ≡ true }
-    requires order { from ≤ to }
-    requires left { to ≤ L.served left }
-    requires right { to ≤ R.served right }
-    requires most { to ≤ MOST_PLACES }
-    requires room { from + length room.old ≡ to }
-    ensures values { OnOk result (AreWritten (λ place. H.held (dyadic_of F.FUNCTION (L.element left place) (R.element right place))) from to room.new) }
-    ensures fault { IfErr result (λ first. IsFaultAfter (λ place. H.held (dyadic_of F.FUNCTION (L.element left place) (R.element right place))) from to first.place first.fault room.new) }
-    ensures len { length room.new ≡ length room.old }
-{
-    // So no loop is made where results are held in another way.
-    if !H::holds(F::FUNCTION) {
-        unreachable!()
-    }
-    write_results(PairResults::<L, R, F>::new(left, right), from, to, room)
-}
-
-impl<L: Operand, R: Operand> Chosen for OfPairs<L, R> {
+impl<L: Operand, R: Operand> Arguments for TwoArguments<L, R> {
     ghost use Rattle.std.specs.Prelude.{min};
     ghost use Rattle.apl_scalar.specs.Scalar.{dyadic_of};
 
-    ghost function = { λ r. r.f };
+    ghost served = { λ a. min (L.served a.left) (R.served a.right) };
 
-    ghost served = { λ r. min (L.served r.left) (R.served r.right) };
+    ghost outcome = { λ a f place. dyadic_of f (L.element a.left place) (R.element a.right place) };
 
-    ghost outcome = { λ r place. dyadic_of r.f (L.element r.left place) (R.element r.right place) };
-
-    fn result_at(&self, place: usize) -> Result<i64, Fault> {
-        with_type!(self.f, pair_at::<F, L, R>(self.left, self.right, place))
+    fn result_at(&self, f: ScalarFunction, place: usize) -> Result<i64, Fault> {
+        dyadic_result(f, self.left.at(place), self.right.at(place))
     }
 
-    fn write<H: HeldRuns>(&self, from: usize, to: usize, room: &mut [H]) -> Result<(), FirstFault> {
-        with_type!(
-            self.f,
-            write_pairs::<F, L, R, H>(self.left, self.right, from, to, room)
-        )
+    #[inline(always)]
+    fn write<F: Function + Copy, H: HeldRuns>(
+        &self,
+        from: usize,
+        to: usize,
+        room: &mut [H],
+    ) -> Result<(), FirstFault> {
+        let results = PairResults::<L, R, F>::new(self.left, self.right);
+        write_results(results, from, to, room)
     }
 }
 
-/// The results at the first `count` places, as they are held.
+/// The results of a function at the first `count` places, as they are held. The function is chosen once for all places that the pool asks for
+/// together. So a pass of the pool is compiled once for all functions, and the loop over these places for each of them.
 #[derive(Drop)]
-pub(crate) struct ResultKernel<C: Chosen, H: HeldRuns> {
-    pub results: C,
+pub(crate) struct ResultKernel<A: Arguments, H: HeldLoops> {
+    pub f: ScalarFunction,
+    pub arguments: A,
     pub count: usize,
     pub work: usize,
     pub held: PhantomData<H>,
     ghost most: { count ≤ MOST_PLACES },
-    ghost served: { count ≤ C.served results },
-    ghost is_held: { H.is_of (C.function results) ≡ true },
+    ghost served: { count ≤ A.served arguments },
+    ghost is_held: { H.is_of f ≡ true },
 }
 
-impl<C: Chosen, H: HeldRuns> Kernel for ResultKernel<C, H> {
+impl<A: Arguments, H: HeldLoops> Kernel for ResultKernel<A, H> {
     type Out = H;
 
     ghost place_count = { λ k. k.count };
 
-    ghost outcome = { λ k place. H.held (C.outcome k.results place) };
+    ghost outcome = { λ k place. H.held (A.outcome k.arguments k.f place) };
 
     fn count(&self) -> usize {
         self.count
@@ -292,7 +229,7 @@ impl<C: Chosen, H: HeldRuns> Kernel for ResultKernel<C, H> {
     }
 
     fn at(&self, place: usize) -> Result<H, Fault> {
-        as_held(self.results.result_at(place))
+        as_held(self.arguments.result_at(self.f, place))
     }
 
     #[inline(always)]
@@ -302,6 +239,6 @@ impl<C: Chosen, H: HeldRuns> Kernel for ResultKernel<C, H> {
         to: usize,
         room: &mut [H],
     ) -> Option<Result<(), FirstFault>> {
-        Some(self.results.write(from, to, room))
+        Some(H::write_results_of(self.f, self.arguments, from, to, room))
     }
 }

@@ -10,7 +10,7 @@ ghost use Rattle.apl_scalar.specs.Scalar.{as_element, dyadic_of, is_truth_valued
 ghost use Rattle.apl_scalar.specs.Pairs.{pair_in};
 
 use crate::function_types::{has_monadic_runs, is_quick_of_two, is_truth_valued};
-use crate::kernels::{Chosen, OfElements, OfPairs, ResultKernel};
+use crate::kernels::{Argument, Arguments, ResultKernel, TwoArguments};
 use crate::laws::truth_values_are_results;
 use crate::operands::{Operand, Pairs, Value, Whole};
 use apl_answer::{ElementType, OpFault, fill_array};
@@ -36,27 +36,27 @@ pub fn work_of_pairs<T: ElementType>(f: ScalarFunction, pairs: usize) -> usize {
     work_of::<T>(pairs, is_quick_of_two(f))
 }
 
-/// The array of results at all places of a shape. Those of a truth-valued function are held as truth values.
-fn fill_results<C: Chosen + Sync, W: Crew>(
+/// The array of what a function gives at all places of a shape. The results of a truth-valued function are held as truth values.
+fn fill_results<A: Arguments + Sync, W: Crew>(
     workers: &W,
     f: ScalarFunction,
     shape: Shape,
-    results: C,
+    arguments: A,
     work: usize,
 ) -> Result<Array, OpFault>
-    requires places { count_of shape ≤ C.served results }
-    requires function { C.function results ≡ f }
+    requires places { count_of shape ≤ A.served arguments }
     requires truths { IsTrue (is_truth_valued f) → (place : ℕ) → place < count_of shape
-        → element_outcome truth_element (truth_outcome (C.outcome results place)) ≡ as_element (C.outcome results place) }
-    ensures { IsAnswerAt shape Number (λ place. as_element (C.outcome results place)) result }
+        → element_outcome truth_element (truth_outcome (A.outcome arguments f place)) ≡ as_element (A.outcome arguments f place) }
+    ensures { IsAnswerAt shape Number (λ place. as_element (A.outcome arguments f place)) result }
 {
     let count = shape.count();
     if is_truth_valued(f) {
         fill_array(
             workers,
             shape,
-            &ResultKernel::<C, bool> {
-                results,
+            &ResultKernel::<A, bool> {
+                f,
+                arguments,
                 count,
                 work,
                 held: PhantomData,
@@ -66,8 +66,9 @@ fn fill_results<C: Chosen + Sync, W: Crew>(
         fill_array(
             workers,
             shape,
-            &ResultKernel::<C, i64> {
-                results,
+            &ResultKernel::<A, i64> {
+                f,
+                arguments,
                 count,
                 work,
                 held: PhantomData,
@@ -87,9 +88,8 @@ pub(crate) fn fill_elements<T: ElementType + Sync, W: Crew>(
     ensures { IsAnswerAt shape Number (λ place. as_element (monadic_of f (slice_index_or (map T.elem_of elements.now) place (Int (pos 0))))) result }
 {
     truth_values_are_results();
-    let argument = Whole(elements);
     let work = work_of::<T>(elements.len(), has_monadic_runs(f));
-    fill_results(workers, f, shape, OfElements { f, argument }, work)
+    fill_results(workers, f, shape, Argument(Whole(elements)), work)
 }
 
 fn fill_operands<A: Operand + Sync, B: Operand + Sync, W: Crew>(
@@ -105,7 +105,7 @@ fn fill_operands<A: Operand + Sync, B: Operand + Sync, W: Crew>(
     ensures { IsAnswerAt shape Number (λ place. as_element (dyadic_of f (A.element left place) (B.element right place))) result }
 {
     truth_values_are_results();
-    fill_results(workers, f, shape, OfPairs { f, left, right }, work)
+    fill_results(workers, f, shape, TwoArguments { left, right }, work)
 }
 
 /// A dyadic function of each pair of elements. A pass is compiled for each way to hold either argument, and for each way in which they may be

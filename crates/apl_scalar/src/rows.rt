@@ -7,34 +7,36 @@ ghost use Rattle.apl_scalar.specs.Meeting.{meeting_number};
 ghost use Rattle.apl_scalar.specs.Scalar.{dyadic_of};
 
 use crate::function_types::Function;
-use crate::kernels::PairResults;
+use crate::kernels::{PairResults, TwoArguments};
+use crate::loops::HeldLoops;
 use crate::operands::{Spaced, Value, Whole};
-use crate::runs::{HeldRuns, write_results};
+use crate::runs::write_results;
 use apl_answer::ElementType;
+use apl_array::ScalarFunction;
 
-/// Writes what the function of type `F` gives of `x` and each of others into the room for them, up to the first that has a fault. It
+/// Writes what a function gives of `x` and each of others into the room for them, as they are held, up to the first that has a fault. It
 /// answers how many it wrote, and takes no memory.
 #[inline(always)]
-pub fn write_pairs<F: Function + Copy, T: ElementType, U: ElementType, H: HeldRuns>(
+pub fn write_row<T: ElementType, U: ElementType, H: HeldLoops>(
+    f: ScalarFunction,
     x: T,
     others: &[U],
     room: &mut [H],
 ) -> usize
-    requires held { H.is_of F.FUNCTION ≡ true }
+    requires held { H.is_of f ≡ true }
     requires most { length others.now ≤ MOST_PLACES }
     requires room { length others.now ≤ length room.old }
     ensures within { result ≤ length others.now }
-    ensures values { AreWritten (λ k. H.held (dyadic_of F.FUNCTION (T.elem_of x) (slice_index_or (map U.elem_of others.now) k (Int (pos 0))))) 0 result room.new }
-    ensures fault { result < length others.now → IsErr (H.held (dyadic_of F.FUNCTION (T.elem_of x) (slice_index_or (map U.elem_of others.now) result (Int (pos 0))))) }
+    ensures values { AreWritten (λ k. H.held (dyadic_of f (T.elem_of x) (slice_index_or (map U.elem_of others.now) k (Int (pos 0))))) 0 result room.new }
+    ensures fault { result < length others.now → IsErr (H.held (dyadic_of f (T.elem_of x) (slice_index_or (map U.elem_of others.now) result (Int (pos 0))))) }
     ensures len { length room.new ≡ length room.old }
 {
-    // So no loop is made where results are held in another way.
-    if !H::holds(F::FUNCTION) {
-        unreachable!()
-    }
-    let results = PairResults::<Value<T>, Whole<U>, F>::new(Value(x), Whole(others));
+    let pairs = TwoArguments {
+        left: Value(x),
+        right: Whole(others),
+    };
     let count = others.len();
-    match write_results(results, 0, count, &mut room[..count]) {
+    match H::write_results_of(f, pairs, 0, count, &mut room[..count]) {
         Ok(()) => count,
         Err(first) => first.place,
     }

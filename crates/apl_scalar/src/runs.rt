@@ -5,9 +5,7 @@ ghost use Rattle.apl_pool.specs.Runs.{AreWritten, IsFaultAfter};
 ghost use Rattle.apl_scalar.specs.Scalar.{truth_outcome};
 ghost use Rattle.apl_scalar.specs.Runs.{HasPart, DiffersIn};
 
-use crate::function_types::is_truth_valued;
 use crate::held::{Held, as_held};
-use apl_array::ScalarFunction;
 use apl_pool::{Fault, FirstFault, Kernel, write_values};
 use std::marker::PhantomData;
 
@@ -66,8 +64,7 @@ const BLOCK: usize = 16;
 
 /// A type that results are held as, with its quick runs of these.
 pub trait HeldRuns: Held {
-    ghost use Rattle.std.specs.Prelude.{◌≡◌, ℕ, ◌+◌, ◌<◌, ◌≤◌, Bool, length};
-    ghost use Rattle.apl_array.specs.declared.function.ScalarFunction.{ScalarFunction};
+    ghost use Rattle.std.specs.Prelude.{◌≡◌, ℕ, ◌+◌, ◌<◌, ◌≤◌, length};
     ghost use Rattle.apl_pool.specs.declared.kernel.TheConstants.{MOST_PLACES};
     ghost use Rattle.apl_pool.specs.Runs.{AreWritten};
     ghost use Rattle.apl_scalar.specs.declared.runs.TheConstants.{BLOCK};
@@ -76,18 +73,11 @@ pub trait HeldRuns: Held {
     // How many places are a block.
     ghost block: { ℕ };
 
-    // Whether the results of a function are held so.
-    ghost is_of: { ScalarFunction → Bool };
-
     /// How many places are a block.
     fn block_places() -> usize
         ensures value { result ≡ block }
         ensures some { 0 < result }
         ensures few { result ≤ BLOCK };
-
-    /// Whether the results of a function are held so. As no others are, no loops are made for them.
-    fn holds(f: ScalarFunction) -> bool
-        ensures { result ≡ is_of f };
 
     /// Writes the block of likely results after the first `done` into the room for the places from `from` on. It answers the doubts whether
     /// they are right. It takes no memory.
@@ -118,21 +108,11 @@ pub trait HeldRuns: Held {
 }
 
 impl HeldRuns for i64 {
-    ghost use Rattle.std.specs.Prelude.{not};
-    ghost use Rattle.apl_scalar.specs.Scalar.{is_truth_valued};
-
     ghost block = { 1 };
-
-    ghost is_of = { λ f. not (is_truth_valued f) };
 
     #[inline(always)]
     fn block_places() -> usize {
         1
-    }
-
-    #[inline(always)]
-    fn holds(f: ScalarFunction) -> bool {
-        !is_truth_valued(f)
     }
 
     #[inline(always)]
@@ -157,20 +137,12 @@ impl HeldRuns for i64 {
 /// Truth values are written beside the room first, so that no store comes between two reads, and a processor compares a block at once.
 impl HeldRuns for bool {
     ghost use Rattle.apl_scalar.specs.declared.runs.TheConstants.{BLOCK};
-    ghost use Rattle.apl_scalar.specs.Scalar.{is_truth_valued};
 
     ghost block = { BLOCK };
-
-    ghost is_of = { is_truth_valued };
 
     #[inline(always)]
     fn block_places() -> usize {
         BLOCK
-    }
-
-    #[inline(always)]
-    fn holds(f: ScalarFunction) -> bool {
-        is_truth_valued(f)
     }
 
     #[inline(always)]
