@@ -10,9 +10,9 @@ returns-in_default g c =
     let a = c.args.left.now in
     let b = c.args.right.now in
     let differ : a.kind ≡ b.kind → ⊥ = elim c.in_default.branch [
-    in_default-via-in-Numbers+in_default w ↦ search rules
-    | in_default-via-in-Truths+in_default w ↦ search rules
-    | in_default-via-in-Characters+in_default w ↦ search rules
+      | in_default-via-in-Numbers+in_default w ↦ search rules
+      | in_default-via-in-Truths+in_default w ↦ search rules
+      | in_default-via-in-Characters+in_default w ↦ search rules
     ] in
     let mixed = dyadic_mixed c.places_match_index_lists.ensures.same_place c.args.f a b c.args.shape c.requires c.elements.ensures.lawful c.elements-2.ensures.lawful differ in
     c.constant_array.ensures _ (λ place inside. ap as_element (c.compare.ensures ∙ mixed place inside))
