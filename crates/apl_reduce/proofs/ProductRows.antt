@@ -19,8 +19,8 @@ use Rattle.apl_reduce.proofs.OuterRows.{same_row}
 use Rattle.apl_reduce.proofs.Reordered.{judged_same}
 
 -- the products of fewer rows are as small
-pub fewer_rows : (near n m : ℕ) → n ≤ m → near * near * m < 2 ^ 63 → near * near * n < 2 ^ 63
-fewer_rows near n m few small = let less = mul-le-mul (le_refl (near * near)) few in omega (arith, less, small)
+pub fewer_rows : (most n m : ℕ) → n ≤ m → most * m < 2 ^ 63 → most * n < 2 ^ 63
+fewer_rows most n m few small = let less = mul-le-mul (le_refl most) few in omega (arith, less, small)
 
 -- ---- folds in neighbouring columns, one row more on the left
 
@@ -98,15 +98,15 @@ module _ (layout : Layout) (left right line : List ℤ) (from n : ℕ) (rows : I
       let all : suc (length line - 1) ≡ layout.items = omega (arith, long, rows.some) in
       subst (λ m. as_number (judged_items item Plus m) ≡ Ok total) all (sym (judged_value item Plus (length line - 1) (Ok total) (sym (folds j (omega (arith, here, len)))) refl)))
 
-  pub written_sums : (decided : (z : ℤ) → (in_range z ≡ true) ↔ IsInRange z) (bits : (z : ℤ) → IsInRange z ↔ FitsSigned w64 z) (near : ℕ) → near * near * layout.items < 2 ^ 63 → (totals : List ℤ) → length totals ≡ n
-      → length line ≡ layout.items → AreRowSums line right layout.columns near (from % layout.columns) (length line) totals
+  pub written_sums : (decided : (z : ℤ) → (in_range z ≡ true) ↔ IsInRange z) (bits : (z : ℤ) → IsInRange z ↔ FitsSigned w64 z) (most : ℕ) → most * layout.items < 2 ^ 63 → (totals : List ℤ) → length totals ≡ n
+      → length line ≡ layout.items → AreRowSums line right layout.columns most (from % layout.columns) (length line) totals
       → AreWritten (inner_number layout (map Int left) (map Int right) Plus Times) from (from + n) totals
-  written_sums decided bits near small totals len long sums = written_all totals len (λ j here.
+  written_sums decided bits most small totals len long sums = written_all totals len (λ j here.
       let number = row_product line right layout.columns (from % layout.columns + j) in
       let item = row_item line right layout.columns (from % layout.columns + j) in
-      let is = subst (λ m. IsRowSum line right layout.columns near (from % layout.columns + j) m (slice_index_or totals j (pos 0))) long (sums j (omega (arith, here, len))) in
+      let is = subst (λ m. IsRowSum line right layout.columns most (from % layout.columns + j) m (slice_index_or totals j (pos 0))) long (sums j (omega (arith, here, len))) in
       let fits : (k : ℕ) → k < layout.items → FitsSigned w64 (number k) = λ k below.
-      let one = fewer_rows near 1 layout.items (omega (arith, below)) small in
+      let one = fewer_rows most 1 layout.items (omega (arith, below)) small in
       fits_signed_from_abs w64 (number k) (omega (arith, one, is.near k below)) in
-      sym (judged_sum number (near * near) layout.items is.near decided bits small item (λ k below. sym (exact_fits (number k) decided bits (fits k below))) layout.items (le_refl layout.items))
+      sym (judged_sum number most layout.items is.near decided bits small item (λ k below. sym (exact_fits (number k) decided bits (fits k below))) layout.items (le_refl layout.items))
       ∙ ap (λ (z : ℤ). Ok z) (sym is.is))

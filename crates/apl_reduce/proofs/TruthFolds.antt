@@ -1,5 +1,5 @@
 -- Folds of truth values by how many of them are true.
-use Rattle.std.proofs.Common.{◌≡◌, ◌↔◌, ℕ, zero, suc, ℤ, pos, ◌+◌, ◌^◌, ◌<◌, ◌≤◌, ◌+ℤ◌, Bool, true, false, List, map, Result, Ok, FitsSigned, of_z, w64, refl, sym, ap, ◌∙◌, ⊎_elim, slice_index_or, arith}
+use Rattle.std.proofs.Common.{◌≡◌, ◌↔◌, ◌⊎◌, inl, inr, ℕ, zero, suc, ℤ, pos, ◌+◌, ◌-◌, ◌%◌, ◌^◌, ◌<◌, ◌≤◌, ◌+ℤ◌, ◌-ℤ◌, Bool, true, false, not, List, map, Result, Ok, FitsSigned, of_z, w64, refl, sym, ap, ◌∙◌, ⊎_elim, slice_index_or, arith}
 use Rattle.std.specs.Prelude.{◌&&◌, ◌||◌, negsuc, nat_eq, unsigned_abs}
 use Rattle.std.proofs.Math.Bool.{and-false, or-true}
 use Rattle.std.proofs.Math.ListN.{get_or-map}
@@ -17,7 +17,7 @@ use Rattle.apl_reduce.specs.Folded.{number_step, folded_onto}
 use Rattle.apl_reduce.specs.Items.{item_in}
 use Rattle.apl_walk.specs.Ones.{one_of}
 use Rattle.apl_reduce.specs.Ones.{ones}
-use Rattle.apl_reduce.specs.TruthFolds.{IsConjunction, IsDisjunction}
+use Rattle.apl_reduce.specs.TruthFolds.{IsConjunction, IsDisjunction, turned, TurnsAt}
 use Rattle.apl_reduce.proofs.BitFolds.{is_low}
 use Rattle.apl_reduce.proofs.Folds.{two_runs}
 use Rattle.apl_reduce.proofs.NearFolds.{near_exact}
@@ -103,6 +103,66 @@ module _ (truths : List Bool) (first : ℕ) where
         (λ no. any_step n false b no ∙ some_ones n b (omega (arith, some, last, ap one_of no)))
         (cases_Bool (truth n))
 
+  -- ---- functions that turn their right argument over
+
+  -- how many of the first n truth values turn it
+  abbrev pub turns : (turn : Bool) → ℕ → ℕ
+  turns true n = ones truths first n
+  turns false n = n - ones truths first n
+
+  module _ (turn : Bool) (f : ScalarFunction) (asks : TurnsAt turn f) where
+    turn_step : (n : ℕ) (t b : Bool) → truth n ≡ t → folded_onto f item first (suc n) (Ok (bit b)) ≡ folded_onto f item first n (Ok (bit (turned turn t b)))
+    turn_step n t b is = more f n (bit b) (bit (turned turn t b)) (ap (λ x. dyadic_of f (truth_element x) (truth_element b)) is ∙ asks t b)
+
+  turns_none : (turn : Bool) → turns turn 0 ≡ 0
+  turns_none true = ones_none truths first
+  turns_none false = omega arith
+
+  -- one more that turns, or one that does not
+  turns_suc : (turn : Bool) (n : ℕ) → truth n ≡ turn → turns turn (suc n) ≡ suc (turns turn n)
+  turns_suc true n is = omega (arith, ones_suc truths first n, ap one_of is)
+  turns_suc false n is = omega (arith, ones_suc truths first n, ones_most truths first n, ap one_of is)
+
+  turns_same : (turn : Bool) (n : ℕ) → truth n ≡ not turn → turns turn (suc n) ≡ turns turn n
+  turns_same true n is = omega (arith, ones_suc truths first n, ap one_of is)
+  turns_same false n is = omega (arith, ones_suc truths first n, ones_most truths first n, ap one_of is)
+
+  is_turn_or_not : (t turn : Bool) → (t ≡ turn) ⊎ (t ≡ not turn)
+  is_turn_or_not true true = inl refl
+  is_turn_or_not true false = inr refl
+  is_turn_or_not false true = inr refl
+  is_turn_or_not false false = inl refl
+
+  turned_at : (turn b : Bool) → turned turn turn b ≡ not b
+  turned_at true b = refl
+  turned_at false b = refl
+
+  left_at : (turn b : Bool) → turned turn (not turn) b ≡ b
+  left_at true b = refl
+  left_at false b = refl
+
+  not_not : (b : Bool) → not (not b) ≡ b
+  not_not true = refl
+  not_not false = refl
+
+  -- an even number of turns leaves the total, and an odd one turns it over
+  module _ (turn : Bool) (f : ScalarFunction) (asks : TurnsAt turn f) where
+    by_turns : (n : ℕ) (b : Bool) → (turns turn n % 2 ≡ 0 → folded_onto f item first n (Ok (bit b)) ≡ Ok (bit b)) × (turns turn n % 2 ≡ 1 → folded_onto f item first n (Ok (bit b)) ≡ Ok (bit (not b)))
+    by_turns zero b = (λ even. refl, λ odd. absurd (omega (arith, odd, turns_none turn)))
+    by_turns (suc n) b =
+        ⊎_elim
+        (λ here.
+        let count = turns_suc turn n here in
+        let step = turn_step turn f asks n turn b here ∙ ap (λ x. folded_onto f item first n (Ok (bit x))) (turned_at turn b) in
+        let rest = by_turns n (not b) in
+        (λ even. step ∙ rest.1 (omega (arith, even, count)) ∙ ap (λ x. Ok (bit x)) (not_not b), λ odd. step ∙ rest.0 (omega (arith, odd, count))))
+        (λ other.
+        let count = turns_same turn n other in
+        let step = turn_step turn f asks n (not turn) b other ∙ ap (λ x. folded_onto f item first n (Ok (bit x))) (left_at turn b) in
+        let rest = by_turns n b in
+        (λ even. step ∙ rest.0 (omega (arith, even, count)), λ odd. step ∙ rest.1 (omega (arith, odd, count))))
+        (is_turn_or_not (truth n) turn)
+
   -- ---- sums
 
   module _ (decided : (z : ℤ) → (in_range z ≡ true) ↔ IsInRange z) (bits : (z : ℤ) → IsInRange z ↔ FitsSigned w64 z) where
@@ -153,3 +213,13 @@ module _ (truths : List Bool) (first count : ℕ) (total : ℤ) (fits : FitsSign
 
   pub one_onto : IsDisjunction f → 0 < ones truths first count → folds total ≡ Ok (pos 1)
   one_onto asks some = ap folds is_bit ∙ some_ones truths first f asks count b some
+
+  turned_over : (b : Bool) → bit (not b) ≡ pos 1 -ℤ bit b
+  turned_over true = refl
+  turned_over false = refl
+
+  pub even_onto : (turn : Bool) → TurnsAt turn f → turns truths first turn count % 2 ≡ 0 → folds total ≡ Ok total
+  even_onto turn asks even = ap folds is_bit ∙ (by_turns truths first turn f asks count b).0 even ∙ ap (λ z. Ok z) (sym is_bit)
+
+  pub odd_onto : (turn : Bool) → TurnsAt turn f → turns truths first turn count % 2 ≡ 1 → folds total ≡ Ok (pos 1 -ℤ total)
+  odd_onto turn asks odd = ap folds is_bit ∙ (by_turns truths first turn f asks count b).1 odd ∙ ap (λ z. Ok z) (turned_over b ∙ ap (λ z. pos 1 -ℤ z) (sym is_bit))

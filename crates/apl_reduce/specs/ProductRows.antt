@@ -23,13 +23,13 @@ module _ (line right : List ℤ) (stride : ℕ) where
   abbrev pub row_item : (column k : ℕ) → Result ℤ Fault
   row_item column k = dyadic_numbers Times (slice_index_or line k (pos 0)) (slice_index_or right (column + k * stride) (pos 0))
 
-  -- the sum of the products of the first `count` rows, of numbers at most `near` from 0
-  abbrev pub IsRowSum : (near column count : ℕ) → ℤ → Type 0
-  IsRowSum near column count sum = IsSumNear (row_product column) (near * near) count sum
+  -- the sum of the products of the first `count` rows, each of them at most `most` from 0
+  abbrev pub IsRowSum : (most column count : ℕ) → ℤ → Type 0
+  IsRowSum most column count sum = IsSumNear (row_product column) most count sum
 
   -- the same in neighbouring columns
-  abbrev pub AreRowSums : (near column count : ℕ) → List ℤ → Type 0
-  AreRowSums near column count totals = (j : ℕ) → j < length totals → IsRowSum near (column + j) count (slice_index_or totals j (pos 0))
+  abbrev pub AreRowSums : (most column count : ℕ) → List ℤ → Type 0
+  AreRowSums most column count totals = (j : ℕ) → j < length totals → IsRowSum most (column + j) count (slice_index_or totals j (pos 0))
 
   -- the folds by `+` of product k and the `more` products after it, in neighbouring columns
   abbrev pub AreRowFolds : (column k more : ℕ) → List ℤ → Type 0

@@ -1,5 +1,5 @@
--- Functions that, of truth values, ask for all or for one. No contract of a public function cites this file.
-use Rattle.std.specs.Prelude.{◌≡◌, ◌&&◌, ◌||◌, Bool, Ok}
+-- Functions that, of truth values, ask for all or for one, or for how many there are. No contract of a public function cites this file.
+use Rattle.std.specs.Prelude.{◌≡◌, ◌&&◌, ◌||◌, Bool, true, false, not, Ok}
 use Rattle.apl_array.specs.declared.function.ScalarFunction.{ScalarFunction}
 use Rattle.apl_array.specs.Array.{bit, truth_element}
 use Rattle.apl_scalar.specs.Scalar.{dyadic_of}
@@ -11,3 +11,14 @@ IsConjunction f = (a b : Bool) → dyadic_of f (truth_element a) (truth_element 
 -- of two truth values it gives 0 if both are 0, and else 1
 abbrev pub IsDisjunction : ScalarFunction → Type 0
 IsDisjunction f = (a b : Bool) → dyadic_of f (truth_element a) (truth_element b) ≡ Ok (bit (a || b))
+
+-- a truth value, which another one turns over if that is `turn`
+abbrev pub turned : (turn a b : Bool) → Bool
+turned true true b = not b
+turned true false b = b
+turned false true b = b
+turned false false b = not b
+
+-- of two truth values it gives the right one, turned over if the left one is `turn`
+abbrev pub TurnsAt : Bool → ScalarFunction → Type 0
+TurnsAt turn f = (a b : Bool) → dyadic_of f (truth_element a) (truth_element b) ≡ Ok (bit (turned turn a b))

@@ -5,7 +5,7 @@ ghost use Rattle.apl_scalar.specs.Scalar.{dyadic_numbers};
 use apl_array::{Elem, ScalarFunction};
 use apl_pool::Fault;
 use apl_scalar::function_types::Function;
-use apl_scalar::{dyadic_elements, identity, with_type};
+use apl_scalar::{dyadic_elements, dyadic_result, identity, with_type};
 use std::marker::PhantomData;
 
 /// A scalar function of two elements.
@@ -68,7 +68,7 @@ impl Dyadic for Chosen {
 
     #[inline(always)]
     fn of(&self, x: Elem, y: Elem) -> Result<i64, Fault> {
-        with_type!(self.0, dyadic_elements::<F>(x, y))
+        dyadic_result(self.0, x, y)
     }
 
     #[inline(always)]

@@ -5,6 +5,7 @@ ghost use Rattle.apl_reduce.specs.ProductRows.{IsRowSum, AreRowSums};
 
 use crate::folded_rows::put;
 use crate::near_sums::{above_least, wrapped_sum};
+use crate::product_sums::Bounds;
 use crate::sums::narrow_product;
 
 /// How many rows go in one pass over the totals, each of which is read and written once for all of them.
@@ -36,12 +37,12 @@ pub(crate) struct NearProducts<'a> {
     pub right: &'a [i64],
     /// How far apart the rows are.
     pub stride: usize,
-    /// How far from 0 the numbers may be.
-    pub near: u64,
+    /// How far from 0 the numbers of the line and of the rows may be.
+    pub near: Bounds,
     ghost some: { 0 < length line.now },
-    ghost near_most: { near ≤ 2 ^ 30 },
-    ghost small: { near * near * length line.now < 2 ^ 63 },
-    ghost line_near: { magnitude line.now ≤ near },
+    ghost near_most: { (near.left ≤ 2 ^ 30) × (near.right ≤ 2 ^ 30) },
+    ghost small: { near.left * near.right * length line.now < 2 ^ 63 },
+    ghost line_near: { magnitude line.now ≤ near.left },
 }
 
 impl NearProducts<'_> {
@@ -51,10 +52,10 @@ impl NearProducts<'_> {
         requires row { row < length self.now.line.now }
         requires within { column + row * self.now.stride < length self.now.right.now }
         ensures { let s = self.now in
-            result.1 < 2 * s.near → IsRowSum s.line.now s.right.now s.stride s.near column row sum → IsRowSum s.line.now s.right.now s.stride s.near column (row + 1) result.0 }
+            result.1 < 2 * s.near.right → IsRowSum s.line.now s.right.now s.stride (s.near.left * s.near.right) column row sum → IsRowSum s.line.now s.right.now s.stride (s.near.left * s.near.right) column (row + 1) result.0 }
     {
         let number = self.right[column + row * self.stride];
-        let above = above_least(number, self.near);
+        let above = above_least(number, self.near.right);
         let product = narrow_product(held_factor(self.line[row], above), number);
         (wrapped_sum(sum, product), above)
     }
@@ -65,7 +66,7 @@ impl NearProducts<'_> {
         requires rows { row + count ≤ length self.now.line.now }
         requires within { (k : ℕ) → k < length self.now.line.now → column + k * self.now.stride < length self.now.right.now }
         ensures { let s = self.now in
-            result.1 < 2 * s.near → IsRowSum s.line.now s.right.now s.stride s.near column row sum → IsRowSum s.line.now s.right.now s.stride s.near column (row + count) result.0 }
+            result.1 < 2 * s.near.right → IsRowSum s.line.now s.right.now s.stride (s.near.left * s.near.right) column row sum → IsRowSum s.line.now s.right.now s.stride (s.near.left * s.near.right) column (row + count) result.0 }
     {
         let mut sum = sum;
         let mut bits = 0;
@@ -83,9 +84,9 @@ impl NearProducts<'_> {
     fn add_rows(&self, column: usize, row: usize, count: usize, totals: &mut [i64]) -> bool
         requires rows { row + count ≤ length self.now.line.now }
         requires within { (k : ℕ) → k < length self.now.line.now → column + k * self.now.stride + length totals.old ≤ length self.now.right.now }
-        requires sums { let s = self.now in AreRowSums s.line.now s.right.now s.stride s.near column row totals.old }
+        requires sums { let s = self.now in AreRowSums s.line.now s.right.now s.stride (s.near.left * s.near.right) column row totals.old }
         ensures sums { let s = self.now in
-            result ≡ true → AreRowSums s.line.now s.right.now s.stride s.near column (row + count) totals.new }
+            result ≡ true → AreRowSums s.line.now s.right.now s.stride (s.near.left * s.near.right) column (row + count) totals.new }
         ensures len { length totals.new ≡ length totals.old }
     {
         let mut bits = 0;
@@ -94,7 +95,7 @@ impl NearProducts<'_> {
             put(totals, j, sum);
             bits |= above;
         }
-        bits < 2 * self.near
+        bits < 2 * self.near.right
     }
 
     /// Puts the sums of the products of all rows in neighbouring columns in place of the totals. It says whether all numbers of the rows
@@ -102,7 +103,7 @@ impl NearProducts<'_> {
     pub(crate) fn put_sums(&self, column: usize, totals: &mut [i64]) -> bool
         requires within { (k : ℕ) → k < length self.now.line.now → column + k * self.now.stride + length totals.old ≤ length self.now.right.now }
         ensures sums { let s = self.now in
-            result ≡ true → AreRowSums s.line.now s.right.now s.stride s.near column (length s.line.now) totals.new }
+            result ≡ true → AreRowSums s.line.now s.right.now s.stride (s.near.left * s.near.right) column (length s.line.now) totals.new }
         ensures len { length totals.new ≡ length totals.old }
     {
         clear(totals);

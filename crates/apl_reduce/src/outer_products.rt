@@ -18,8 +18,7 @@ use apl_array::{Array, ScalarFunction, Shape, joined_index_has_place, places_mat
 use apl_divisor::Divisor;
 use apl_pool::{Crew, Cut, Fault, Gate, Kernel, Pool, Workers};
 use apl_scalar::{
-    HeldRuns, as_held, is_truth_valued, truth_values_are_results, with_type, work_of_pairs,
-    write_pairs,
+    HeldLoops, as_held, is_truth_valued, truth_values_are_results, work_of_pairs, write_row,
 };
 use std::alloc::Global;
 use std::marker::PhantomData;
@@ -69,35 +68,15 @@ impl<T: ElementType, U: ElementType> EachPair<'_, T, U> {
     }
 }
 
-/// Writes what a function gives of one element and each of others into the room for them, as results are held, up to the first that has a
-/// fault. It answers how many it wrote.
-#[inline(always)]
-fn write_row<T: ElementType, U: ElementType, H: HeldRuns>(
-    f: ScalarFunction,
-    x: T,
-    others: &[U],
-    room: &mut [H],
-) -> usize
-    requires held { H.is_of f ≡ true }
-    requires most { length others.now ≤ MOST_PLACES }
-    requires room { length others.now ≤ length room.old }
-    ensures within { result ≤ length others.now }
-    ensures values { AreWritten (λ k. H.held (pair_number f (T.elem_of x) (map U.elem_of others.now) k)) 0 result room.new }
-    ensures fault { result < length others.now → IsErr (H.held (pair_number f (T.elem_of x) (map U.elem_of others.now) result)) }
-    ensures len { length room.new ≡ length room.old }
-{
-    with_type!(f, write_pairs::<F, T, U, H>(x, others, room))
-}
-
 /// What a function gives of each pair, as results are held.
 #[derive(Drop)]
-struct HeldPairs<'a, T, U, H: HeldRuns> {
+struct HeldPairs<'a, T, U, H: HeldLoops> {
     pairs: EachPair<'a, T, U>,
     held: PhantomData<H>,
     ghost is_held: { H.is_of pairs.f ≡ true },
 }
 
-impl<T: ElementType, U: ElementType, H: HeldRuns> Kernel for HeldPairs<'_, T, U, H> {
+impl<T: ElementType, U: ElementType, H: HeldLoops> Kernel for HeldPairs<'_, T, U, H> {
     ghost use Rattle.std.specs.Prelude.{map};
     ghost use Rattle.apl_reduce.specs.Items.{outer_number};
 

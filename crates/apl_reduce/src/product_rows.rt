@@ -17,7 +17,7 @@ use crate::magnitudes::magnitude;
 use crate::near_products::NearProducts;
 use crate::outer_products::NARROW;
 use crate::product_items::ProductItems;
-use crate::product_sums::near_bound;
+use crate::product_sums::{Bounds, bounds_of};
 use crate::sharing::FEWEST_COLUMNS;
 use apl_array::range_is_decided;
 use apl_divisor::Divisor;
@@ -42,9 +42,9 @@ impl Layout {
 struct ProductRows<'a> {
     items: ProductItems<'a, i64, i64, Typed<Times>>,
     /// How far from 0 numbers may be, so that no sum of their products leaves the range.
-    near: u64,
-    ghost near_most: { near ≤ 2 ^ 30 },
-    ghost small: { near * near * items.layout.now.items < 2 ^ 63 },
+    near: Bounds,
+    ghost near_most: { (near.left ≤ 2 ^ 30) × (near.right ≤ 2 ^ 30) },
+    ghost small: { near.left * near.right * items.layout.now.items < 2 ^ 63 },
     ghost by_rows: { IsByRows items.layout.now },
 }
 
@@ -126,10 +126,10 @@ impl<'a> ProductRows<'a> {
         requires len { length rows.now.line.now ≡ self.now.items.layout.now.items }
         requires within { (k : ℕ) → k < length rows.now.line.now → column + k * rows.now.stride + length totals.old ≤ length rows.now.right.now }
         ensures sums { let r = rows.now in
-            result ≡ true → AreRowSums r.line.now r.right.now r.stride self.now.near column (length r.line.now) totals.new }
+            result ≡ true → AreRowSums r.line.now r.right.now r.stride (self.now.near.left * self.now.near.right) column (length r.line.now) totals.new }
         ensures len { length totals.new ≡ length totals.old }
     {
-        if magnitude(rows.line) > self.near {
+        if magnitude(rows.line) > self.near.left {
             return false;
         }
         let products = NearProducts {
@@ -176,6 +176,6 @@ pub(crate) fn fill_product_rows<W: Crew>(
         right,
         pairing: Typed::<Times>(PhantomData),
     };
-    let near = near_bound(layout.items);
+    let near = bounds_of(left, right, layout.items);
     fill(workers, &ProductRows { items, near })
 }

@@ -24,8 +24,8 @@ use std::marker::PhantomData;
 /// How far from 0 the numbers of two lists that meet may be.
 #[derive(Clone, Copy)]
 pub(crate) struct Bounds {
-    left: u64,
-    right: u64,
+    pub left: u64,
+    pub right: u64,
 }
 
 /// A sum of products. If one of the numbers is far from 0, it may have wrapped.
@@ -107,18 +107,6 @@ fn product_sum(left: &[i64], right: &[i64], near: Bounds) -> ProductSum
 /// How many numbers at either end of a list are looked at before its bound is chosen.
 const FEW: usize = 32;
 
-/// How far from 0 the numbers of a line of `count` items may be. Then no sum of their products leaves the range.
-pub(crate) fn near_bound(count: usize) -> u64
-    ensures near { result ≤ 2 ^ 30 }
-    ensures small { result * result * count < 2 ^ 63 }
-{
-    let mut near = 1 << 30;
-    while !sums_are_small(near, near, count) {
-        near /= 2;
-    }
-    near
-}
-
 /// How far the first and the last of some numbers are from 0: the rest may well be about so far.
 fn typical(numbers: &[i64]) -> u64 {
     let few = numbers.len().min(FEW);
@@ -127,7 +115,7 @@ fn typical(numbers: &[i64]) -> u64 {
 
 /// How far from 0 the numbers of two lists may be, of which so many meet at each place. Then no sum of their products leaves the range. The
 /// list whose numbers seem to be farther from 0 may have greater ones.
-fn bounds_of(left: &[i64], right: &[i64], count: usize) -> Bounds
+pub(crate) fn bounds_of(left: &[i64], right: &[i64], count: usize) -> Bounds
     ensures near { (result.left ≤ 2 ^ 30) × (result.right ≤ 2 ^ 30) }
     ensures small { result.left * result.right * count < 2 ^ 63 }
 {

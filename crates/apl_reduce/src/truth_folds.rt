@@ -6,7 +6,7 @@ ghost use Rattle.apl_array.specs.Array.{truth_element};
 ghost use Rattle.apl_pool.specs.declared.kernel.TheConstants.{MOST_PLACES};
 ghost use Rattle.apl_reduce.specs.Folded.{folded_onto};
 ghost use Rattle.apl_reduce.specs.Items.{item_in};
-ghost use Rattle.apl_reduce.specs.TruthFolds.{IsConjunction, IsDisjunction};
+ghost use Rattle.apl_reduce.specs.TruthFolds.{IsConjunction, IsDisjunction, TurnsAt};
 
 use crate::folding::fold_items;
 use crate::ones::ones;
@@ -25,6 +25,8 @@ pub(crate) fn has_truth_runs(f: ScalarFunction) -> bool {
             | ScalarFunction::Ceiling
             | ScalarFunction::And
             | ScalarFunction::Or
+            | ScalarFunction::Equal
+            | ScalarFunction::NotEqual
     )
 }
 
@@ -71,6 +73,19 @@ fn any_onto(truths: &[bool], first: usize, count: usize, total: i64) -> Option<i
     })
 }
 
+/// The fold of neighbours onto a total, if that is 0 or 1, by a function that turns its right argument over where the left one is `turn`.
+fn turned_onto(truths: &[bool], first: usize, count: usize, total: i64, turn: bool) -> Option<i64>
+    requires within { first + count ≤ length truths.now }
+    ensures { IfSome result (λ z. (f : ScalarFunction) → TurnsAt turn f → folded_onto f (item_in (map truth_element truths.now)) first count (Ok total) ≡ Ok z) }
+{
+    if total.cast_unsigned() > 1 {
+        return None;
+    }
+    let ones = ones(truths, first, count);
+    let turns = if turn { ones } else { count - ones };
+    Some(if turns % 2 == 0 { total } else { 1 - total })
+}
+
 /// The fold of neighbours onto a total by how many are true, unless it is in doubt.
 #[inline(always)]
 fn truth_fold<F: Function>(truths: &[bool], first: usize, count: usize, total: i64) -> Option<i64>
@@ -85,6 +100,8 @@ fn truth_fold<F: Function>(truths: &[bool], first: usize, count: usize, total: i
         ScalarFunction::And => all_onto(truths, first, count, total),
         ScalarFunction::Ceiling => any_onto(truths, first, count, total),
         ScalarFunction::Or => any_onto(truths, first, count, total),
+        ScalarFunction::Equal => turned_onto(truths, first, count, total, false),
+        ScalarFunction::NotEqual => turned_onto(truths, first, count, total, true),
         _ => None,
     }
 }

@@ -27,35 +27,28 @@ still_ended end truths first items old new ended same = record {
   after = λ j k d order inside is. same (first + k) d (omega (arith, inside)) ∙ ended.after j k d order inside is;
 }
 
-is_and : (f : ScalarFunction) → dyadic_numbers f (pos 1) (pos 1) ≡ Ok (pos 1) → dyadic_numbers f (pos 1) (pos 0) ≡ Ok (pos 0)
-    → dyadic_numbers f (pos 0) (pos 1) ≡ Ok (pos 0) → dyadic_numbers f (pos 0) (pos 0) ≡ Ok (pos 0) → IsEndOf f false
-is_and f both left right none true true = both
-is_and f both left right none true false = left
-is_and f both left right none false true = right
-is_and f both left right none false false = none
-
-is_or : (f : ScalarFunction) → dyadic_numbers f (pos 1) (pos 1) ≡ Ok (pos 1) → dyadic_numbers f (pos 1) (pos 0) ≡ Ok (pos 1)
-    → dyadic_numbers f (pos 0) (pos 1) ≡ Ok (pos 1) → dyadic_numbers f (pos 0) (pos 0) ≡ Ok (pos 0) → IsEndOf f true
-is_or f both left right none true true = both
-is_or f both left right none true false = left
-is_or f both left right none false true = right
-is_or f both left right none false false = none
+is_joined : (f : ScalarFunction) (end : Bool) → dyadic_numbers f (pos 1) (pos 1) ≡ Ok (bit (join end true true)) → dyadic_numbers f (pos 1) (pos 0) ≡ Ok (bit (join end true false))
+    → dyadic_numbers f (pos 0) (pos 1) ≡ Ok (bit (join end false true)) → dyadic_numbers f (pos 0) (pos 0) ≡ Ok (bit (join end false false)) → IsEndOf f end
+is_joined f end both left right none true true = both
+is_joined f end both left right none true false = left
+is_joined f end both left right none false true = right
+is_joined f end both left right none false false = none
 
 -- the functions that are "and" or "or" of truth values
 pub end_of_and : IsEndOf And false
-end_of_and = is_and And refl refl refl refl
+end_of_and = is_joined And false refl refl refl refl
 
 pub end_of_times : IsEndOf Times false
-end_of_times = is_and Times refl refl refl refl
+end_of_times = is_joined Times false refl refl refl refl
 
 pub end_of_floor : IsEndOf Floor false
-end_of_floor = is_and Floor refl refl refl refl
+end_of_floor = is_joined Floor false refl refl refl refl
 
 pub end_of_or : IsEndOf Or true
-end_of_or = is_or Or refl refl refl refl
+end_of_or = is_joined Or true refl refl refl refl
 
 pub end_of_ceiling : IsEndOf Ceiling true
-end_of_ceiling = is_or Ceiling refl refl refl refl
+end_of_ceiling = is_joined Ceiling true refl refl refl refl
 
 end_stays : (end y : Bool) → join end end y ≡ end
 end_stays true y = refl

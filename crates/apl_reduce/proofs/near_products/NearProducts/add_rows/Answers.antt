@@ -15,7 +15,7 @@ overflow_add-column c =
 pub loop-j-preserved : goal.loop-j-preserved
 loop-j-preserved c =
     let s = c.args.self.now in
-    let near = s.near in
+    let most = s.near.left * s.near.right in
     let all = c.args.row + c.args.count in
     let totals = c.loop-j.totals in
     let j = c.loop-j.j in
@@ -26,10 +26,10 @@ loop-j-preserved c =
     let read : to_z w64 (of_z w64 t) ≡ t = to_z-of_z w64 t fits in
     let stored : to_z w64 (of_z w64 sum.0) ≡ sum.0 = search rules in
     let inside : j < length totals = omega (arith, c.loop-j-test.true, kept.len) in
-    let Is : ℕ → ℕ → ℤ → Type 0 = λ i count z. IsRowSum s.line.now s.right.now s.stride near (c.args.column + i) count z in
+    let Is : ℕ → ℕ → ℤ → Type 0 = λ i count z. IsRowSum s.line.now s.right.now s.stride most (c.args.column + i) count z in
     record {
       sums = λ low i below.
-          let both = both_low (2 * near) c.loop-j.bits sum.1 low in
+          let both = both_low (2 * s.near.right) c.loop-j.bits sum.1 low in
           rw (c.put.ensures, stored) (⊎_elim
           (λ earlier. subst (Is i all) (sym (get_or-set_other totals j i sum.0 (pos 0) (λ same. absurd (omega (arith, same, earlier))))) (kept.sums both.0 i earlier))
           (λ later.

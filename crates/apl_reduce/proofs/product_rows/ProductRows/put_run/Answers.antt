@@ -1,4 +1,4 @@
-use Rattle.std.proofs.Common.{◌≡◌, ℕ, ℤ, ◌-◌, ◌%◌, ◌<◌, List, length, ap, subst, ◌∙◌, arith}
+use Rattle.std.proofs.Common.{◌≡◌, ℕ, ℤ, ◌-◌, ◌*◌, ◌%◌, ◌<◌, List, length, ap, subst, ◌∙◌, arith}
 use Rattle.apl_reduce.specs.ProductRows.{AreRowSums, AreRowFolds}
 use Rattle.apl_reduce.proofs.ProductRows.{rows_within, written_sums, written_folds}
 use Rattle.apl_reduce.proofs.product_rows.ProductRows.put_run.Goals as goal
@@ -29,10 +29,10 @@ returns-then-put_sums-clause-values c = λ sure.
     let line = c.line_rows-rows.result.line.now in
     let totals = c.put_sums.new.totals in
     let column : c.remainder-column.result ≡ c.args.from % layout.columns = c.remainder-column.ensures.value ∙ ap (λ n. c.args.from % n) x.columns_are in
-    let Sums : List ℤ → ℕ → ℕ → Type 0 = λ right stride first. AreRowSums line right stride c.args.self.now.near first (length line) totals in
+    let Sums : List ℤ → ℕ → ℕ → Type 0 = λ right stride first. AreRowSums line right stride (c.args.self.now.near.left * c.args.self.now.near.right) first (length line) totals in
     let sums = subst (λ r. Sums r layout.columns (c.args.from % layout.columns)) rows.right (subst (λ s. Sums c.line_rows-rows.result.right.now s (c.args.from % layout.columns)) rows.stride
     (subst (Sums c.line_rows-rows.result.right.now c.line_rows-rows.result.stride) column (c.put_sums.ensures.sums sure))) in
-    written_sums layout x.left.now x.right.now line c.args.from (length c.args.totals.now) c.args.self.now.by_rows rows.line c.requires.line c.range_is_decided.ensures.decided c.range_is_decided.ensures.bits c.args.self.now.near
+    written_sums layout x.left.now x.right.now line c.args.from (length c.args.totals.now) c.args.self.now.by_rows rows.line c.requires.line c.range_is_decided.ensures.decided c.range_is_decided.ensures.bits (c.args.self.now.near.left * c.args.self.now.near.right)
     c.args.self.now.small totals c.put_sums.ensures.len rows.len sums
 
 pub returns-else-put_sums-clause-values : goal.returns-else-put_sums-clause-values

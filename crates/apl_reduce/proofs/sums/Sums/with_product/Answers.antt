@@ -1,4 +1,4 @@
-use Rattle.std.proofs.Common.{◌≡◌, pos, ◌+◌, ◌^◌, ◌<◌, ℤ, ◌+ℤ◌, ◌*ℤ◌, FitsSigned, slice_index_or, to_z, of_z, w64, sym, ap, subst, ◌∙◌, rules}
+use Rattle.std.proofs.Common.{◌≡◌, pos, ◌+◌, ◌^◌, ◌<◌, ◌+ℤ◌, ◌*ℤ◌, FitsSigned, slice_index_or, to_z, of_z, w64, sym, ap, subst, ◌∙◌, rules}
 use Rattle.std.specs.Prelude.{unsigned_abs}
 use Rattle.apl_reduce.proofs.Distances.{narrow_read, read_narrow}
 use Rattle.apl_reduce.proofs.NearSums.{stored}
