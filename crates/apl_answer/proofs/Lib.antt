@@ -1,4 +1,4 @@
-pub mod Truths
+pub mod Widened
 pub mod Gathering
 pub mod Places
 pub mod Answers

@@ -1,8 +1,11 @@
-//! Numbers, truth values and characters.
+//! Numbers, of 64 bits or of 32, truth values and characters.
+ghost use Rattle.std.specs.Prelude.{refl};
+ghost use Rattle.apl_array.specs.Array.{bit};
+
 use apl_array::{Array, Elem, Shape};
 use apl_pool::Reused;
 
-/// An element of an array as it is held: a number, a truth value, which is the number 0 or 1, or a character.
+/// An element of an array as it is held: a number, of 64 bits or of 32, a truth value, which is the number 0 or 1, or a character.
 pub trait ElementType: Reused {
     ghost use Rattle.std.specs.Prelude.{◌≡◌, vec_len};
     ghost use Rattle.apl_array.specs.declared.array.Elem.{Elem};
@@ -59,6 +62,34 @@ impl ElementType for i64 {
     }
 }
 
+impl ElementType for i32 {
+    ghost use Rattle.std.specs.Prelude.{◌≡◌, vec_len};
+    ghost use Rattle.apl_array.specs.Shape.{count_of};
+    ghost use Rattle.apl_array.specs.Array.{number_array};
+    ghost use Rattle.apl_array.specs.declared.array.Elem.TheVariants.{Int};
+    ghost use Rattle.apl_array.specs.declared.array.Kind.TheVariants.{Number};
+
+    ghost elem_of = { Int };
+
+    ghost kind = { Number };
+
+    #[inline(always)]
+    fn elem(self) -> Elem {
+        Elem::Int(self as i64)
+    }
+
+    fn fill() -> i32 {
+        0
+    }
+
+    fn array(shape: Shape, values: Vec<i32>) -> Array
+        requires { vec_len values ≡ count_of shape }
+        ensures { result ≡ number_array shape values.items }
+    {
+        Array::narrow(shape, values)
+    }
+}
+
 impl ElementType for bool {
     ghost use Rattle.std.specs.Prelude.{◌≡◌, vec_len};
     ghost use Rattle.apl_array.specs.Shape.{count_of};
@@ -111,5 +142,53 @@ impl ElementType for char {
         ensures { result ≡ character_array shape values.items }
     {
         Array::chars(shape, values)
+    }
+}
+
+/// An element that is a number, however it is held.
+pub trait Numeric: ElementType {
+    ghost use Rattle.std.specs.Prelude.{◌≡◌, ℤ};
+    ghost use Rattle.apl_array.specs.declared.array.Elem.TheVariants.{Int};
+
+    // The number that an element is.
+    ghost number_in: { Self → ℤ };
+
+    /// The number that an element is. It takes no memory.
+    fn number(self) -> i64
+        ensures { result ≡ number_in self };
+
+    ghost is_number: { (x : Self) → Self.elem_of x ≡ Int (number_in x) };
+}
+
+impl Numeric for i64 {
+    ghost number_in = { λ x. x };
+
+    ghost is_number = { λ x. refl };
+
+    #[inline(always)]
+    fn number(self) -> i64 {
+        self
+    }
+}
+
+impl Numeric for i32 {
+    ghost number_in = { λ x. x };
+
+    ghost is_number = { λ x. refl };
+
+    #[inline(always)]
+    fn number(self) -> i64 {
+        self as i64
+    }
+}
+
+impl Numeric for bool {
+    ghost number_in = { bit };
+
+    ghost is_number = { λ x. refl };
+
+    #[inline(always)]
+    fn number(self) -> i64 {
+        if self { 1 } else { 0 }
     }
 }

@@ -1,15 +1,18 @@
-//! The numbers of an array in 64 bits, also of one that holds truth values.
-ghost use Rattle.std.specs.Prelude.{◌≡◌, ◌↔◌, ◌≤◌, IfOk, IfSome, IsSome, length};
+//! The numbers of an array in 64 bits, also of one that holds them in 32, or as truth values.
+ghost use Rattle.std.specs.Prelude.{◌≡◌, ◌↔◌, ◌≤◌, ℤ, pos, List, Ok, IfOk, IfSome, IsSome, length, map, slice_index_or};
+ghost use Rattle.apl_array.specs.declared.array.Elem.TheVariants.{Int};
 ghost use Rattle.apl_array.specs.declared.array.Kind.{Kind};
-ghost use Rattle.apl_array.specs.Array.{IsArray, bit, number_array};
+ghost use Rattle.apl_array.specs.Array.{IsArray, number_array};
 ghost use Rattle.apl_answer.specs.Numbers.{number_list};
 ghost use Rattle.apl_pool.specs.declared.kernel.TheConstants.{MOST_PLACES};
+ghost use Rattle.apl_pool.specs.Pool.{AreValues};
 
+use crate::element::Numeric;
 use apl_array::{Array, Elements};
 use apl_pool::{Crew, Fault, Kernel, fill};
 use std::alloc::AllocError;
 
-/// Numbers in row order: those that an array holds, or those that its truth values are.
+/// Numbers in row order: those that an array holds, or those that are made of what it holds.
 #[derive(Drop)]
 pub enum Numbers<'a> {
     Held(&'a [i64]),
@@ -30,51 +33,63 @@ impl Numbers<'_> {
     }
 }
 
-/// Truth values as numbers.
+/// The numbers that elements are, in 64 bits.
 #[derive(Drop)]
-struct TruthNumbers<'a> {
-    truths: &'a [bool],
-    ghost most: { length truths.now ≤ MOST_PLACES },
+struct Widened<'a, T> {
+    elements: &'a [T],
+    ghost most: { length elements.now ≤ MOST_PLACES },
 }
 
-/// The number that a truth value is.
-#[inline(always)]
-fn number(truth: bool) -> i64
-    ensures { result ≡ bit truth }
-{
-    if truth { 1 } else { 0 }
-}
-
-impl Kernel for TruthNumbers<'_> {
-    ghost use Rattle.std.specs.Prelude.{Ok, false, length, slice_index_or};
-    ghost use Rattle.apl_array.specs.Array.{bit};
+impl<T: Numeric> Kernel for Widened<'_, T> {
+    ghost use Rattle.std.specs.Prelude.{Ok, length, map, pos, slice_index_or};
 
     type Out = i64;
 
-    ghost place_count = { λ k. length k.truths.now };
+    ghost place_count = { λ k. length k.elements.now };
 
-    ghost outcome = { λ k place. Ok (bit (slice_index_or k.truths.now place false)) };
+    ghost outcome = { λ k place. Ok (slice_index_or (map T.number_in k.elements.now) place (pos 0)) };
 
     fn count(&self) -> usize {
-        self.truths.len()
+        self.elements.len()
     }
 
     #[inline(always)]
     fn at(&self, place: usize) -> Result<i64, Fault> {
-        Ok(number(self.truths[place]))
+        Ok(self.elements[place].number())
     }
 
     #[inline(always)]
     fn write_run(&self, from: usize, to: usize, room: &mut [i64]) -> usize {
         for k in 0..to - from {
-            room[k] = number(self.truths[from + k]);
+            room[k] = self.elements[from + k].number();
         }
         to
     }
 }
 
-/// The numbers of an array in row order, if it is of numbers. Those that are held as truth values are made by the workers, and this
-/// alone takes memory.
+/// Elements are the numbers that are made of them.
+fn numbers_are_elements<T: Numeric>(_elements: &[T])
+    ensures { (numbers : List ℤ) → AreValues (λ place. Ok (slice_index_or (map T.number_in _elements.now) place (pos 0))) (length _elements.now) numbers
+        → map T.elem_of _elements.now ≡ map Int numbers }
+{}
+
+/// The numbers that elements are, made by the workers.
+fn made_numbers<T: Numeric + Sync, W: Crew>(
+    workers: &W,
+    elements: &[T],
+) -> Result<Vec<i64>, AllocError>
+    requires { length elements.now ≤ MOST_PLACES }
+    ensures { IfOk result (λ numbers. map T.elem_of elements.now ≡ map Int numbers.items) }
+{
+    numbers_are_elements(elements);
+    match fill(workers, &Widened { elements }) {
+        Ok(numbers) => Ok(numbers),
+        Err(_) => Err(AllocError),
+    }
+}
+
+/// The numbers of an array in row order, if it is of numbers. Those that are held in 32 bits, or as truth values, are made by the workers,
+/// and this alone takes memory.
 pub fn numbers_of<'a, W: Crew>(workers: &W, a: &'a Array) -> Result<Option<Numbers<'a>>, AllocError>
     ensures numbers { IfOk result (λ found. IfSome found (λ ns. a.now ≡ number_array a.now.shape (number_list ns))) }
     ensures kind { IfOk result (λ found. IsSome found ↔ (a.now.kind ≡ Kind.Number)) }
@@ -82,10 +97,8 @@ pub fn numbers_of<'a, W: Crew>(workers: &W, a: &'a Array) -> Result<Option<Numbe
 {
     match a.elements() {
         Elements::Numbers(numbers) => Ok(Some(Numbers::Held(numbers))),
-        Elements::Truths(truths) => match fill(workers, &TruthNumbers { truths }) {
-            Ok(numbers) => Ok(Some(Numbers::Made(numbers))),
-            Err(_) => Err(AllocError),
-        },
+        Elements::Narrow(numbers) => Ok(Some(Numbers::Made(made_numbers(workers, numbers)?))),
+        Elements::Truths(truths) => Ok(Some(Numbers::Made(made_numbers(workers, truths)?))),
         Elements::Characters(_) => Ok(None),
     }
 }

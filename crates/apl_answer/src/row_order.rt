@@ -11,7 +11,7 @@ use crate::element::ElementType;
 use crate::fault::OpFault;
 use crate::fill::fill_array;
 use crate::laws::answer_is_each_outcome;
-use apl_array::{Array, Elements, Shape, places_match_index_lists};
+use apl_array::{Array, Shape, places_match_index_lists, with_elements};
 use apl_pool::{Crew, Fault, Kernel};
 
 /// Each element at its own place, and the fill past the last.
@@ -71,11 +71,7 @@ pub fn array_of_elements<W: Crew>(workers: &W, shape: Shape, b: &Array) -> Resul
     requires { count_of shape ≤ count_of b.now.shape }
     ensures { IsAnswerAt shape b.now.kind (λ place. Ok (element_in b.now place)) result }
 {
-    match b.elements() {
-        Elements::Numbers(numbers) => in_row_order(workers, shape, numbers),
-        Elements::Truths(truths) => in_row_order(workers, shape, truths),
-        Elements::Characters(characters) => in_row_order(workers, shape, characters),
-    }
+    with_elements!(b.elements(), elements => in_row_order(workers, shape, elements))
 }
 
 /// A copy of an array.

@@ -12,6 +12,7 @@ pub(crate) fn let_go(kept: &KeptLists, value: Rc<Array>) {
     if let Ok(array) = Rc::try_unwrap(value) {
         match array.into_ravel() {
             Ravel::Numbers(numbers) => kept.keep(numbers),
+            Ravel::Narrow(numbers) => kept.keep(numbers),
             Ravel::Truths(truths) => kept.keep(truths),
             Ravel::Characters(characters) => kept.keep(characters),
         }

@@ -9,10 +9,11 @@ use std::cell::Cell;
 /// The fewest values of a list that is kept. Shorter ones stay in a processor's cache, where room is made quickly.
 const LEAST_KEPT: usize = 4096;
 
-/// The lists of numbers, truth values and characters that were let go last, and whether lists are kept at all. No call takes memory.
+/// The lists of numbers, of those held in 32 bits, of truth values and of characters that were let go last, and whether lists are kept at all. No call takes memory.
 #[derive(Drop)]
 pub struct KeptLists {
     numbers: Cell<Option<Vec<i64>>>,
+    narrow: Cell<Option<Vec<i32>>>,
     truths: Cell<Option<Vec<bool>>>,
     characters: Cell<Option<Vec<char>>>,
     is_open: Cell<bool>,
@@ -31,6 +32,7 @@ impl KeptLists {
     pub(crate) fn new() -> KeptLists {
         KeptLists {
             numbers: Cell::new(None),
+            narrow: Cell::new(None),
             truths: Cell::new(None),
             characters: Cell::new(None),
             is_open: Cell::new(true),
@@ -67,9 +69,10 @@ impl KeptLists {
     /// Gives the memory of the lists back, and then keeps none until `keep_again`. It says whether there was a list.
     pub fn give_back(&self) -> bool {
         let had_numbers = self.numbers.replace(None).is_some();
+        let had_narrow = self.narrow.replace(None).is_some();
         let had_truths = self.truths.replace(None).is_some();
         let had_characters = self.characters.replace(None).is_some();
-        let is_given = had_numbers || had_truths || had_characters;
+        let is_given = had_numbers || had_narrow || had_truths || had_characters;
         self.is_open.set(!is_given);
         is_given
     }
@@ -94,6 +97,14 @@ impl Reused for i64 {
 
     fn kept_in(lists: &KeptLists) -> &Cell<Option<Vec<i64>>> {
         &lists.numbers
+    }
+}
+
+impl Reused for i32 {
+    const PER_NUMBER: usize = 2;
+
+    fn kept_in(lists: &KeptLists) -> &Cell<Option<Vec<i32>>> {
+        &lists.narrow
     }
 }
 

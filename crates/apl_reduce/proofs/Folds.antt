@@ -1,5 +1,5 @@
 -- Right folds, from the right one item more.
-use Rattle.std.proofs.Common.{◌≡◌, ℕ, zero, suc, ℤ, pos, ◌+◌, ◌-◌, ◌*◌, ◌≤◌, List, Result, Ok, Err, slice_index_or, refl, ap, sym, ◌∙◌, arith}
+use Rattle.std.proofs.Common.{◌≡◌, ℕ, zero, suc, ℤ, pos, ◌+◌, ◌-◌, ◌*◌, ◌<◌, ◌≤◌, List, Result, Ok, Err, slice_index_or, refl, ap, sym, ◌∙◌, arith}
 use Rattle.apl_array.specs.declared.array.Elem.{Elem}
 use Rattle.apl_array.specs.declared.array.Elem.TheVariants.{Int}
 use Rattle.apl_array.specs.declared.function.ScalarFunction.{ScalarFunction}
@@ -68,17 +68,21 @@ module _ (f : ScalarFunction) where
       ∙ sym (two_runs item (first + next) n (count - rest) start)
       ∙ ap (λ i. folded_onto f item (first + next) i start) all
 
-  -- the same items by other numbers
-  pub same_items : (item other : ℕ → Elem) (k j n : ℕ) (start : Result ℤ Fault) → ((i : ℕ) → item (k + i) ≡ other (j + i)) → folded_onto f item k n start ≡ folded_onto f other j n start
-  same_items item other k j zero start each = refl
-  same_items item other k j (suc n) start each =
+  -- the same items by other numbers, in a run
+  pub same_run : (item other : ℕ → Elem) (k j n : ℕ) (start : Result ℤ Fault) → ((i : ℕ) → i < n → item (k + i) ≡ other (j + i)) → folded_onto f item k n start ≡ folded_onto f other j n start
+  same_run item other k j zero start each = refl
+  same_run item other k j (suc n) start each =
       let first : k ≡ k + 0 = omega arith in
       let same : j + 0 ≡ j = omega arith in
-      ap (λ x. number_step f x (folded_onto f item (suc k) n start)) (ap item first ∙ each 0 ∙ ap other same)
-      ∙ ap (number_step f (other j)) (same_items item other (suc k) (suc j) n start (λ i.
+      ap (λ x. number_step f x (folded_onto f item (suc k) n start)) (ap item first ∙ each 0 (omega arith) ∙ ap other same)
+      ∙ ap (number_step f (other j)) (same_run item other (suc k) (suc j) n start (λ i inside.
       let left : suc k + i ≡ k + suc i = omega arith in
       let right : j + suc i ≡ suc j + i = omega arith in
-      ap item left ∙ each (suc i) ∙ ap other right))
+      ap item left ∙ each (suc i) (omega (arith, inside)) ∙ ap other right))
+
+  -- and anywhere
+  pub same_items : (item other : ℕ → Elem) (k j n : ℕ) (start : Result ℤ Fault) → ((i : ℕ) → item (k + i) ≡ other (j + i)) → folded_onto f item k n start ≡ folded_onto f other j n start
+  same_items item other k j n start each = same_run item other k j n start (λ i inside. each i)
 
   -- two and more of the same items
   pub same_folded : (item other : ℕ → Elem) (k j more : ℕ) → ((i : ℕ) → item (k + i) ≡ other (j + i)) → folded f item k more ≡ folded f other j more

@@ -9,7 +9,7 @@ ghost use Rattle.apl_pool.specs.declared.kernel.TheConstants.{MOST_PLACES};
 ghost use Rattle.apl_reduce.specs.Filled.{IsFilled};
 ghost use Rattle.apl_reduce.specs.Folded.{fold_at};
 
-use crate::foldable::{Foldable, Numeric};
+use crate::foldable::Foldable;
 use crate::folded_rows::{Doubts, fold_last_rows, fold_rows, from_place};
 use crate::four::{Four, put_four};
 use crate::item_rows::{ItemRows, PlacedItems};
@@ -19,7 +19,7 @@ use crate::outer_products::NARROW;
 use crate::sharing::{FEWEST_COLUMNS, piece_of, shares_items, shares_sums, work_of};
 use crate::stretch_sums::{STRETCH, Stretches, fill_row_sums};
 use crate::truth_folds::has_truth_runs;
-use apl_answer::ElementType;
+use apl_answer::{ElementType, Numeric};
 use apl_array::{
     Array, ScalarFunction, Shape, inserted_index_has_place, places_match_index_lists,
     replaced_index_has_place,
@@ -385,6 +385,20 @@ pub(crate) fn fill_number_folds<W: Crew>(
     if let Some(sums) = fill_by_stretches(workers, f, axis)? {
         return Ok(sums);
     }
+    if shares_items(workers, f, axis.count, axis.items) {
+        return apl_summary::fold_rows(workers, f, &ItemRows { items: axis });
+    }
+    fill_folds(workers, f, axis)
+}
+
+/// The folds of numbers of 32 bits at each place. The workers share the items of each place, or the places.
+pub(crate) fn fill_narrow_folds<W: Crew>(
+    workers: &W,
+    f: ScalarFunction,
+    axis: &AxisItems<i32>,
+) -> Result<Vec<i64>, Stop>
+    ensures { IsFilled (fold_at f (map Int axis.now.elements.now) axis.now.items axis.now.block axis.now.inner) axis.now.count result }
+{
     if shares_items(workers, f, axis.count, axis.items) {
         return apl_summary::fold_rows(workers, f, &ItemRows { items: axis });
     }

@@ -1,52 +1,13 @@
 //! Kinds of elements, each with its ways to fold them.
-ghost use Rattle.std.specs.Prelude.{refl};
-ghost use Rattle.apl_array.specs.Array.{bit};
-
 use crate::folded_rows::{Doubts, fold_each, fold_number_rows};
 use crate::folding::fold_many;
 use crate::four::Four;
 use crate::run_folds::{fold_neighbours, has_quick_runs, quick_folds};
 use crate::truth_folds::{fold_truths, has_truth_runs};
+use crate::widened_folds::fold_widened;
 use apl_answer::ElementType;
 use apl_pool::Fault;
 use apl_scalar::function_types::Function;
-
-/// Elements that are numbers, however they are held.
-pub(crate) trait Numeric: ElementType {
-    ghost use Rattle.std.specs.Prelude.{◌≡◌, ℤ};
-    ghost use Rattle.apl_array.specs.declared.array.Elem.TheVariants.{Int};
-
-    // The number that an element is.
-    ghost number_in: { Self → ℤ };
-
-    /// The number that an element is.
-    fn number(self) -> i64
-        ensures { result ≡ number_in self };
-
-    ghost is_number: { (x : Self) → Self.elem_of x ≡ Int (number_in x) };
-}
-
-impl Numeric for i64 {
-    ghost number_in = { λ x. x };
-
-    ghost is_number = { λ x. refl };
-
-    #[inline(always)]
-    fn number(self) -> i64 {
-        self
-    }
-}
-
-impl Numeric for bool {
-    ghost number_in = { bit };
-
-    ghost is_number = { λ x. refl };
-
-    #[inline(always)]
-    fn number(self) -> i64 {
-        if self { 1 } else { 0 }
-    }
-}
 
 /// Elements of one kind, which are folded onto what those after them gave.
 pub(crate) trait Foldable: ElementType {
@@ -134,6 +95,35 @@ impl Foldable for i64 {
         totals: Four<i64>,
     ) -> Option<Four<i64>> {
         quick_folds::<F>(numbers, starts, pairs, totals)
+    }
+}
+
+/// Runs of neighbours are widened in a processor's first cache, and folded as numbers of 64 bits.
+impl Foldable for i32 {
+    #[inline(always)]
+    fn fold_onto<F: Function>(
+        elements: &[i32],
+        first: usize,
+        stride: usize,
+        count: usize,
+        total: i64,
+    ) -> Result<i64, Fault> {
+        if stride == 1 && has_quick_runs::<F>() {
+            return fold_widened::<F>(elements, first, count, total);
+        }
+        fold_many::<F, i32>(elements, first, stride, count, total)
+    }
+
+    #[inline(always)]
+    fn fold_pass<F: Function>(
+        elements: &[i32],
+        first: usize,
+        stride: usize,
+        count: usize,
+        doubts: Doubts,
+        totals: &mut [i64],
+    ) -> bool {
+        fold_number_rows::<F, i32>(elements, first, stride, count, doubts, totals)
     }
 }
 

@@ -9,10 +9,10 @@ ghost use Rattle.apl_reduce.specs.Folded.{folded_onto, element_along, AreFolds};
 ghost use Rattle.apl_reduce.specs.Items.{item_in};
 ghost use Rattle.apl_reduce.specs.RowFolds.{AreFoldedOnto};
 
-use crate::foldable::{Foldable, Numeric};
+use crate::foldable::Foldable;
 use crate::folding::{element_at, fold_items};
 use crate::near_rows::{MOST_ROWS, near_onto};
-use apl_answer::ElementType;
+use apl_answer::{ElementType, Numeric};
 use apl_array::ScalarFunction;
 use apl_pool::Fault;
 use apl_scalar::dyadic_elements;

@@ -5,8 +5,8 @@ ghost use Rattle.apl_reduce.specs.declared.near_rows.TheConstants.{MOST_ROWS};
 ghost use Rattle.apl_reduce.specs.Folded.{folded_onto, element_along};
 ghost use Rattle.apl_reduce.specs.RowFolds.{IsNearStep};
 
-use crate::foldable::Numeric;
 use crate::near_sums::{NEAR, NEAR_TOTAL, above_least, wrapped_difference, wrapped_sum};
+use apl_answer::Numeric;
 use apl_array::{ScalarFunction, range_is_decided};
 use apl_scalar::function_types::Function;
 

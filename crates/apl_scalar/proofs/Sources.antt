@@ -13,7 +13,6 @@ use Rattle.apl_answer.specs.declared.fault.OpFault.TheVariants.{Rank, Length}
 use Rattle.apl_array.specs.declared.function.ScalarFunction.{ScalarFunction}
 use Rattle.apl_answer.specs.Arguments.{is_same_shape, has_one_element}
 use Rattle.apl_scalar.specs.Extension.{extended_shape, source_index}
-use Rattle.apl_scalar.specs.Operands.{operand_at}
 use Rattle.apl_scalar.specs.Scalar.{dyadic_of, compare_elements}
 use Rattle.apl_scalar.specs.Dyadic.{dyadic_number}
 
@@ -74,9 +73,6 @@ right_extended a b shape is other =
     one_from_test (count_of b)
     (chosen_left (is_same_shape a b) (has_one_element a) (has_one_element b) (nat_lt (length a) (length b)) (length a == length b) a b shape is (same_from_test a b) (differ_from_test b shape other))
 
-pub count_of_items : {T : Type 0} (a : ArrayValue) (elem_of : T → Elem) (items : List T) → a.ravel ≡ map elem_of items → IsArray a → length items ≡ count_of a.shape
-count_of_items a elem_of items is lawful = sym (length-map items elem_of) ∙ sym (ap length is) ∙ lawful.len
-
 -- ---- the elements that serve at a place
 
 -- the first index list has place 0
@@ -87,42 +83,27 @@ place_of-zeros (n ∷ ns) = omega (arith, place_of-zeros ns)
 -- ---- by the law that a place is found again from its index list
 
 module _ (same_place : (shape : List ℕ) (place : ℕ) → place < count_of shape → place_of shape (index_at shape place) ≡ place) where
-  element_from_source : (a : ArrayValue) (shape : List ℕ) (place : ℕ) (whole : Bool) → place < count_of shape → is_same_shape a.shape shape ≡ whole
-      → element_in a (if whole then place else 0) ≡ element_at a (source_index a.shape shape (index_at shape place))
-  element_from_source a shape place true inside e =
+  -- the element of an argument that serves at a place: its own, or the first one
+  pub own_source : (a : ArrayValue) (shape : List ℕ) → is_same_shape a.shape shape ≡ true → (place : ℕ) → place < count_of shape
+      → element_in a place ≡ element_at a (source_index a.shape shape (index_at shape place))
+  own_source a shape e place inside =
       let same : a.shape ≡ shape = same_from_test a.shape shape e in
       let own : place_of a.shape (index_at shape place) ≡ place =
       ap (λ s. place_of s (index_at shape place)) same ∙ same_place shape place inside in
       rw e (ap (element_in a) (sym own))
-  element_from_source a shape place false inside e = rw e (ap (element_in a) (sym (place_of-zeros a.shape)))
 
-  -- the element of an argument that serves at a place
-  pub operand_from_source : (a : ArrayValue) (elements : List Elem) (shape : List ℕ) (whole : Bool) → a.ravel ≡ elements → is_same_shape a.shape shape ≡ whole
-      → (place : ℕ) → place < count_of shape → operand_at elements whole place ≡ element_at a (source_index a.shape shape (index_at shape place))
-  operand_from_source a elements shape whole is same place inside =
-      ap (λ es. operand_at es whole place) (sym is) ∙ element_from_source a shape place whole inside same
+  pub first_source : (a : ArrayValue) (shape : List ℕ) → is_same_shape a.shape shape ≡ false → (place : ℕ)
+      → element_in a 0 ≡ element_at a (source_index a.shape shape (index_at shape place))
+  first_source a shape e place = rw e (ap (element_in a) (sym (place_of-zeros a.shape)))
 
-  -- it is of the argument's kind
-  pub kind_of_source : (a : ArrayValue) (shape : List ℕ) → IsArray a → (is_same_shape a.shape shape ≡ false → count_of a.shape ≡ 1)
-      → (place : ℕ) → place < count_of shape → kind_of (element_at a (source_index a.shape shape (index_at shape place))) ≡ a.kind
-  kind_of_source a shape lawful one place inside =
-      ⊎_elim
-      (λ whole.
-      let counts : count_of a.shape ≡ count_of shape = ap count_of (same_from_test a.shape shape whole) in
-      ap kind_of (sym (element_from_source a shape place true inside whole)) ∙ lawful.kinds place (Int (pos 0)) (omega (arith, lawful.len, counts)))
-      (λ other. ap kind_of (sym (element_from_source a shape place false inside other)) ∙ lawful.kinds 0 (Int (pos 0)) (omega (arith, lawful.len, one other)))
-      (cases_Bool (is_same_shape a.shape shape))
+-- ---- a number and a character
 
-  -- a dyadic function of a number and a character
-  pub dyadic_mixed : (f : ScalarFunction) (a b : ArrayValue) (shape : List ℕ) → extended_shape a.shape b.shape ≡ Ok shape → IsArray a → IsArray b → (a.kind ≡ b.kind → ⊥)
-      → (place : ℕ) → place < count_of shape → compare_elements f false ≡ dyadic_number f a b shape (index_at shape place)
-  dyadic_mixed f a b shape extended left right differ place inside =
-      mixed (element_at a (source_index a.shape shape (index_at shape place))) (element_at b (source_index b.shape shape (index_at shape place)))
-      (kind_of_source a shape left (λ other. (left_extended a.shape b.shape shape extended other).0) place inside)
-      (kind_of_source b shape right (right_extended a.shape b.shape shape extended) place inside)
-    where
-      mixed : (x y : Elem) → kind_of x ≡ a.kind → kind_of y ≡ b.kind → compare_elements f false ≡ dyadic_of f x y
-      mixed (Int x) (Int y) first second = absurd (differ (sym first ∙ second))
-      mixed (Int x) (Chr d) first second = refl
-      mixed (Chr c) (Int y) first second = refl
-      mixed (Chr c) (Chr d) first second = absurd (differ (sym first ∙ second))
+-- an element is of its array's kind
+pub own_kind : (a : ArrayValue) → IsArray a → (place : ℕ) → place < count_of a.shape → kind_of (element_in a place) ≡ a.kind
+own_kind a lawful place inside = lawful.kinds place (Int (pos 0)) (omega (arith, lawful.len, inside))
+
+pub mixed : (f : ScalarFunction) (x y : Elem) → (kind_of x ≡ kind_of y → ⊥) → compare_elements f false ≡ dyadic_of f x y
+mixed f (Int x) (Int y) differ = absurd (differ refl)
+mixed f (Int x) (Chr d) differ = refl
+mixed f (Chr c) (Int y) differ = refl
+mixed f (Chr c) (Chr d) differ = absurd (differ refl)

@@ -2,8 +2,6 @@ pub mod Arithmetic
 pub mod Scalar
 pub mod Meeting
 pub mod Limits
-pub mod Operands
-pub mod Pairs
 pub mod Runs
 pub mod Extension
 pub mod Monadic

@@ -1,19 +1,23 @@
 //! The scalar functions of arrays.
-ghost use Rattle.std.specs.Prelude.{◌≡◌, Ok, IfSome, IsTrue, map};
+ghost use Rattle.std.specs.Prelude.{◌≡◌, true, false, Ok, IfSome, IsTrue, MatchOption, map};
 ghost use Rattle.apl_array.specs.declared.array.Elem.TheVariants.{Int};
-ghost use Rattle.apl_array.specs.Array.{truth_element};
+ghost use Rattle.apl_array.specs.declared.array.Kind.TheVariants.{Number};
+ghost use Rattle.apl_array.specs.Array.{IsArray, element_in, truth_element};
+ghost use Rattle.apl_array.specs.Shape.{count_of};
 ghost use Rattle.apl_array.specs.Valences.{has_monadic, has_dyadic};
+ghost use Rattle.apl_answer.specs.Arguments.{is_same_shape};
 ghost use Rattle.apl_scalar.specs.Extension.{extended_shape};
-ghost use Rattle.apl_answer.specs.Pointwise.{IsAnswerOf};
+ghost use Rattle.apl_scalar.specs.Scalar.{as_element, compare_elements, dyadic_of};
+ghost use Rattle.apl_answer.specs.Pointwise.{IsAnswerAt, IsAnswerOf};
 ghost use Rattle.apl_scalar.specs.Monadic.{monadic_answer};
 ghost use Rattle.apl_scalar.specs.Dyadic.{answer_over, dyadic_answer};
 
 use crate::elements::compare;
 use crate::extend::extended;
-use crate::operands::Pairs;
+use crate::operands::{Value, Whole};
 use crate::passes::{fill_elements, fill_pairs};
 use apl_answer::{ElementType, OpFault, constant_array};
-use apl_array::{Array, Elements, ScalarFunction, Shape, places_match_index_lists};
+use apl_array::{Array, Elem, Elements, ScalarFunction, Shape, places_match_index_lists};
 use apl_pool::{Crew, Cut, Fault, Gate, Pool, Workers};
 use std::alloc::Global;
 use std::thread::Threads;
@@ -49,6 +53,7 @@ fn fill_monadic<W: Crew>(
     places_match_index_lists();
     match right.elements() {
         Elements::Numbers(numbers) => fill_elements(workers, f, shape, numbers),
+        Elements::Narrow(numbers) => fill_elements(workers, f, shape, numbers),
         Elements::Truths(truths) => fill_elements(workers, f, shape, truths),
         Elements::Characters(_) => constant_array(workers, shape, Err(Fault::Domain)),
     }
@@ -76,34 +81,133 @@ pub fn dyadic<R: Threads + Sync, C: Cut + Sync, G: Gate + Sync>(
     fill_dyadic(&workers, f, shape, left, right)
 }
 
-/// One number that is 0 or 1, as a truth value.
-fn truth_of(numbers: &[i64]) -> Option<&[bool]>
-    ensures { IfSome result (λ truths. map Int numbers.now ≡ map truth_element truths.now) }
+/// The element of an argument that is extended to the shape of the result. One of that shape is not.
+fn extended_element(a: &Array, shape: &Shape) -> Option<Elem>
+    requires { is_same_shape a.now.shape shape.now ≡ false → count_of a.now.shape ≡ 1 }
+    ensures element { MatchOption result (is_same_shape a.now.shape shape.now ≡ true) (λ x. (is_same_shape a.now.shape shape.now ≡ false) × (x ≡ element_in a.now 0)) }
+    ensures lawful { IsArray a.now }
 {
-    match numbers {
-        [0] => Some(&[false]),
-        [1] => Some(&[true]),
+    if a.shape().lengths() == shape.lengths() {
+        None
+    } else {
+        Some(a.get(0))
+    }
+}
+
+/// The truth value that a number is, if it is 0 or 1.
+fn truth_of(number: i64) -> Option<bool>
+    ensures { IfSome result (λ truth. truth_element truth ≡ Int number) }
+{
+    match number {
+        0 => Some(false),
+        1 => Some(true),
         _ => None,
     }
 }
 
-/// The same function of the elements of two arrays, as they are held.
-fn fill_extended<T: ElementType + Sync, U: ElementType + Sync, W: Crew>(
+/// A number and a character at each place of a shape.
+fn fill_mixed<W: Crew>(workers: &W, f: ScalarFunction, shape: Shape) -> Result<Array, OpFault>
+    ensures { IsAnswerAt shape Number (λ place. as_element (compare_elements f false)) result }
+{
+    constant_array(workers, shape, compare(f, false))
+}
+
+/// A function of each element of an argument and of one that serves at all places. A number serves truth values as one of them, if it can.
+fn fill_with_right<W: Crew>(
+    workers: &W,
+    f: ScalarFunction,
+    shape: Shape,
+    left: &Array,
+    y: Elem,
+) -> Result<Array, OpFault>
+    requires { count_of shape ≡ count_of left.now.shape }
+    ensures { IsAnswerAt shape Number (λ place. as_element (dyadic_of f (element_in left.now place) y)) result }
+{
+    match (left.elements(), y) {
+        (Elements::Numbers(xs), Elem::Int(y)) => fill_pairs(workers, f, shape, Whole(xs), Value(y)),
+        (Elements::Narrow(xs), Elem::Int(y)) => fill_pairs(workers, f, shape, Whole(xs), Value(y)),
+        (Elements::Truths(xs), Elem::Int(y)) => match truth_of(y) {
+            Some(y) => fill_pairs(workers, f, shape, Whole(xs), Value(y)),
+            None => fill_pairs(workers, f, shape, Whole(xs), Value(y)),
+        },
+        (Elements::Characters(xs), Elem::Chr(y)) => {
+            fill_pairs(workers, f, shape, Whole(xs), Value(y))
+        }
+        _ => fill_mixed(workers, f, shape),
+    }
+}
+
+/// The same of one element that serves at all places, and of each of an argument.
+fn fill_with_left<W: Crew>(
+    workers: &W,
+    f: ScalarFunction,
+    shape: Shape,
+    x: Elem,
+    right: &Array,
+) -> Result<Array, OpFault>
+    requires { count_of shape ≡ count_of right.now.shape }
+    ensures { IsAnswerAt shape Number (λ place. as_element (dyadic_of f x (element_in right.now place))) result }
+{
+    match (x, right.elements()) {
+        (Elem::Int(x), Elements::Numbers(ys)) => fill_pairs(workers, f, shape, Value(x), Whole(ys)),
+        (Elem::Int(x), Elements::Narrow(ys)) => fill_pairs(workers, f, shape, Value(x), Whole(ys)),
+        (Elem::Int(x), Elements::Truths(ys)) => match truth_of(x) {
+            Some(x) => fill_pairs(workers, f, shape, Value(x), Whole(ys)),
+            None => fill_pairs(workers, f, shape, Value(x), Whole(ys)),
+        },
+        (Elem::Chr(x), Elements::Characters(ys)) => {
+            fill_pairs(workers, f, shape, Value(x), Whole(ys))
+        }
+        _ => fill_mixed(workers, f, shape),
+    }
+}
+
+/// A function of the elements of two arguments at each place, of which the left ones are numbers.
+fn fill_numbers<T: ElementType + Sync, W: Crew>(
     workers: &W,
     f: ScalarFunction,
     shape: Shape,
     left: &Array,
     xs: &[T],
     right: &Array,
-    ys: &[U],
 ) -> Result<Array, OpFault>
-    requires shape { extended_shape left.now.shape right.now.shape ≡ Ok shape }
-    requires left { left.now.ravel ≡ map T.elem_of xs.now }
-    requires right { right.now.ravel ≡ map U.elem_of ys.now }
-    ensures { IsAnswerOf (answer_over f left.now right.now (Ok shape)) result }
+    requires lawful { IsArray left.now }
+    requires kind { left.now.kind ≡ Number }
+    requires elements { left.now.ravel ≡ map T.elem_of xs.now }
+    requires left { count_of shape ≡ count_of left.now.shape }
+    requires right { count_of shape ≡ count_of right.now.shape }
+    ensures { IsAnswerAt shape Number (λ place. as_element (dyadic_of f (element_in left.now place) (element_in right.now place))) result }
 {
-    let pairs = Pairs::new(left, xs, right, ys, &shape);
-    fill_pairs(workers, f, shape, &pairs)
+    let xs = Whole(xs);
+    match right.elements() {
+        Elements::Numbers(ys) => fill_pairs(workers, f, shape, xs, Whole(ys)),
+        Elements::Narrow(ys) => fill_pairs(workers, f, shape, xs, Whole(ys)),
+        Elements::Truths(ys) => fill_pairs(workers, f, shape, xs, Whole(ys)),
+        Elements::Characters(_) => fill_mixed(workers, f, shape),
+    }
+}
+
+/// A function of the elements of two arguments at each place.
+fn fill_wholes<W: Crew>(
+    workers: &W,
+    f: ScalarFunction,
+    shape: Shape,
+    left: &Array,
+    right: &Array,
+) -> Result<Array, OpFault>
+    requires left { count_of shape ≡ count_of left.now.shape }
+    requires right { count_of shape ≡ count_of right.now.shape }
+    ensures { IsAnswerAt shape Number (λ place. as_element (dyadic_of f (element_in left.now place) (element_in right.now place))) result }
+{
+    match left.elements() {
+        Elements::Numbers(xs) => fill_numbers(workers, f, shape, left, xs, right),
+        Elements::Narrow(xs) => fill_numbers(workers, f, shape, left, xs, right),
+        Elements::Truths(xs) => fill_numbers(workers, f, shape, left, xs, right),
+        Elements::Characters(xs) => match right.elements() {
+            Elements::Characters(ys) => fill_pairs(workers, f, shape, Whole(xs), Whole(ys)),
+            _ => fill_mixed(workers, f, shape),
+        },
+    }
 }
 
 fn fill_dyadic<W: Crew>(
@@ -116,28 +220,13 @@ fn fill_dyadic<W: Crew>(
     requires { extended_shape left.now.shape right.now.shape ≡ Ok shape }
     ensures { IsAnswerOf (answer_over f left.now right.now (Ok shape)) result }
 {
-    match (left.elements(), right.elements()) {
-        (Elements::Numbers(xs), Elements::Numbers(ys)) => {
-            fill_extended(workers, f, shape, left, xs, right, ys)
-        }
-        (Elements::Numbers(xs), Elements::Truths(ys)) => match truth_of(xs) {
-            Some(x) => fill_extended(workers, f, shape, left, x, right, ys),
-            None => fill_extended(workers, f, shape, left, xs, right, ys),
-        },
-        (Elements::Truths(xs), Elements::Numbers(ys)) => match truth_of(ys) {
-            Some(y) => fill_extended(workers, f, shape, left, xs, right, y),
-            None => fill_extended(workers, f, shape, left, xs, right, ys),
-        },
-        (Elements::Truths(xs), Elements::Truths(ys)) => {
-            fill_extended(workers, f, shape, left, xs, right, ys)
-        }
-        (Elements::Characters(xs), Elements::Characters(ys)) => {
-            fill_extended(workers, f, shape, left, xs, right, ys)
-        }
-        // A number and a character.
-        _ => {
-            places_match_index_lists();
-            constant_array(workers, shape, compare(f, false))
-        }
+    places_match_index_lists();
+    match (
+        extended_element(left, &shape),
+        extended_element(right, &shape),
+    ) {
+        (None, None) => fill_wholes(workers, f, shape, left, right),
+        (None, Some(y)) => fill_with_right(workers, f, shape, left, y),
+        (Some(x), _) => fill_with_left(workers, f, shape, x, right),
     }
 }

@@ -1,13 +1,10 @@
 //! The arguments of a dyadic function in row order. An argument of one element that is extended is
 //! that element, and no list is read for it.
-ghost use Rattle.std.specs.Prelude.{◌≡◌, ℕ, ◌+◌, ◌*◌, ◌<◌, ◌≤◌, true, false, Ok, map, length};
+ghost use Rattle.std.specs.Prelude.{◌≡◌, ℕ, ◌+◌, ◌*◌, ◌<◌, length};
 ghost use Rattle.apl_pool.specs.declared.kernel.TheConstants.{MOST_PLACES};
-ghost use Rattle.apl_array.specs.Shape.{count_of};
-ghost use Rattle.apl_scalar.specs.Extension.{extended_shape};
-ghost use Rattle.apl_scalar.specs.Operands.{ServesFor};
 
 use apl_answer::ElementType;
-use apl_array::{Array, Elem, Shape, places_match_index_lists};
+use apl_array::Elem;
 use std::alloc::AllocError;
 
 /// An argument at each place.
@@ -19,6 +16,9 @@ pub(crate) trait Operand: Copy {
 
     // How many places it serves.
     ghost served: { Self → ℕ };
+
+    /// How many elements are read in the time of one number.
+    const PER_NUMBER: usize;
 
     fn at(&self, place: usize) -> Elem
         requires { place < served self.now }
@@ -37,6 +37,8 @@ impl<T: ElementType> Operand for Whole<'_, T> {
 
     ghost served = { λ k. length k.0.now };
 
+    const PER_NUMBER: usize = T::PER_NUMBER;
+
     #[inline(always)]
     fn at(&self, place: usize) -> Elem {
         self.0[place].elem()
@@ -51,6 +53,8 @@ impl<T: ElementType> Operand for Value<T> {
     ghost element = { λ k place. T.elem_of k.0 };
 
     ghost served = { λ k. MOST_PLACES };
+
+    const PER_NUMBER: usize = T::PER_NUMBER;
 
     #[inline(always)]
     fn at(&self, _place: usize) -> Elem {
@@ -102,52 +106,10 @@ impl<T: ElementType> Operand for Spaced<'_, T> {
 
     ghost served = { λ s. s.count };
 
+    const PER_NUMBER: usize = T::PER_NUMBER;
+
     #[inline(always)]
     fn at(&self, place: usize) -> Elem {
         self.elements[self.first + place * self.stride].elem()
-    }
-}
-
-/// Two arguments in row order. One that is whole has an element for each of `count`
-/// places; the other has one element, which serves at all of them.
-#[derive(Drop)]
-pub(crate) struct Pairs<'a, T, U> {
-    pub left: &'a [T],
-    pub right: &'a [U],
-    pub left_is_whole: bool,
-    pub right_is_whole: bool,
-    pub count: usize,
-    ghost most: { count ≤ MOST_PLACES },
-    ghost left_whole: { left_is_whole ≡ true → length left.now ≡ count },
-    ghost left_one: { left_is_whole ≡ false → length left.now ≡ 1 },
-    ghost right_whole: { right_is_whole ≡ true → length right.now ≡ count },
-    ghost right_one: { right_is_whole ≡ false → length right.now ≡ 1 },
-    ghost one_whole: { left_is_whole ≡ false → right_is_whole ≡ true },
-}
-
-impl<'a, T: ElementType, U: ElementType> Pairs<'a, T, U> {
-    /// The pairs of the elements of two arrays, which `shape` extends.
-    pub(crate) fn new(
-        left_array: &Array,
-        left: &'a [T],
-        right_array: &Array,
-        right: &'a [U],
-        shape: &Shape,
-    ) -> Pairs<'a, T, U>
-        requires shape { extended_shape left_array.now.shape right_array.now.shape ≡ Ok shape.now }
-        requires left { left_array.now.ravel ≡ map T.elem_of left.now }
-        requires right { right_array.now.ravel ≡ map U.elem_of right.now }
-        ensures count { result.count ≡ count_of shape.now }
-        ensures left { ServesFor (map T.elem_of result.left.now) result.left_is_whole left_array.now shape.now }
-        ensures right { ServesFor (map U.elem_of result.right.now) result.right_is_whole right_array.now shape.now }
-    {
-        places_match_index_lists();
-        Pairs {
-            left,
-            right,
-            left_is_whole: left_array.shape().lengths() == shape.lengths(),
-            right_is_whole: right_array.shape().lengths() == shape.lengths(),
-            count: shape.count(),
-        }
     }
 }

@@ -7,12 +7,11 @@ ghost use Rattle.apl_array.specs.Shape.{count_of};
 ghost use Rattle.apl_answer.specs.Elements.{element_outcome};
 ghost use Rattle.apl_answer.specs.Pointwise.{IsAnswerAt};
 ghost use Rattle.apl_scalar.specs.Scalar.{as_element, dyadic_of, is_truth_valued, monadic_of, truth_outcome};
-ghost use Rattle.apl_scalar.specs.Pairs.{pair_in};
 
 use crate::function_types::{has_monadic_runs, is_quick_of_two, is_truth_valued};
 use crate::kernels::{Argument, Arguments, ResultKernel, TwoArguments};
 use crate::laws::truth_values_are_results;
-use crate::operands::{Operand, Pairs, Value, Whole};
+use crate::operands::{Operand, Whole};
 use apl_answer::{ElementType, OpFault, fill_array};
 use apl_array::{Array, ScalarFunction, Shape};
 use apl_pool::Crew;
@@ -21,9 +20,9 @@ use std::marker::PhantomData;
 /// How many times as long as a sum a result takes that is no quick one.
 const SLOW: usize = 4;
 
-/// About how much work a function of `count` elements is, as `Kernel::work` has it.
-fn work_of<T: ElementType>(count: usize, is_quick: bool) -> usize {
-    let numbers = count / T::PER_NUMBER.max(1);
+/// About how much work a function of `count` elements is, as `Kernel::work` has it. So many of them are read in the time of one number.
+fn work_of(count: usize, per_number: usize, is_quick: bool) -> usize {
+    let numbers = count / per_number.max(1);
     if is_quick {
         numbers
     } else {
@@ -33,7 +32,7 @@ fn work_of<T: ElementType>(count: usize, is_quick: bool) -> usize {
 
 /// About how much work a function of so many pairs of elements is, as `Kernel::work` has it.
 pub fn work_of_pairs<T: ElementType>(f: ScalarFunction, pairs: usize) -> usize {
-    work_of::<T>(pairs, is_quick_of_two(f))
+    work_of(pairs, T::PER_NUMBER, is_quick_of_two(f))
 }
 
 /// The array of what a function gives at all places of a shape. The results of a truth-valued function are held as truth values.
@@ -88,44 +87,24 @@ pub(crate) fn fill_elements<T: ElementType + Sync, W: Crew>(
     ensures { IsAnswerAt shape Number (λ place. as_element (monadic_of f (slice_index_or (map T.elem_of elements.now) place (Int (pos 0))))) result }
 {
     truth_values_are_results();
-    let work = work_of::<T>(elements.len(), has_monadic_runs(f));
+    let work = work_of(elements.len(), T::PER_NUMBER, has_monadic_runs(f));
     fill_results(workers, f, shape, Argument(Whole(elements)), work)
 }
 
-fn fill_operands<A: Operand + Sync, B: Operand + Sync, W: Crew>(
+/// A dyadic function of each pair of elements. A pass is compiled for each way to hold either argument, and for one that serves at all places.
+pub(crate) fn fill_pairs<L: Operand + Sync, R: Operand + Sync, W: Crew>(
     workers: &W,
     f: ScalarFunction,
     shape: Shape,
-    left: A,
-    right: B,
-    work: usize,
+    left: L,
+    right: R,
 ) -> Result<Array, OpFault>
-    requires left { count_of shape ≤ A.served left }
-    requires right { count_of shape ≤ B.served right }
-    ensures { IsAnswerAt shape Number (λ place. as_element (dyadic_of f (A.element left place) (B.element right place))) result }
+    requires left { count_of shape ≤ L.served left }
+    requires right { count_of shape ≤ R.served right }
+    ensures { IsAnswerAt shape Number (λ place. as_element (dyadic_of f (L.element left place) (R.element right place))) result }
 {
     truth_values_are_results();
+    let count = shape.count();
+    let work = work_of(count, L::PER_NUMBER.min(R::PER_NUMBER), is_quick_of_two(f));
     fill_results(workers, f, shape, TwoArguments { left, right }, work)
-}
-
-/// A dyadic function of each pair of elements. A pass is compiled for each way to hold either argument, and for each way in which they may be
-/// extended.
-pub(crate) fn fill_pairs<T: ElementType + Sync, U: ElementType + Sync, W: Crew>(
-    workers: &W,
-    f: ScalarFunction,
-    shape: Shape,
-    pairs: &Pairs<T, U>,
-) -> Result<Array, OpFault>
-    requires { pairs.now.count ≡ count_of shape }
-    ensures { IsAnswerAt shape Number (λ place. as_element (pair_in f T.elem_of U.elem_of pairs.now place)) result }
-{
-    let (left, right) = (Whole(pairs.left), Whole(pairs.right));
-    let work = work_of_pairs::<T>(f, pairs.count).max(work_of_pairs::<U>(f, pairs.count));
-    if pairs.left_is_whole && pairs.right_is_whole {
-        fill_operands(workers, f, shape, left, right, work)
-    } else if pairs.left_is_whole {
-        fill_operands(workers, f, shape, left, Value(pairs.right[0]), work)
-    } else {
-        fill_operands(workers, f, shape, Value(pairs.left[0]), right, work)
-    }
 }

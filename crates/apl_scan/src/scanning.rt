@@ -42,6 +42,19 @@ fn scan_numbers<W: Crew>(
     array_from_fill(shape, fill_scans(workers, f, &lines))
 }
 
+/// The scan of the numbers that are made of what an array of numbers holds.
+fn scan_made<W: Crew>(workers: &W, f: ScalarFunction, b: &Array, k: usize) -> Result<Array, OpFault>
+    requires axis { k < length b.now.shape }
+    requires some { 0 < count_of b.now.shape }
+    requires kind { b.now.kind ≡ Number }
+    ensures { IsAnswerOf (answer_of b.now.shape (λ index. reduction f (items_up_to b.now k index)) Number) result }
+{
+    let Some(numbers) = numbers_of(workers, b)? else {
+        unreachable!()
+    };
+    scan_numbers(workers, f, b, numbers.as_slice(), k)
+}
+
 /// The scan of truth values along axis `k`, of two and more items. Along the last axis they are scanned as they are, if they can be. Else
 /// the numbers that they are are scanned.
 fn scan_truths<W: Crew>(
@@ -72,10 +85,7 @@ fn scan_truths<W: Crew>(
             None => {}
         }
     }
-    let Some(numbers) = numbers_of(workers, b)? else {
-        unreachable!()
-    };
-    scan_numbers(workers, f, b, numbers.as_slice(), k)
+    scan_made(workers, f, b, k)
 }
 
 /// The scan along axis `k`, of two and more items.
@@ -93,6 +103,7 @@ fn scan_items<W: Crew>(
     }
     match b.elements() {
         Elements::Numbers(numbers) => scan_numbers(workers, f, b, numbers, k),
+        Elements::Narrow(_) => scan_made(workers, f, b, k),
         Elements::Truths(truths) => scan_truths(workers, f, b, truths, k),
         Elements::Characters(_) => constant_array(
             workers,

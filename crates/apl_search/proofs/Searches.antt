@@ -7,7 +7,7 @@ use Rattle.std.proofs.lemmas.List.Sums.{position_or_len_is}
 use Rattle.apl_array.specs.declared.array.Elem.{Elem}
 use Rattle.apl_array.specs.declared.array.Elem.TheVariants.{Int, Chr}
 use Rattle.apl_array.specs.declared.array.Elements.{Elements}
-use Rattle.apl_array.specs.declared.array.Elements.TheVariants.{Numbers, Truths, Characters}
+use Rattle.apl_array.specs.declared.array.Elements.TheVariants.{Numbers, Narrow, Truths, Characters}
 use Rattle.apl_array.specs.declared.array.Kind.TheVariants.{Number, Character}
 use Rattle.apl_array.specs.declared.axis.Origin.{Origin}
 use Rattle.apl_array.specs.Array.{ArrayValue, IsArray, bit, element_in, kind_of}
@@ -55,6 +55,7 @@ number_or_character e = cc
 -- an array that does not lend characters is of no characters
 pub not_of_characters : (a : ArrayValue) (elements : Elements) → AreElementsOf a elements → ((cs : _) → elements ≡ Characters cs → ⊥) → a.kind ≡ Character → ⊥
 not_of_characters a (Numbers ns) are not_lent kind = number_or_character (sym (ap (λ v. v.kind) are) ∙ kind)
+not_of_characters a (Narrow ns) are not_lent kind = number_or_character (sym (ap (λ v. v.kind) are) ∙ kind)
 not_of_characters a (Truths ts) are not_lent kind = number_or_character (sym (ap (λ v. v.kind) are) ∙ kind)
 not_of_characters a (Characters cs) are not_lent kind = not_lent cs refl
 

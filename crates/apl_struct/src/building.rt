@@ -15,7 +15,7 @@ ghost use Rattle.apl_array.specs.declared.array.Elem.{Elem};
 use crate::arguments::numbers_among;
 use apl_answer::{ElementType, OpFault, array_of_elements, fill_array};
 use apl_array::{
-    Array, Elements, MOST_AXES, MOST_ELEMENTS, Origin, Shape, places_match_index_lists,
+    Array, MOST_AXES, MOST_ELEMENTS, Origin, Shape, places_match_index_lists, with_elements,
 };
 use apl_pool::{Crew, Cut, Fault, Gate, Kernel, Pool, Workers};
 use apl_walk::{ByLines, Cyclic};
@@ -113,11 +113,7 @@ fn repeat_elements<T: ElementType + Send + Sync, W: Crew>(
 pub(crate) fn repeat<W: Crew>(workers: &W, shape: Shape, b: &Array) -> Result<Array, OpFault>
     ensures { IsArrayAt shape b.now.kind (λ place. filled_at b.now (Some (reshape_source (size_of b.now) place))) result }
 {
-    match b.elements() {
-        Elements::Numbers(numbers) => repeat_elements(workers, shape, b, numbers),
-        Elements::Truths(truths) => repeat_elements(workers, shape, b, truths),
-        Elements::Characters(characters) => repeat_elements(workers, shape, b, characters),
-    }
+    with_elements!(b.elements(), elements => repeat_elements(workers, shape, b, elements))
 }
 
 /// Whether all numbers are 0 and above.
@@ -183,7 +179,7 @@ struct Consecutive {
 impl Kernel for Consecutive {
     ghost use Rattle.std.specs.Prelude.{Ok, pos, ◌+◌};
 
-    type Out = i64;
+    type Out = i32;
 
     ghost place_count = { λ k. k.count };
 
@@ -199,14 +195,14 @@ impl Kernel for Consecutive {
     }
 
     #[inline(always)]
-    fn at(&self, place: usize) -> Result<i64, Fault> {
-        Ok((self.first + place) as i64)
+    fn at(&self, place: usize) -> Result<i32, Fault> {
+        Ok((self.first + place) as i32)
     }
 
     #[inline(always)]
-    fn write_run(&self, from: usize, to: usize, room: &mut [i64]) -> usize {
+    fn write_run(&self, from: usize, to: usize, room: &mut [i32]) -> usize {
         for k in 0..to - from {
-            room[k] = (self.first + (from + k)) as i64;
+            room[k] = (self.first + (from + k)) as i32;
         }
         to
     }

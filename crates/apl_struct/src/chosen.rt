@@ -12,9 +12,10 @@ ghost use Rattle.apl_struct.specs.Indexing.{select_row};
 
 use crate::arguments::{TURN, numbers_among};
 use crate::building::lawful_shape;
-use apl_answer::{ElementType, OpFault, fill_array};
-use apl_array::{Array, Elements, Origin, Shape};
+use apl_answer::{ElementType, Numeric, OpFault, fill_array};
+use apl_array::{Array, Elements, Origin, Shape, with_elements};
 use apl_pool::{Crew, Fault, Kernel};
+use std::alloc::AllocError;
 
 /// How far a number is above that of the first index, modulo 2^64. So a number below the first is farther than each index.
 #[inline(always)]
@@ -28,23 +29,30 @@ fn above_first(number: i64, first: usize) -> u64
 
 /// The numbers of a slot, which are indexes counted from that of the first. They are passed by value, so that a loop that writes reads no
 /// pointer anew.
-#[derive(Clone, Copy)]
-struct Indexes<'a> {
-    numbers: &'a [i64],
+struct Indexes<'a, N> {
+    numbers: &'a [N],
     /// The number of the first index.
     first: usize,
     ghost low: { first ≤ 1 },
 }
 
-impl Indexes<'_> {
+impl<N> Clone for Indexes<'_, N> {
+    fn clone(&self) -> Result<Self, AllocError> {
+        Ok(*self)
+    }
+}
+
+impl<N> Copy for Indexes<'_, N> {}
+
+impl<N: Numeric> Indexes<'_, N> {
     /// The element at the index that a place has, or the fault of a number that is no index.
     #[inline(always)]
     fn element<T: Copy>(self, elements: &[T], place: usize) -> Result<T, Fault>
         requires place { place < length self.numbers.now }
         requires most { length elements.now ≤ MOST_PLACES }
-        ensures { result ≡ chosen_at elements.now self.entry.numbers.now self.entry.first place }
+        ensures { result ≡ chosen_at elements.now (map N.number_in self.entry.numbers.now) self.entry.first place }
     {
-        let index = above_first(self.numbers[place], self.first);
+        let index = above_first(self.numbers[place].number(), self.first);
         if index < elements.len() as u64 {
             Ok(elements[index as usize])
         } else {
@@ -67,10 +75,10 @@ impl Indexes<'_> {
         requires few { length self.numbers.now ≤ MOST_PLACES }
         requires most { length elements.now ≤ MOST_PLACES }
         requires room { done + count ≤ length room.old }
-        requires before { AreWritten (chosen_at elements.now self.numbers.now self.first) from (from + done) room.old }
+        requires before { AreWritten (chosen_at elements.now (map N.number_in self.numbers.now) self.first) from (from + done) room.old }
         ensures order { from ≤ result }
         ensures within { result ≤ from + done + count }
-        ensures values { AreWritten (chosen_at elements.now self.entry.numbers.now self.entry.first) from result room.new }
+        ensures values { AreWritten (chosen_at elements.now (map N.number_in self.entry.numbers.now) self.entry.first) from result room.new }
         ensures len { length room.new ≡ length room.old }
     {
         for offset in 0..count {
@@ -99,7 +107,7 @@ impl Indexes<'_> {
         requires room { count ≤ length room.old }
         ensures order { from ≤ result }
         ensures within { result ≤ from + count }
-        ensures values { AreWritten (chosen_at elements.now self.entry.numbers.now self.entry.first) from result room.new }
+        ensures values { AreWritten (chosen_at elements.now (map N.number_in self.entry.numbers.now) self.entry.first) from result room.new }
         ensures len { length room.new ≡ length room.old }
     {
         for turn in 0..count / TURN {
@@ -115,22 +123,22 @@ impl Indexes<'_> {
 
 /// The elements of a vector at indexes, and the fault at each number that is no index.
 #[derive(Drop)]
-struct ElementsAt<'a, T> {
+struct ElementsAt<'a, T, N> {
     elements: &'a [T],
-    indexes: Indexes<'a>,
+    indexes: Indexes<'a, N>,
     ghost most: { length elements.now ≤ MOST_PLACES },
     ghost few: { length indexes.numbers.now ≤ MOST_PLACES },
 }
 
-impl<T: ElementType> Kernel for ElementsAt<'_, T> {
-    ghost use Rattle.std.specs.Prelude.{length};
+impl<T: ElementType, N: Numeric> Kernel for ElementsAt<'_, T, N> {
+    ghost use Rattle.std.specs.Prelude.{length, map};
     ghost use Rattle.apl_struct.specs.Chosen.{chosen_at};
 
     type Out = T;
 
     ghost place_count = { λ k. length k.indexes.numbers.now };
 
-    ghost outcome = { λ k. chosen_at k.elements.now k.indexes.numbers.now k.indexes.first };
+    ghost outcome = { λ k. chosen_at k.elements.now (map N.number_in k.indexes.numbers.now) k.indexes.first };
 
     fn count(&self) -> usize {
         self.indexes.numbers.len()
@@ -149,18 +157,18 @@ impl<T: ElementType> Kernel for ElementsAt<'_, T> {
 }
 
 /// The array of this shape with a vector's elements at the indexes that numbers are, less the origin.
-fn gather_chosen<'a, T: ElementType + Send + Sync, W: Crew>(
+fn gather_chosen<'a, T: ElementType + Send + Sync, N: Numeric + Sync, W: Crew>(
     workers: &W,
     shape: Shape,
     a: &Array,
     elements: &'a [T],
-    numbers: &'a [i64],
+    numbers: &'a [N],
     origin: Origin,
 ) -> Result<Array, OpFault>
     requires kind { a.now.kind ≡ T.kind }
     requires ravel { a.now.ravel ≡ map T.elem_of elements.now }
     requires count { length numbers.now ≡ count_of shape }
-    ensures { IsAnswerAt shape a.now.kind (chosen_at a.now.ravel numbers.now (origin_number origin)) result }
+    ensures { IsAnswerAt shape a.now.kind (chosen_at a.now.ravel (map N.number_in numbers.now) (origin_number origin)) result }
 {
     // An array or a shape that was asked something is known to be lawful.
     let _sizes = (a.shape().count(), shape.count());
@@ -171,25 +179,17 @@ fn gather_chosen<'a, T: ElementType + Send + Sync, W: Crew>(
 }
 
 /// The same, whatever the elements are.
-fn chosen_elements<W: Crew>(
+fn chosen_elements<N: Numeric + Sync, W: Crew>(
     workers: &W,
     shape: Shape,
     a: &Array,
-    numbers: &[i64],
+    numbers: &[N],
     origin: Origin,
 ) -> Result<Array, OpFault>
     requires { length numbers.now ≡ count_of shape }
-    ensures { IsAnswerAt shape a.now.kind (chosen_at a.now.ravel numbers.now (origin_number origin)) result }
+    ensures { IsAnswerAt shape a.now.kind (chosen_at a.now.ravel (map N.number_in numbers.now) (origin_number origin)) result }
 {
-    match a.elements() {
-        Elements::Numbers(elements) => {
-            gather_chosen(workers, shape, a, elements, numbers, origin)
-        }
-        Elements::Truths(elements) => gather_chosen(workers, shape, a, elements, numbers, origin),
-        Elements::Characters(elements) => {
-            gather_chosen(workers, shape, a, elements, numbers, origin)
-        }
-    }
+    with_elements!(a.elements(), elements => gather_chosen(workers, shape, a, elements, numbers, origin))
 }
 
 /// The elements that a slot that is not empty chooses of a vector. It is of numbers (`Domain`), each of them an index (`Index`).
@@ -204,7 +204,10 @@ pub(crate) fn select_of_vector<W: Crew>(
 {
     // An array that was asked something is known to be lawful.
     let _kind = a.kind();
-    let numbers = numbers_among(workers, slot)?;
     let shape = lawful_shape(workers.alloc(), slot.shape().lengths())?;
+    if let Elements::Narrow(numbers) = slot.elements() {
+        return chosen_elements(workers, shape, a, numbers, origin);
+    }
+    let numbers = numbers_among(workers, slot)?;
     chosen_elements(workers, shape, a, numbers.as_slice(), origin)
 }

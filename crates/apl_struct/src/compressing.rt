@@ -149,14 +149,13 @@ fn replicate_each<W: Crew>(workers: &W, a: &Array, b: &Array, k: usize) -> Resul
     requires length { size_of a.now ≡ slice_index (as_vector (size_of a.now) b.now).shape k }
     ensures { IsAnswerOf (if is_numbers a.now && list_all is_natural (numbers_of a.now) then replicated (as_vector (size_of a.now) b.now) k (map place_number (numbers_of a.now)) else Err OpFault.Domain) result }
 {
-    match a.elements() {
-        Elements::Truths(truths) => keep_ones(workers, b, k, truths),
-        Elements::Numbers(numbers) => match truths_of(workers.alloc(), numbers)? {
-            Some(truths) => keep_ones(workers, b, k, truths.as_slice()),
-            None => replicate_listed(workers, b, k, numbers),
-        },
-        Elements::Characters([]) => keep_ones(workers, b, k, &[]),
-        Elements::Characters(_) => Err(OpFault::Domain),
+    if let Elements::Truths(truths) = a.elements() {
+        return keep_ones(workers, b, k, truths);
+    }
+    let numbers = numbers_among(workers, a)?;
+    match truths_of(workers.alloc(), numbers.as_slice())? {
+        Some(truths) => keep_ones(workers, b, k, truths.as_slice()),
+        None => replicate_listed(workers, b, k, numbers.as_slice()),
     }
 }
 
@@ -265,13 +264,12 @@ pub fn expand<R: Threads + Sync, C: Cut + Sync, G: Gate + Sync>(
     if a.shape().rank() > 1 {
         return Err(OpFault::Rank);
     }
-    match a.elements() {
-        Elements::Truths(truths) => expand_by(&workers, truths, b, k),
-        Elements::Numbers(numbers) => match truths_of(alloc, numbers)? {
-            Some(truths) => expand_by(&workers, truths.as_slice(), b, k),
-            None => Err(OpFault::Domain),
-        },
-        Elements::Characters([]) => expand_by(&workers, &[], b, k),
-        Elements::Characters(_) => Err(OpFault::Domain),
+    if let Elements::Truths(truths) = a.elements() {
+        return expand_by(&workers, truths, b, k);
+    }
+    let numbers = numbers_among(&workers, a)?;
+    match truths_of(alloc, numbers.as_slice())? {
+        Some(truths) => expand_by(&workers, truths.as_slice(), b, k),
+        None => Err(OpFault::Domain),
     }
 }

@@ -161,7 +161,7 @@ fn join_elements<T: ElementType + Send + Sync, W: Crew>(
     fill_array(workers, shape, &kernel)
 }
 
-/// The same of numbers. Those of both arguments that are held as truth values stay so.
+/// The same of numbers. Those of both arguments that are held in 32 bits, or as truth values, stay so.
 fn join_numbers<W: Crew>(
     workers: &W,
     shape: Shape,
@@ -175,6 +175,9 @@ fn join_numbers<W: Crew>(
     ensures { IsArrayAt shape (joined_kind a.now b.now) (joined_at a.now b.now seam.left seam.right) result }
 {
     match (a.elements(), b.elements()) {
+        (Elements::Narrow(left), Elements::Narrow(right)) => {
+            join_elements(workers, shape, a, b, left, right, seam)
+        }
         (Elements::Truths(left), Elements::Truths(right)) => {
             join_elements(workers, shape, a, b, left, right, seam)
         }

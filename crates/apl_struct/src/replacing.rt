@@ -186,6 +186,9 @@ fn written_alike(
         (Ravel::Numbers(list), Elements::Numbers(values)) => {
             Ok(written(shape, list, values, choices))
         }
+        (Ravel::Narrow(list), Elements::Narrow(values)) => {
+            Ok(written(shape, list, values, choices))
+        }
         (Ravel::Truths(list), Elements::Truths(values)) => {
             Ok(written(shape, list, values, choices))
         }
@@ -193,6 +196,7 @@ fn written_alike(
             Ok(written(shape, list, values, choices))
         }
         (Ravel::Numbers(list), _) => Err(Array::ints(shape, list)),
+        (Ravel::Narrow(list), _) => Err(Array::narrow(shape, list)),
         (Ravel::Truths(list), _) => Err(Array::truths(shape, list)),
         (Ravel::Characters(list), _) => Err(Array::chars(shape, list)),
     }
@@ -237,8 +241,8 @@ fn hollow(alloc: Global) -> Result<Array, AllocError>
     Ok(Array::ints(shape, Vec::new(alloc)))
 }
 
-/// Writes values into the list of an array, each at the place that is chosen for it. Truth values alone are no list for other numbers:
-/// then the array gets a list of numbers. After an error it is as it was.
+/// Writes values into the list of an array, each at the place that is chosen for it. A list that holds numbers in less room is none for other
+/// numbers: then the array gets one of 64 bits. After an error it is as it was.
 fn write_values<W: Crew>(
     workers: &W,
     a: &mut Array,
@@ -266,7 +270,7 @@ fn write_values<W: Crew>(
     Ok(())
 }
 
-/// The same of the values of an array. Truth values become numbers where the list is of numbers.
+/// The same of the values of an array. Those that are held in less room become numbers of 64 bits where the list is of these.
 fn write_chosen<W: Crew>(
     workers: &W,
     a: &mut Array,
@@ -280,7 +284,7 @@ fn write_chosen<W: Crew>(
     ensures unchanged { OnErr result (a.new ≡ a.old) }
 {
     match (a.elements(), b.elements()) {
-        (Elements::Numbers(_), Elements::Truths(_)) => {
+        (Elements::Numbers(_), Elements::Narrow(_) | Elements::Truths(_)) => {
             let numbers = numbers_among(workers, b)?;
             let values = Elements::Numbers(numbers.as_slice());
             write_values(workers, a, b, values, choices)

@@ -15,8 +15,8 @@ use crate::arguments::{is_without_axis, numbers_among};
 use crate::building::empty;
 use apl_answer::{ElementType, OpFault, array_copy, fill_array};
 use apl_array::{
-    Array, Axis, Elements, Shape, inserted_index_has_place, places_match_index_lists,
-    replaced_index_has_place, shape_is_decided, split_index_has_place,
+    Array, Axis, Shape, inserted_index_has_place, places_match_index_lists,
+    replaced_index_has_place, shape_is_decided, split_index_has_place, with_elements,
 };
 use apl_divisor::Divisor;
 use apl_pool::{Crew, Cut, Gate, Pool, Workers};
@@ -121,11 +121,7 @@ fn rotate_lines<W: Crew>(
     requires most { inner ≤ MOST_PLACES }
     ensures { IsArrayAt shape b.now.kind (λ place. filled_at b.now (Some (turned_place rotations.entry.length inner rotations.entry.by.now place))) result }
 {
-    match b.elements() {
-        Elements::Numbers(all) => rotate_elements(workers, shape, b, all, rotations, inner),
-        Elements::Truths(all) => rotate_elements(workers, shape, b, all, rotations, inner),
-        Elements::Characters(all) => rotate_elements(workers, shape, b, all, rotations, inner),
-    }
+    with_elements!(b.elements(), elements => rotate_elements(workers, shape, b, elements, rotations, inner))
 }
 
 /// Each line along axis `k` rotated by a number of its own.

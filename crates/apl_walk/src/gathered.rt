@@ -19,7 +19,7 @@ use crate::maps::{MOST_MAPS, Map, start_at, with_kind};
 use crate::starts::{Start, first_extent};
 use crate::walk::Walk;
 use apl_answer::{ElementType, OpFault, fill_array};
-use apl_array::{Array, Elements, Shape};
+use apl_array::{Array, Shape, with_elements};
 use apl_pool::{Crew, write_each};
 
 /// How many indexes of a line are written before those of the next one, where neighbours in it are read far apart and those below them nearby.
@@ -184,9 +184,5 @@ pub fn gather<W: Crew>(workers: &W, shape: Shape, b: &Array, walk: Walk) -> Resu
     let [last, outer @ ..] = maps.as_slice() else {
         unreachable!()
     };
-    match b.elements() {
-        Elements::Numbers(numbers) => gather_maps(workers, shape, b, numbers, outer, last),
-        Elements::Truths(truths) => gather_maps(workers, shape, b, truths, outer, last),
-        Elements::Characters(characters) => gather_maps(workers, shape, b, characters, outer, last),
-    }
+    with_elements!(b.elements(), elements => gather_maps(workers, shape, b, elements, outer, last))
 }

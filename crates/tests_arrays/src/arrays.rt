@@ -127,6 +127,24 @@ fn numbers_in_row_order(rt: HostRuntime) -> Result<(), Fail> {
     Ok(())
 }
 
+/// Numbers of 32 bits, the ends of their range among them.
+#[test]
+fn narrow_numbers_in_row_order(rt: HostRuntime) -> Result<(), Fail> {
+    let alloc = rt.alloc();
+    let shape = Shape::new(alloc, &[2, 3])?;
+    assert!(rt; shape.count() == 6);
+    let numbers = vec![in alloc; 1, 2, 3, 4, i32::MIN, i32::MAX]?;
+    let table = Array::narrow(shape, numbers).copy(alloc)?;
+    assert!(rt; table.shape().lengths() == [2, 3].as_slice() && table.kind() == Kind::Number);
+    assert!(rt; table.get(4) == Elem::Int(-2147483648) && table.get(5) == Elem::Int(2147483647));
+    assert!(rt; held_numbers(&table).is_none() && held_truths(&table).is_none());
+    let Ravel::Narrow(numbers) = table.into_ravel() else {
+        return Err(Fail::new("no numbers of 32 bits"));
+    };
+    assert!(rt; numbers.last() == Some(&i32::MAX));
+    Ok(())
+}
+
 /// A truth value is the number 0 or 1.
 #[test]
 fn truth_values_in_row_order(rt: HostRuntime) -> Result<(), Fail> {

@@ -103,7 +103,7 @@ pub(crate) fn array_of(alloc: Global, text: &str) -> Option<Array> {
 pub(crate) fn held_numbers(array: &Array) -> Option<&[i64]> {
     match array.elements() {
         Elements::Numbers(numbers) => Some(numbers),
-        Elements::Truths(_) | Elements::Characters(_) => None,
+        Elements::Narrow(_) | Elements::Truths(_) | Elements::Characters(_) => None,
     }
 }
 
@@ -111,7 +111,7 @@ pub(crate) fn held_numbers(array: &Array) -> Option<&[i64]> {
 pub(crate) fn held_truths(array: &Array) -> Option<&[bool]> {
     match array.elements() {
         Elements::Truths(truths) => Some(truths),
-        Elements::Numbers(_) | Elements::Characters(_) => None,
+        Elements::Numbers(_) | Elements::Narrow(_) | Elements::Characters(_) => None,
     }
 }
 
@@ -119,7 +119,7 @@ pub(crate) fn held_truths(array: &Array) -> Option<&[bool]> {
 pub(crate) fn held_characters(array: &Array) -> Option<&[char]> {
     match array.elements() {
         Elements::Characters(characters) => Some(characters),
-        Elements::Numbers(_) | Elements::Truths(_) => None,
+        Elements::Numbers(_) | Elements::Narrow(_) | Elements::Truths(_) => None,
     }
 }
 

@@ -17,6 +17,7 @@ fn describe_constant(text: &mut String, constant: &Constant) -> Result<(), Alloc
                 write!(text, " {number}")?;
             }
         }
+        Elements::Narrow(_) => text.push_str(" numbers of 32 bits")?,
         Elements::Truths(_) => text.push_str(" truth values")?,
         Elements::Characters(characters) => {
             text.push_str(" ")?;

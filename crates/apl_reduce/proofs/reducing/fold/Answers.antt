@@ -9,7 +9,7 @@ use Rattle.apl_reduce.specs.Folded.{fold_at}
 use Rattle.apl_reduce.specs.Reducing.{items_along}
 use Rattle.apl_reduce.proofs.Reductions.{outcomes_along}
 use Rattle.apl_reduce.proofs.reducing.fold.Goals as goal
-use Rattle.apl_reduce.proofs.reducing.fold.Goals.{in-Numbers, in-Truths, in-Characters}
+use Rattle.apl_reduce.proofs.reducing.fold.Goals.{in-Numbers, in-Narrow, in-Truths, in-Characters}
 
 pub returns : goal.returns
 returns g c =
@@ -25,6 +25,16 @@ returns g c =
           let at_place = fold_at c.args.f (map Int axis.result.elements.now) axis.result.items axis.result.block axis.result.inner in
           let values = subst (λ n. IfOk w.fill_number_folds-filled.result (λ v. AreValues at_place n v.items)) axis.ensures.count w.fill_number_folds-filled.ensures.values in
           let stop = subst (λ n. IfErr w.fill_number_folds-filled.result (IsStopOf at_place n)) axis.ensures.count w.fill_number_folds-filled.ensures.stop in
+          c.array_from_fill.ensures at_place (λ index. reduction c.args.f (items_along b k index))
+          (outcomes (map Int axis.result.elements.now) axis.result.items axis.result.block axis.result.inner (ravel ∙ ap (map Int) (sym axis.ensures.elements)) axis.ensures.items axis.ensures.block axis.ensures.inner c.requires.two c.requires.shape)
+          (subst (λ r. IfOk r (λ v. AreValues at_place (count_of shape) v.items)) (sym w.filled-is) values)
+          (subst (λ r. IfErr r (IsStopOf at_place (count_of shape))) (sym w.filled-is) stop)
+      | in-Narrow w ↦
+          let ravel : b.ravel ≡ map Int w.in-Narrow.numbers.now = ap (λ (a : ArrayValue). a.ravel) w.in-Narrow.ensures.elements in
+          let axis = w.new-axis-in-Narrow in
+          let at_place = fold_at c.args.f (map Int axis.result.elements.now) axis.result.items axis.result.block axis.result.inner in
+          let values = subst (λ n. IfOk w.fill_narrow_folds-filled.result (λ v. AreValues at_place n v.items)) axis.ensures.count w.fill_narrow_folds-filled.ensures.values in
+          let stop = subst (λ n. IfErr w.fill_narrow_folds-filled.result (IsStopOf at_place n)) axis.ensures.count w.fill_narrow_folds-filled.ensures.stop in
           c.array_from_fill.ensures at_place (λ index. reduction c.args.f (items_along b k index))
           (outcomes (map Int axis.result.elements.now) axis.result.items axis.result.block axis.result.inner (ravel ∙ ap (map Int) (sym axis.ensures.elements)) axis.ensures.items axis.ensures.block axis.ensures.inner c.requires.two c.requires.shape)
           (subst (λ r. IfOk r (λ v. AreValues at_place (count_of shape) v.items)) (sym w.filled-is) values)

@@ -12,3 +12,8 @@ pub returns-in-Truths : goal.returns-in-Truths
 returns-in-Truths g c =
     let number : c.args.b.now.kind ≡ Number = ap (λ (a : ArrayValue). a.kind) c.in-Truths.ensures.elements in
     rw number c.scan_truths.ensures
+
+pub returns-in-Narrow : goal.returns-in-Narrow
+returns-in-Narrow g c =
+    let number : c.args.b.now.kind ≡ Number = ap (λ (a : ArrayValue). a.kind) c.in-Narrow.ensures.elements in
+    rw number c.scan_made.ensures

@@ -1,4 +1,4 @@
-use Rattle.std.proofs.Common.{ℕ, ℤ, ◌-ℤ◌, pos, slice_index_or, to_z, of_z, w64, sym, ap, ◌∙◌}
+use Rattle.std.proofs.Common.{ℕ, ℤ, ◌-ℤ◌, pos, map, slice_index_or, to_z, of_z, w64, sym, ap, ◌∙◌}
 use Rattle.std.specs.Prelude.{unsigned_abs}
 use Rattle.apl_struct.specs.Chosen.{chosen_value}
 use Rattle.apl_struct.proofs.OneSlot.{chosen_element}
@@ -8,7 +8,7 @@ use Rattle.apl_struct.proofs.chosen.gather_chosen.Goals as goal
 pub returns : goal.returns
 returns g c = λ outcome same.
     let elements = c.args.elements.now in
-    let number : ℕ → ℤ = λ place. slice_index_or c.args.numbers.now place (pos 0) in
+    let number : ℕ → ℤ = λ place. slice_index_or (map g.N.Numeric.number_in c.args.numbers.now) place (pos 0) in
     let first = unsigned_abs (to_z w64 (of_z w64 c.number-first.result)) in
     rw c.requires.kind
     (c.fill_array.ensures outcome

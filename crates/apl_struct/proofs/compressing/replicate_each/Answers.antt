@@ -1,9 +1,9 @@
 use Rattle.std.proofs.Common.{◌≡◌, true, length, map, ap, ◌∙◌, sym}
 use Rattle.std.proofs.lemmas.List.{length-map}
 use Rattle.std.proofs.lemmas.Simd.{map-map}
-use Rattle.apl_array.specs.Array.{bit, number_array, truth_array, truth_element}
+use Rattle.apl_array.specs.Array.{bit, truth_array, truth_element}
 use Rattle.apl_answer.specs.Arguments.{is_numbers, number_of, numbers_of, size_of}
-use Rattle.apl_struct.proofs.Counts.{numbers_kept, truths_natural}
+use Rattle.apl_struct.proofs.Counts.{truths_natural}
 use Rattle.apl_struct.proofs.compressing.replicate_each.Goals as goal
 
 pub returns-in-Truths : goal.returns-in-Truths
@@ -19,21 +19,18 @@ returns-in-Truths g c =
 pub returns-in-Some : goal.returns-in-Some
 returns-in-Some g c =
     let a = c.args.a.now in
-    let numbers = c.in-Numbers.numbers.now in
-    let truths = c.as_slice.result.now in
-    let array : a ≡ number_array a.shape numbers = c.in-Numbers.ensures.elements in
-    let made = rw c.in-Some.is at c.in_ok-truths-in-Numbers.ensures in
-    let own : numbers_of a ≡ map bit truths = ap numbers_of array ∙ numbers_kept numbers ∙ sym made ∙ ap (map bit) (sym c.as_slice.ensures.value) in
-    let all : is_numbers a ≡ true = ap is_numbers array in
-    let many : length truths ≡ size_of a = sym (length-map truths bit) ∙ sym (ap length own) ∙ length-map a.ravel number_of ∙ c.in-Numbers.ensures.lawful.len in
-    rw (all, own, truths_natural truths) (rw many at c.keep_ones-in-Some.ensures)
+    let truths = c.as_slice-in-Some.result.now in
+    let numbers = c.in_ok-numbers.ensures.numbers in
+    let made = rw c.in-Some.is at c.in_ok-truths.ensures in
+    let own : numbers_of a ≡ map bit truths = numbers.1 ∙ sym c.as_slice.ensures ∙ sym made ∙ ap (map bit) (sym c.as_slice-in-Some.ensures.value) in
+    let many : length truths ≡ size_of a = sym (length-map truths bit) ∙ sym (ap length own) ∙ length-map a.ravel number_of ∙ c.in_ok-numbers.ensures.lawful.len in
+    rw (numbers.0, own, truths_natural truths) (rw many at c.keep_ones-in-Some.ensures)
 
-pub returns-in-None : goal.returns-in-None
-returns-in-None g c =
+pub returns : goal.returns
+returns g c =
     let a = c.args.a.now in
-    let numbers = c.in-Numbers.numbers.now in
-    let array : a ≡ number_array a.shape numbers = c.in-Numbers.ensures.elements in
-    let own : numbers_of a ≡ numbers = ap numbers_of array ∙ numbers_kept numbers in
-    let all : is_numbers a ≡ true = ap is_numbers array in
-    let many : length numbers ≡ size_of a = sym (ap length own) ∙ length-map a.ravel number_of ∙ c.in-Numbers.ensures.lawful.len in
-    rw (all, own) (rw many at c.replicate_listed.ensures)
+    let numbers = c.in_ok-numbers.ensures.numbers in
+    let items = c.as_slice-in-None.result.now in
+    let own : numbers_of a ≡ items = numbers.1 ∙ sym c.as_slice-in-None.ensures in
+    let many : length items ≡ size_of a = sym (ap length own) ∙ length-map a.ravel number_of ∙ c.in_ok-numbers.ensures.lawful.len in
+    rw (numbers.0, own) (rw many at c.replicate_listed.ensures)

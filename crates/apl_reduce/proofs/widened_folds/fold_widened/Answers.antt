@@ -1,0 +1,34 @@
+use Rattle.std.proofs.Common.{◌≡◌, ◌+◌, ◌-◌, map, ℤ, Result, Ok, to_z, of_z, w64, sym, ap, ◌∙◌, rules, arith}
+use Rattle.apl_array.specs.declared.array.Elem.TheVariants.{Int}
+use Rattle.apl_pool.specs.declared.kernel.Fault.{Fault}
+use Rattle.apl_reduce.specs.Folded.{folded_onto}
+use Rattle.apl_reduce.specs.Items.{item_in}
+use Rattle.apl_reduce.proofs.Folds.{fault_stays, run_onto}
+use Rattle.apl_reduce.proofs.widened_folds.fold_widened.Goals as goal
+
+pub returns-in-Err : goal.returns-in-Err
+returns-in-Err g c =
+    let f = g.F.Function.FUNCTION in
+    let item = item_in (map Int c.args.numbers.now) in
+    let rest = c.loop-rest.rest in
+    let start : Result ℤ Fault = Ok (to_z w64 (of_z w64 c.args.total)) in
+    let read : to_z w64 (of_z w64 c.args.total) ≡ c.args.total = search rules in
+    let next = rest - c.min-run.result in
+    let kept = c.loop-rest.invariant in
+    let faulty = c.in-Err.ensures ∙ run_onto f item c.args.first next c.min-run.result rest c.args.count _ start (omega arith) kept.order kept.total in
+    sym (fault_stays f item c.in-Err.fault c.args.first next (c.args.count - next) c.args.count start (omega (arith, kept.order)) (sym faulty))
+    ∙ ap (λ z. folded_onto f item c.args.first c.args.count (Ok z)) read
+
+pub loop-rest-preserved : goal.loop-rest-preserved
+loop-rest-preserved g c =
+    let f = g.F.Function.FUNCTION in
+    let item = item_in (map Int c.args.numbers.now) in
+    let rest = c.loop-rest.rest in
+    let next = rest - c.min-run.result in
+    let kept = c.loop-rest.invariant in
+    let stored : to_z w64 (of_z w64 c.in-Ok.number) ≡ c.in-Ok.number = search rules in
+    record {
+      order = omega (arith, kept.order);
+      total = ap (λ (z : ℤ). Ok z) stored ∙ c.in-Ok.ensures
+          ∙ run_onto f item c.args.first next c.min-run.result rest c.args.count _ (Ok (to_z w64 (of_z w64 c.args.total))) (omega arith) kept.order kept.total;
+    }
