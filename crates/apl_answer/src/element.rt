@@ -1,5 +1,6 @@
 //! Numbers, of 64 bits or of 32, truth values and characters.
-ghost use Rattle.std.specs.Prelude.{refl};
+ghost use Rattle.std.specs.Prelude.{◌≡◌, ◌<◌, refl, pos, length, map, slice_index_or};
+ghost use Rattle.apl_array.specs.declared.array.Elem.TheVariants.{Int};
 ghost use Rattle.apl_array.specs.Array.{bit};
 
 use apl_array::{Array, Elem, Shape};
@@ -192,3 +193,17 @@ impl Numeric for bool {
         if self { 1 } else { 0 }
     }
 }
+
+/// The number that the element at a place is. It takes no memory.
+#[inline(always)]
+pub fn number_at<T: Numeric>(elements: &[T], place: usize) -> i64
+    requires { place < length elements.now }
+    ensures { result ≡ slice_index_or (map T.number_in elements.now) place (pos 0) }
+{
+    elements[place].number()
+}
+
+/// Elements are the numbers that each of them is.
+pub fn elements_are_numbers<T: Numeric>(_elements: &[T])
+    ensures { map T.elem_of _elements.now ≡ map Int (map T.number_in _elements.now) }
+{}

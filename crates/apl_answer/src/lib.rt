@@ -15,7 +15,7 @@ mod numbers;
 mod row_order;
 mod uniform;
 
-pub use element::{ElementType, Numeric};
+pub use element::{ElementType, Numeric, elements_are_numbers, number_at};
 pub use fault::OpFault;
 pub use fill::{array_from_fill, fill_array};
 pub use laws::{answer_is_each_outcome, answer_is_in_range, answer_is_within_limits};

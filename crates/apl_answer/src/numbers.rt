@@ -1,13 +1,12 @@
 //! The numbers of an array in 64 bits, also of one that holds them in 32, or as truth values.
-ghost use Rattle.std.specs.Prelude.{◌≡◌, ◌↔◌, ◌≤◌, ℤ, pos, List, Ok, IfOk, IfSome, IsSome, length, map, slice_index_or};
+ghost use Rattle.std.specs.Prelude.{◌≡◌, ◌↔◌, ◌≤◌, IfOk, IfSome, IsSome, length, map};
 ghost use Rattle.apl_array.specs.declared.array.Elem.TheVariants.{Int};
 ghost use Rattle.apl_array.specs.declared.array.Kind.{Kind};
 ghost use Rattle.apl_array.specs.Array.{IsArray, number_array};
 ghost use Rattle.apl_answer.specs.Numbers.{number_list};
 ghost use Rattle.apl_pool.specs.declared.kernel.TheConstants.{MOST_PLACES};
-ghost use Rattle.apl_pool.specs.Pool.{AreValues};
 
-use crate::element::Numeric;
+use crate::element::{Numeric, elements_are_numbers, number_at};
 use apl_array::{Array, Elements};
 use apl_pool::{Crew, Fault, Kernel, fill};
 use std::alloc::AllocError;
@@ -55,23 +54,17 @@ impl<T: Numeric> Kernel for Widened<'_, T> {
 
     #[inline(always)]
     fn at(&self, place: usize) -> Result<i64, Fault> {
-        Ok(self.elements[place].number())
+        Ok(number_at(self.elements, place))
     }
 
     #[inline(always)]
     fn write_run(&self, from: usize, to: usize, room: &mut [i64]) -> usize {
         for k in 0..to - from {
-            room[k] = self.elements[from + k].number();
+            room[k] = number_at(self.elements, from + k);
         }
         to
     }
 }
-
-/// Elements are the numbers that are made of them.
-fn numbers_are_elements<T: Numeric>(_elements: &[T])
-    ensures { (numbers : List ℤ) → AreValues (λ place. Ok (slice_index_or (map T.number_in _elements.now) place (pos 0))) (length _elements.now) numbers
-        → map T.elem_of _elements.now ≡ map Int numbers }
-{}
 
 /// The numbers that elements are, made by the workers.
 fn made_numbers<T: Numeric + Sync, W: Crew>(
@@ -81,7 +74,7 @@ fn made_numbers<T: Numeric + Sync, W: Crew>(
     requires { length elements.now ≤ MOST_PLACES }
     ensures { IfOk result (λ numbers. map T.elem_of elements.now ≡ map Int numbers.items) }
 {
-    numbers_are_elements(elements);
+    elements_are_numbers(elements);
     match fill(workers, &Widened { elements }) {
         Ok(numbers) => Ok(numbers),
         Err(_) => Err(AllocError),

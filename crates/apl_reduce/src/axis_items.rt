@@ -1,5 +1,5 @@
 //! The items along an axis, folded at each place of the result.
-ghost use Rattle.std.specs.Prelude.{◌≡◌, ℕ, ◌+◌, ◌-◌, ◌*◌, ◌/◌, ◌%◌, ◌<◌, ◌≤◌, true, IfErr, IfOk, IfSome, OnOk, length, map, remove, slice_index, slice_index_or, drop};
+ghost use Rattle.std.specs.Prelude.{◌≡◌, ℕ, ◌+◌, ◌-◌, ◌*◌, ◌/◌, ◌%◌, ◌<◌, ◌≤◌, true, Ok, IfErr, IfOk, IfSome, OnOk, length, map, remove, slice_index, slice_index_or, drop};
 ghost use Rattle.apl_pool.specs.Pool.{AreValues, IsStopOf};
 ghost use Rattle.apl_pool.specs.Runs.{AreWritten, IsFaultAfter};
 ghost use Rattle.apl_array.specs.declared.array.Elem.TheVariants.{Int, Chr};
@@ -7,7 +7,9 @@ ghost use Rattle.apl_array.specs.Array.{truth_element};
 ghost use Rattle.apl_array.specs.Shape.{count_of};
 ghost use Rattle.apl_pool.specs.declared.kernel.TheConstants.{MOST_PLACES};
 ghost use Rattle.apl_reduce.specs.Filled.{IsFilled};
-ghost use Rattle.apl_reduce.specs.Folded.{fold_at};
+ghost use Rattle.apl_reduce.specs.Folded.{fold_at, number_of_axis};
+ghost use Rattle.apl_scalar.specs.Scalar.{dyadic_numbers};
+ghost use Rattle.apl_summary.specs.RowFolds.{AreRowFolds};
 
 use crate::foldable::Foldable;
 use crate::folded_rows::{Doubts, fold_last_rows, fold_rows, from_place};
@@ -19,7 +21,7 @@ use crate::outer_products::NARROW;
 use crate::sharing::{FEWEST_COLUMNS, piece_of, shares_items, shares_sums, work_of};
 use crate::stretch_sums::{STRETCH, Stretches, fill_row_sums};
 use crate::truth_folds::has_truth_runs;
-use apl_answer::{ElementType, Numeric};
+use apl_answer::{ElementType, Numeric, elements_are_numbers};
 use apl_array::{
     Array, ScalarFunction, Shape, inserted_index_has_place, places_match_index_lists,
     replaced_index_has_place,
@@ -356,49 +358,43 @@ fn fill_folds<T: Foldable + Sync, W: Crew>(
 
 /// The sums of the items at each place, if the workers share the numbers, and no number is far from 0. Then the items of a place are
 /// neighbours, and more than a stretch.
-fn fill_by_stretches<W: Crew>(
+fn fill_by_stretches<T: Numeric + Sync, W: Crew>(
     workers: &W,
     f: ScalarFunction,
-    axis: &AxisItems<i64>,
+    axis: &AxisItems<T>,
 ) -> Result<Option<Vec<i64>>, Stop>
-    ensures values { let a = axis.now in IfOk result (λ sums. IfSome sums (λ v. AreValues (fold_at f (map Int a.elements.now) a.items a.block a.inner) a.count v.items)) }
-    ensures stop { let a = axis.now in IfErr result (IsStopOf (fold_at f (map Int a.elements.now) a.items a.block a.inner) a.count) }
+    ensures values { let a = axis.now in IfOk result (λ sums. IfSome sums (λ v. AreValues (fold_at f (map T.elem_of a.elements.now) a.items a.block a.inner) a.count v.items)) }
+    ensures stop { let a = axis.now in IfErr result (IsStopOf (fold_at f (map T.elem_of a.elements.now) a.items a.block a.inner) a.count) }
 {
     let has_stretches = axis.inner.number() == 1 && axis.items > STRETCH;
     if !has_stretches || !shares_sums(workers, f, axis.count, axis.items) {
         return Ok(None);
     }
+    elements_are_numbers(axis.elements);
     fill_row_sums(
         workers,
         &Stretches::new(axis.elements, axis.count, axis.items, axis.block),
     )
 }
 
+/// The items at each place, folded as a row, give the fold of the place.
+fn rows_have_folds<T: Numeric>(_f: ScalarFunction, _axis: &AxisItems<T>)
+    ensures { let a = _axis.now in let number = number_of_axis (map T.number_in a.elements.now) a.block a.inner in
+        AreRowFolds (dyadic_numbers _f) (λ place k. Ok (number place k)) a.count (a.items - 1) (λ place. Ok (number place (a.items - 1))) (fold_at _f (map T.elem_of a.elements.now) a.items a.block a.inner) }
+{}
+
 /// The folds of numbers at each place. The workers share the items of each place, or the places.
-pub(crate) fn fill_number_folds<W: Crew>(
+pub(crate) fn fill_number_folds<T: Foldable + Numeric + Sync, W: Crew>(
     workers: &W,
     f: ScalarFunction,
-    axis: &AxisItems<i64>,
+    axis: &AxisItems<T>,
 ) -> Result<Vec<i64>, Stop>
-    ensures { IsFilled (fold_at f (map Int axis.now.elements.now) axis.now.items axis.now.block axis.now.inner) axis.now.count result }
+    ensures { IsFilled (fold_at f (map T.elem_of axis.now.elements.now) axis.now.items axis.now.block axis.now.inner) axis.now.count result }
 {
     if let Some(sums) = fill_by_stretches(workers, f, axis)? {
         return Ok(sums);
     }
-    if shares_items(workers, f, axis.count, axis.items) {
-        return apl_summary::fold_rows(workers, f, &ItemRows { items: axis });
-    }
-    fill_folds(workers, f, axis)
-}
-
-/// The folds of numbers of 32 bits at each place. The workers share the items of each place, or the places.
-pub(crate) fn fill_narrow_folds<W: Crew>(
-    workers: &W,
-    f: ScalarFunction,
-    axis: &AxisItems<i32>,
-) -> Result<Vec<i64>, Stop>
-    ensures { IsFilled (fold_at f (map Int axis.now.elements.now) axis.now.items axis.now.block axis.now.inner) axis.now.count result }
-{
+    rows_have_folds(f, axis);
     if shares_items(workers, f, axis.count, axis.items) {
         return apl_summary::fold_rows(workers, f, &ItemRows { items: axis });
     }
@@ -413,6 +409,7 @@ pub(crate) fn fill_truth_folds<W: Crew>(
 ) -> Result<Vec<i64>, Stop>
     ensures { IsFilled (fold_at f (map truth_element axis.now.elements.now) axis.now.items axis.now.block axis.now.inner) axis.now.count result }
 {
+    rows_have_folds(f, axis);
     let is_quick = axis.inner.number() == 1 && has_truth_runs(f);
     if !is_quick && shares_items(workers, f, axis.count, axis.items) {
         return apl_summary::fold_rows(workers, f, &ItemRows { items: axis });

@@ -5,6 +5,7 @@ ghost use Rattle.apl_reduce.specs.Folded.{folded_onto};
 ghost use Rattle.apl_reduce.specs.Items.{item_in};
 
 use crate::halves::{KnownRun, of_halves};
+use apl_answer::{Numeric, number_at};
 use apl_array::ScalarFunction;
 use apl_scalar::function_types::Function;
 
@@ -28,8 +29,8 @@ impl KnownRun for RunBits {
     }
 
     #[inline(always)]
-    fn with_next(&self, numbers: &[i64], place: usize) -> RunBits {
-        let bits = numbers[place].cast_unsigned();
+    fn with_next<T: Numeric>(&self, numbers: &[T], place: usize) -> RunBits {
+        let bits = number_at(numbers, place).cast_unsigned();
         RunBits {
             all: self.all & bits,
             any: self.any | bits,
@@ -47,14 +48,14 @@ impl KnownRun for RunBits {
 
 /// The fold of both halves of neighbours onto a total by `∧` or `∨`, if the total and all numbers are 0 or 1.
 #[inline(always)]
-pub(crate) fn bit_fold<F: Function>(
-    numbers: &[i64],
+pub(crate) fn bit_fold<F: Function, T: Numeric>(
+    numbers: &[T],
     first: usize,
     half: usize,
     total: i64,
 ) -> Option<i64>
     requires within { first + 2 * half ≤ length numbers.now }
-    ensures { IfSome result (λ z. folded_onto F.FUNCTION (item_in (map Int numbers.now)) first (2 * half) (Ok total) ≡ Ok z) }
+    ensures { IfSome result (λ z. folded_onto F.FUNCTION (item_in (map Int (map T.number_in numbers.now))) first (2 * half) (Ok total) ≡ Ok z) }
 {
     let bits: RunBits = of_halves(numbers, first, half);
     if bits.any > 1 || total.cast_unsigned() > 1 {

@@ -6,6 +6,7 @@ ghost use Rattle.apl_reduce.specs.FourFolds.{AreRuns, AreFourFolds};
 ghost use Rattle.apl_reduce.specs.Items.{item_in};
 
 use crate::four::Four;
+use apl_answer::{Numeric, number_at};
 
 /// The greatest of numbers, or the least.
 pub(crate) trait Extreme {
@@ -61,24 +62,24 @@ impl Extreme for Least {
 
 /// The extreme of each total and of as many neighbours from its place on. A turn takes a number of each run. The loop has no branches, and
 /// a processor compares several numbers at once.
-pub(crate) fn each_extreme<E: Extreme>(
-    numbers: &[i64],
+pub(crate) fn each_extreme<E: Extreme, T: Numeric>(
+    numbers: &[T],
     starts: Four<usize>,
     count: usize,
     totals: Four<i64>,
 ) -> Four<i64>
     requires within { AreRuns starts count (length numbers.now) }
-    ensures { AreFourFolds E.function (map Int numbers.now) starts count totals result }
+    ensures { AreFourFolds E.function (map Int (map T.number_in numbers.now)) starts count totals result }
 {
     let mut one = totals.first;
     let mut two = totals.second;
     let mut three = totals.third;
     let mut four = totals.fourth;
     for k in 0..count {
-        one = E::of_two(numbers[starts.first + k], one);
-        two = E::of_two(numbers[starts.second + k], two);
-        three = E::of_two(numbers[starts.third + k], three);
-        four = E::of_two(numbers[starts.fourth + k], four);
+        one = E::of_two(number_at(numbers, starts.first + k), one);
+        two = E::of_two(number_at(numbers, starts.second + k), two);
+        three = E::of_two(number_at(numbers, starts.third + k), three);
+        four = E::of_two(number_at(numbers, starts.fourth + k), four);
     }
     Four {
         first: one,
@@ -90,21 +91,21 @@ pub(crate) fn each_extreme<E: Extreme>(
 
 /// The extreme of a total and both halves of neighbours from a place on. It is the same from the first number on as from the last. A turn
 /// takes a number of each half, since memory gives two streams faster than one.
-pub(crate) fn extreme_onto<E: Extreme>(
-    numbers: &[i64],
+pub(crate) fn extreme_onto<E: Extreme, T: Numeric>(
+    numbers: &[T],
     first: usize,
     half: usize,
     total: i64,
 ) -> i64
     requires within { first + 2 * half ≤ length numbers.now }
-    ensures { folded_onto E.function (item_in (map Int numbers.now)) first (2 * half) (Ok total) ≡ Ok result }
+    ensures { folded_onto E.function (item_in (map Int (map T.number_in numbers.now))) first (2 * half) (Ok total) ≡ Ok result }
 {
     let second = first + half;
     let mut low = total;
     let mut high = total;
     for k in 0..half {
-        low = E::of_two(numbers[first + k], low);
-        high = E::of_two(numbers[second + k], high);
+        low = E::of_two(number_at(numbers, first + k), low);
+        high = E::of_two(number_at(numbers, second + k), high);
     }
     E::of_two(low, high)
 }

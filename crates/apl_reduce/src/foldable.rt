@@ -1,11 +1,14 @@
 //! Kinds of elements, each with its ways to fold them.
+ghost use Rattle.std.specs.Prelude.{◌≡◌, ◌+◌, ◌*◌, ◌<◌, ◌≤◌, Ok, length, map};
+ghost use Rattle.apl_pool.specs.declared.kernel.TheConstants.{MOST_PLACES};
+ghost use Rattle.apl_reduce.specs.Folded.{folded_onto, element_along};
+
 use crate::folded_rows::{Doubts, fold_each, fold_number_rows};
 use crate::folding::fold_many;
 use crate::four::Four;
 use crate::run_folds::{fold_neighbours, has_quick_runs, quick_folds};
 use crate::truth_folds::{fold_truths, has_truth_runs};
-use crate::widened_folds::fold_widened;
-use apl_answer::ElementType;
+use apl_answer::{ElementType, Numeric};
 use apl_pool::Fault;
 use apl_scalar::function_types::Function;
 
@@ -60,6 +63,25 @@ pub(crate) trait Foldable: ElementType {
     }
 }
 
+/// The right fold of numbers onto what those after them gave. Runs of neighbours are folded at once.
+#[inline(always)]
+fn fold_numbers<F: Function, T: Numeric>(
+    elements: &[T],
+    first: usize,
+    stride: usize,
+    count: usize,
+    total: i64,
+) -> Result<i64, Fault>
+    requires within { first + count * stride < length elements.now }
+    requires most { length elements.now ≤ MOST_PLACES }
+    ensures { result ≡ folded_onto F.FUNCTION (element_along (map T.elem_of elements.now) first stride) 0 count (Ok total) }
+{
+    if stride == 1 && has_quick_runs::<F>() {
+        return fold_neighbours::<F, T>(elements, first, count, total);
+    }
+    fold_many::<F, T>(elements, first, stride, count, total)
+}
+
 impl Foldable for i64 {
     #[inline(always)]
     fn fold_onto<F: Function>(
@@ -69,10 +91,7 @@ impl Foldable for i64 {
         count: usize,
         total: i64,
     ) -> Result<i64, Fault> {
-        if stride == 1 && has_quick_runs::<F>() {
-            return fold_neighbours::<F>(elements, first, count, total);
-        }
-        fold_many::<F, i64>(elements, first, stride, count, total)
+        fold_numbers::<F, i64>(elements, first, stride, count, total)
     }
 
     #[inline(always)]
@@ -89,16 +108,15 @@ impl Foldable for i64 {
 
     #[inline(always)]
     fn fold_pairs<F: Function>(
-        numbers: &[i64],
+        elements: &[i64],
         starts: Four<usize>,
         pairs: usize,
         totals: Four<i64>,
     ) -> Option<Four<i64>> {
-        quick_folds::<F>(numbers, starts, pairs, totals)
+        quick_folds::<F, i64>(elements, starts, pairs, totals)
     }
 }
 
-/// Runs of neighbours are widened in a processor's first cache, and folded as numbers of 64 bits.
 impl Foldable for i32 {
     #[inline(always)]
     fn fold_onto<F: Function>(
@@ -108,10 +126,7 @@ impl Foldable for i32 {
         count: usize,
         total: i64,
     ) -> Result<i64, Fault> {
-        if stride == 1 && has_quick_runs::<F>() {
-            return fold_widened::<F>(elements, first, count, total);
-        }
-        fold_many::<F, i32>(elements, first, stride, count, total)
+        fold_numbers::<F, i32>(elements, first, stride, count, total)
     }
 
     #[inline(always)]
@@ -124,6 +139,16 @@ impl Foldable for i32 {
         totals: &mut [i64],
     ) -> bool {
         fold_number_rows::<F, i32>(elements, first, stride, count, doubts, totals)
+    }
+
+    #[inline(always)]
+    fn fold_pairs<F: Function>(
+        elements: &[i32],
+        starts: Four<usize>,
+        pairs: usize,
+        totals: Four<i64>,
+    ) -> Option<Four<i64>> {
+        quick_folds::<F, i32>(elements, starts, pairs, totals)
     }
 }
 

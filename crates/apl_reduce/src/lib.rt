@@ -52,7 +52,6 @@ mod sign_folds;
 mod stretch_sums;
 mod sums;
 mod truth_folds;
-mod widened_folds;
 
 pub use decoding::decode;
 pub use digit_laws::{digits_are_the_only_ones, value_is_sum_of_place_values};

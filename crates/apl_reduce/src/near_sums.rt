@@ -1,11 +1,12 @@
 //! Sums of numbers near 0, so few that 64 bits hold each sum of some of them.
-ghost use Rattle.std.specs.Prelude.{◌≡◌, ℕ, pos, ◌+◌, ◌*◌, ◌^◌, ◌<◌, ◌≤◌, ◌+ℤ◌, ◌-ℤ◌, ℤ, List, length, unsigned_abs};
+ghost use Rattle.std.specs.Prelude.{◌≡◌, ℕ, pos, ◌+◌, ◌*◌, ◌^◌, ◌<◌, ◌≤◌, ◌+ℤ◌, ◌-ℤ◌, ℤ, List, length, map, unsigned_abs};
 ghost use Rattle.apl_array.specs.declared.function.ScalarFunction.TheVariants.{Plus, Minus};
 ghost use Rattle.apl_reduce.specs.declared.near_sums.TheConstants.{MOST_NUMBERS, MOST_PAIRS, MOST_QUARTER};
 ghost use Rattle.apl_reduce.specs.FourFolds.{AreRuns, IsChange, AreChanges, ArePairSums};
 ghost use Rattle.apl_reduce.specs.Magnitudes.{IsSum, above};
 
 use crate::four::{Four, quarters};
+use apl_answer::{Numeric, number_at};
 use apl_array::range_is_decided;
 
 /// The most numbers that are added in one pass.
@@ -67,11 +68,17 @@ impl NearSum {
 
     /// The sum of one more number than the `count` that it is of.
     #[inline(always)]
-    fn with_next(&self, numbers: &[i64], first: usize, step: usize, count: usize) -> NearSum
+    fn with_next<T: Numeric>(
+        &self,
+        numbers: &[T],
+        first: usize,
+        step: usize,
+        count: usize,
+    ) -> NearSum
         requires { first + count * step < length numbers.now }
-        ensures { count < MOST_NUMBERS → IsSum numbers.now first step count self.now → IsSum numbers.now first step (count + 1) result }
+        ensures { count < MOST_NUMBERS → IsSum (map T.number_in numbers.now) first step count self.now → IsSum (map T.number_in numbers.now) first step (count + 1) result }
     {
-        let number = numbers[first + count * step];
+        let number = number_at(numbers, first + count * step);
         NearSum {
             sum: wrapped_sum(self.sum, number),
             bits: self.bits | above_least(number, NEAR),
@@ -107,13 +114,13 @@ impl NearSum {
 
 /// The sums of four runs of neighbours. A turn takes a number of each run. The loop has no branches, and a processor adds several numbers
 /// at once.
-fn four_sums(numbers: &[i64], starts: Four<usize>, count: usize) -> Four<NearSum>
+fn four_sums<T: Numeric>(numbers: &[T], starts: Four<usize>, count: usize) -> Four<NearSum>
     requires within { AreRuns starts count (length numbers.now) }
     requires few { count ≤ MOST_NUMBERS }
-    ensures first { IsSum numbers.now starts.first 1 count result.first }
-    ensures second { IsSum numbers.now starts.second 1 count result.second }
-    ensures third { IsSum numbers.now starts.third 1 count result.third }
-    ensures fourth { IsSum numbers.now starts.fourth 1 count result.fourth }
+    ensures first { IsSum (map T.number_in numbers.now) starts.first 1 count result.first }
+    ensures second { IsSum (map T.number_in numbers.now) starts.second 1 count result.second }
+    ensures third { IsSum (map T.number_in numbers.now) starts.third 1 count result.third }
+    ensures fourth { IsSum (map T.number_in numbers.now) starts.fourth 1 count result.fourth }
 {
     let mut one = NearSum::none();
     let mut two = NearSum::none();
@@ -156,9 +163,9 @@ impl PairSums {
 
     /// The sums of one more pair than the `count` that they are of.
     #[inline(always)]
-    fn with_pair(&self, numbers: &[i64], first: usize, count: usize) -> PairSums
+    fn with_pair<T: Numeric>(&self, numbers: &[T], first: usize, count: usize) -> PairSums
         requires { first + 2 * (count + 1) ≤ length numbers.now }
-        ensures { count < MOST_PAIRS → ArePairSums numbers.now first count self.now → ArePairSums numbers.now first (count + 1) result }
+        ensures { count < MOST_PAIRS → ArePairSums (map T.number_in numbers.now) first count self.now → ArePairSums (map T.number_in numbers.now) first (count + 1) result }
     {
         PairSums {
             firsts: self.firsts.with_next(numbers, first, 2, count),
@@ -189,13 +196,13 @@ impl PairSums {
 
 /// The sums of four runs of pairs of neighbours. A turn takes a pair of each run.
 #[inline(always)]
-fn pair_sums(numbers: &[i64], starts: Four<usize>, pairs: usize) -> Four<PairSums>
+fn pair_sums<T: Numeric>(numbers: &[T], starts: Four<usize>, pairs: usize) -> Four<PairSums>
     requires within { AreRuns starts (2 * pairs) (length numbers.now) }
     requires few { pairs ≤ MOST_PAIRS }
-    ensures first { ArePairSums numbers.now starts.first pairs result.first }
-    ensures second { ArePairSums numbers.now starts.second pairs result.second }
-    ensures third { ArePairSums numbers.now starts.third pairs result.third }
-    ensures fourth { ArePairSums numbers.now starts.fourth pairs result.fourth }
+    ensures first { ArePairSums (map T.number_in numbers.now) starts.first pairs result.first }
+    ensures second { ArePairSums (map T.number_in numbers.now) starts.second pairs result.second }
+    ensures third { ArePairSums (map T.number_in numbers.now) starts.third pairs result.third }
+    ensures fourth { ArePairSums (map T.number_in numbers.now) starts.fourth pairs result.fourth }
 {
     let mut one = PairSums::none();
     let mut two = PairSums::none();
@@ -216,10 +223,10 @@ fn pair_sums(numbers: &[i64], starts: Four<usize>, pairs: usize) -> Four<PairSum
 }
 
 /// What four quarters of neighbours add to a total by `+`.
-pub(crate) fn quarters_added(numbers: &[i64], first: usize, quarter: usize) -> NearSum
+pub(crate) fn quarters_added<T: Numeric>(numbers: &[T], first: usize, quarter: usize) -> NearSum
     requires within { first + 4 * quarter ≤ length numbers.now }
     requires few { quarter ≤ 2 * MOST_QUARTER }
-    ensures { IsChange Plus numbers.now first (2 * (2 * quarter)) result }
+    ensures { IsChange Plus (map T.number_in numbers.now) first (2 * (2 * quarter)) result }
 {
     range_is_decided();
     let sums = four_sums(numbers, quarters(first, quarter), quarter);
@@ -229,10 +236,10 @@ pub(crate) fn quarters_added(numbers: &[i64], first: usize, quarter: usize) -> N
 }
 
 /// What four quarters of neighbours add to a total by `-`. A quarter has `quarter` pairs.
-pub(crate) fn quarters_turned(numbers: &[i64], first: usize, quarter: usize) -> NearSum
+pub(crate) fn quarters_turned<T: Numeric>(numbers: &[T], first: usize, quarter: usize) -> NearSum
     requires within { first + 8 * quarter ≤ length numbers.now }
     requires few { quarter ≤ MOST_QUARTER }
-    ensures { IsChange Minus numbers.now first (2 * (2 * (2 * quarter))) result }
+    ensures { IsChange Minus (map T.number_in numbers.now) first (2 * (2 * (2 * quarter))) result }
 {
     let sums = pair_sums(numbers, quarters(first, 2 * quarter), quarter);
     let low = sums.first.both(&sums.second);
@@ -241,20 +248,28 @@ pub(crate) fn quarters_turned(numbers: &[i64], first: usize, quarter: usize) -> 
 }
 
 /// What four runs of neighbours add to totals by `+`.
-pub(crate) fn runs_added(numbers: &[i64], starts: Four<usize>, count: usize) -> Four<NearSum>
+pub(crate) fn runs_added<T: Numeric>(
+    numbers: &[T],
+    starts: Four<usize>,
+    count: usize,
+) -> Four<NearSum>
     requires within { AreRuns starts count (length numbers.now) }
     requires few { count ≤ MOST_NUMBERS }
-    ensures { AreChanges Plus numbers.now starts count result }
+    ensures { AreChanges Plus (map T.number_in numbers.now) starts count result }
 {
     range_is_decided();
     four_sums(numbers, starts, count)
 }
 
 /// What four runs of pairs of neighbours add to totals by `-`.
-pub(crate) fn runs_turned(numbers: &[i64], starts: Four<usize>, pairs: usize) -> Four<NearSum>
+pub(crate) fn runs_turned<T: Numeric>(
+    numbers: &[T],
+    starts: Four<usize>,
+    pairs: usize,
+) -> Four<NearSum>
     requires within { AreRuns starts (2 * pairs) (length numbers.now) }
     requires few { pairs ≤ MOST_PAIRS }
-    ensures { AreChanges Minus numbers.now starts (2 * pairs) result }
+    ensures { AreChanges Minus (map T.number_in numbers.now) starts (2 * pairs) result }
 {
     let sums = pair_sums(numbers, starts, pairs);
     Four {

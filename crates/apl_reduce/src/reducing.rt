@@ -10,9 +10,7 @@ ghost use Rattle.apl_scalar.specs.Scalar.{identity_of};
 ghost use Rattle.apl_reduce.specs.Folding.{identity_or_fault, reduction};
 ghost use Rattle.apl_reduce.specs.Reducing.{items_along, reduce_row};
 
-use crate::axis_items::{
-    AxisItems, fill_character_folds, fill_narrow_folds, fill_number_folds, fill_truth_folds,
-};
+use crate::axis_items::{AxisItems, fill_character_folds, fill_number_folds, fill_truth_folds};
 use apl_answer::{OpFault, array_copy, array_from_fill, array_of_elements, constant_array};
 use apl_array::{
     Array, Axis, Elements, ScalarFunction, Shape, inserted_index_has_place,
@@ -58,7 +56,7 @@ fn fold<W: Crew>(
         }
         Elements::Narrow(numbers) => {
             let axis = AxisItems::new(b, numbers, k, &shape);
-            fill_narrow_folds(workers, f, &axis)
+            fill_number_folds(workers, f, &axis)
         }
         Elements::Truths(truths) => {
             let axis = AxisItems::new(b, truths, k, &shape);

@@ -18,6 +18,7 @@ use crate::near_sums::{
     runs_added, runs_turned,
 };
 use crate::sign_folds::sign_onto;
+use apl_answer::{Numeric, elements_are_numbers};
 use apl_array::ScalarFunction;
 use apl_pool::Fault;
 use apl_scalar::function_types::Function;
@@ -62,15 +63,16 @@ fn near_folds(changes: Four<NearSum>, totals: Four<i64>) -> Option<Four<i64>>
 /// The folds of four runs of pairs of neighbours onto their totals at once, unless one is in doubt, or this is not quicker, as of long
 /// runs.
 #[inline(always)]
-pub(crate) fn quick_folds<F: Function>(
-    numbers: &[i64],
+pub(crate) fn quick_folds<F: Function, T: Numeric>(
+    numbers: &[T],
     starts: Four<usize>,
     pairs: usize,
     totals: Four<i64>,
 ) -> Option<Four<i64>>
     requires within { AreRuns starts (2 * pairs) (length numbers.now) }
-    ensures { IfSome result (λ folds. AreFourFolds F.FUNCTION (map Int numbers.now) starts (2 * pairs) totals folds) }
+    ensures { IfSome result (λ folds. AreFourFolds F.FUNCTION (map T.elem_of numbers.now) starts (2 * pairs) totals folds) }
 {
+    elements_are_numbers(numbers);
     match F::FUNCTION {
         ScalarFunction::Plus if pairs <= MOST_PAIRS => {
             near_folds(runs_added(numbers, starts, 2 * pairs), totals)
@@ -79,9 +81,9 @@ pub(crate) fn quick_folds<F: Function>(
             near_folds(runs_turned(numbers, starts, pairs), totals)
         }
         ScalarFunction::Ceiling => {
-            Some(each_extreme::<Greatest>(numbers, starts, 2 * pairs, totals))
+            Some(each_extreme::<Greatest, T>(numbers, starts, 2 * pairs, totals))
         }
-        ScalarFunction::Floor => Some(each_extreme::<Least>(numbers, starts, 2 * pairs, totals)),
+        ScalarFunction::Floor => Some(each_extreme::<Least, T>(numbers, starts, 2 * pairs, totals)),
         _ => None,
     }
 }
@@ -103,9 +105,14 @@ pub(crate) fn has_quick_runs<F: Function>() -> bool {
 
 /// The fold of four quarters of a run onto a total at once, unless it is in doubt. A quarter has `quarter` pairs.
 #[inline(always)]
-fn quick_fold<F: Function>(numbers: &[i64], first: usize, quarter: usize, total: i64) -> Option<i64>
+fn quick_fold<F: Function, T: Numeric>(
+    numbers: &[T],
+    first: usize,
+    quarter: usize,
+    total: i64,
+) -> Option<i64>
     requires within { first + 8 * quarter ≤ length numbers.now }
-    ensures { IfSome result (λ z. folded_onto F.FUNCTION (item_in (map Int numbers.now)) first (2 * (2 * (2 * quarter))) (Ok total) ≡ Ok z) }
+    ensures { IfSome result (λ z. folded_onto F.FUNCTION (item_in (map Int (map T.number_in numbers.now))) first (2 * (2 * (2 * quarter))) (Ok total) ≡ Ok z) }
 {
     let half = 2 * (2 * quarter);
     match F::FUNCTION {
@@ -116,27 +123,28 @@ fn quick_fold<F: Function>(numbers: &[i64], first: usize, quarter: usize, total:
             near_total(quarters_turned(numbers, first, quarter), total)
         }
         ScalarFunction::Times => sign_onto(numbers, first, half, total),
-        ScalarFunction::Ceiling => Some(extreme_onto::<Greatest>(numbers, first, half, total)),
-        ScalarFunction::Floor => Some(extreme_onto::<Least>(numbers, first, half, total)),
-        _ => bit_fold::<F>(numbers, first, half, total),
+        ScalarFunction::Ceiling => Some(extreme_onto::<Greatest, T>(numbers, first, half, total)),
+        ScalarFunction::Floor => Some(extreme_onto::<Least, T>(numbers, first, half, total)),
+        _ => bit_fold::<F, T>(numbers, first, half, total),
     }
 }
 
 /// The fold of four quarters of a run onto a total: at once, or item by item if it is in doubt.
 #[inline(always)]
-fn fold_run<F: Function>(
-    numbers: &[i64],
+fn fold_run<F: Function, T: Numeric>(
+    numbers: &[T],
     first: usize,
     quarter: usize,
     total: i64,
 ) -> Result<i64, Fault>
     requires within { first + 8 * quarter < length numbers.now }
     requires most { length numbers.now ≤ MOST_PLACES }
-    ensures { result ≡ folded_onto F.FUNCTION (item_in (map Int numbers.now)) first (2 * (2 * (2 * quarter))) (Ok total) }
+    ensures { result ≡ folded_onto F.FUNCTION (item_in (map T.elem_of numbers.now)) first (2 * (2 * (2 * quarter))) (Ok total) }
 {
-    match quick_fold::<F>(numbers, first, quarter, total) {
+    elements_are_numbers(numbers);
+    match quick_fold::<F, T>(numbers, first, quarter, total) {
         Some(folded) => Ok(folded),
-        None => fold_items::<F, i64>(numbers, first, 1, 8 * quarter, total),
+        None => fold_items::<F, T>(numbers, first, 1, 8 * quarter, total),
     }
 }
 
@@ -151,25 +159,25 @@ fn most_quarter<F: Function>() -> usize
 }
 
 /// The right fold of neighbouring numbers onto what those after them gave.
-pub(crate) fn fold_neighbours<F: Function>(
-    numbers: &[i64],
+pub(crate) fn fold_neighbours<F: Function, T: Numeric>(
+    numbers: &[T],
     first: usize,
     count: usize,
     total: i64,
 ) -> Result<i64, Fault>
     requires within { first + count < length numbers.now }
     requires most { length numbers.now ≤ MOST_PLACES }
-    ensures { result ≡ folded_onto F.FUNCTION (item_in (map Int numbers.now)) first count (Ok total) }
+    ensures { result ≡ folded_onto F.FUNCTION (item_in (map T.elem_of numbers.now)) first count (Ok total) }
 {
     let mut total = total;
     let mut rest = count;
     while rest >= 8 {
         let quarter = (rest / 8).min(most_quarter::<F>());
         rest -= 8 * quarter;
-        match fold_run::<F>(numbers, first + rest, quarter, total) {
+        match fold_run::<F, T>(numbers, first + rest, quarter, total) {
             Ok(number) => total = number,
             Err(fault) => return Err(fault),
         }
     }
-    fold_items::<F, i64>(numbers, first, 1, rest, total)
+    fold_items::<F, T>(numbers, first, 1, rest, total)
 }

@@ -6,6 +6,7 @@ ghost use Rattle.apl_reduce.specs.Folded.{folded_onto};
 ghost use Rattle.apl_reduce.specs.Items.{item_in};
 
 use crate::halves::{KnownRun, of_halves};
+use apl_answer::{Numeric, number_at};
 use apl_array::range_is_decided;
 
 /// The sign of the product of numbers, and whether each of them is 1 or ¯1.
@@ -36,9 +37,9 @@ impl KnownRun for RunSigns {
     }
 
     #[inline(always)]
-    fn with_next(&self, numbers: &[i64], place: usize) -> RunSigns {
+    fn with_next<T: Numeric>(&self, numbers: &[T], place: usize) -> RunSigns {
         range_is_decided();
-        let bits = numbers[place].cast_unsigned();
+        let bits = number_at(numbers, place).cast_unsigned();
         RunSigns {
             signs: self.signs ^ bits,
             sums: self.sums | one_more(bits),
@@ -55,9 +56,14 @@ impl KnownRun for RunSigns {
 }
 
 /// The fold of both halves of neighbours onto a total by `×`, if each of them is 1 or ¯1, and the total has a negative in the range.
-pub(crate) fn sign_onto(numbers: &[i64], first: usize, half: usize, total: i64) -> Option<i64>
+pub(crate) fn sign_onto<T: Numeric>(
+    numbers: &[T],
+    first: usize,
+    half: usize,
+    total: i64,
+) -> Option<i64>
     requires within { first + 2 * half ≤ length numbers.now }
-    ensures { IfSome result (λ z. folded_onto Times (item_in (map Int numbers.now)) first (2 * half) (Ok total) ≡ Ok z) }
+    ensures { IfSome result (λ z. folded_onto Times (item_in (map Int (map T.number_in numbers.now))) first (2 * half) (Ok total) ≡ Ok z) }
 {
     let run: RunSigns = of_halves(numbers, first, half);
     let are_units = run.sums == 0 || run.sums == 2;

@@ -12,6 +12,7 @@ ghost use Rattle.apl_reduce.specs.StretchSums.{IsStretchSum, number_from, sum_at
 use crate::magnitudes::sums_are_small;
 use crate::near_sums::{NEAR, NearSum, above_least, wrapped_sum};
 use crate::sharing::work_of;
+use apl_answer::{Numeric, number_at};
 use apl_array::range_is_decided;
 use apl_pool::{Crew, Fault, Kernel, Stop, fill};
 
@@ -20,12 +21,12 @@ pub(crate) const STRETCH: usize = 1 << 14;
 
 /// The sum with the number at a place.
 #[inline(always)]
-fn with_next(sum: NearSum, numbers: &[i64], near: u64, place: usize) -> NearSum
+fn with_next<T: Numeric>(sum: NearSum, numbers: &[T], near: u64, place: usize) -> NearSum
     requires within { place < length numbers.now }
     requires near { near ≤ 2 ^ 46 }
-    ensures { (first count : ℕ) → first + count ≡ place → IsStretchSum numbers.now near first count sum → IsStretchSum numbers.now near first (count + 1) result }
+    ensures { (first count : ℕ) → first + count ≡ place → IsStretchSum (map T.number_in numbers.now) near first count sum → IsStretchSum (map T.number_in numbers.now) near first (count + 1) result }
 {
-    let number = numbers[place];
+    let number = number_at(numbers, place);
     NearSum {
         sum: wrapped_sum(sum.sum, number),
         bits: sum.bits | above_least(number, near),
@@ -34,10 +35,10 @@ fn with_next(sum: NearSum, numbers: &[i64], near: u64, place: usize) -> NearSum
 
 /// The sum of neighbours. The loop has no branches, and a processor adds several numbers at once.
 #[inline(never)]
-fn neighbours_sum(numbers: &[i64], first: usize, count: usize, near: u64) -> NearSum
+fn neighbours_sum<T: Numeric>(numbers: &[T], first: usize, count: usize, near: u64) -> NearSum
     requires within { first + count ≤ length numbers.now }
     requires near { near ≤ 2 ^ 46 }
-    ensures { IsStretchSum numbers.now near first count result }
+    ensures { IsStretchSum (map T.number_in numbers.now) near first count result }
 {
     let mut sum = NearSum { sum: 0, bits: 0 };
     for k in 0..count {
@@ -60,8 +61,8 @@ fn near_bound(items: usize) -> u64
 
 /// Rows of as many neighbours each, all cut alike into stretches.
 #[derive(Drop)]
-pub(crate) struct Stretches<'a> {
-    numbers: &'a [i64],
+pub(crate) struct Stretches<'a, T> {
+    numbers: &'a [T],
     /// How many rows there are.
     rows: usize,
     /// How many numbers each has.
@@ -81,15 +82,15 @@ pub(crate) struct Stretches<'a> {
     ghost within: { (row : ℕ) → row < rows → row * block + items ≤ length numbers.now },
 }
 
-impl Kernel for Stretches<'_> {
-    ghost use Rattle.std.specs.Prelude.{◌*◌};
+impl<T: Numeric> Kernel for Stretches<'_, T> {
+    ghost use Rattle.std.specs.Prelude.{◌*◌, map};
     ghost use Rattle.apl_reduce.specs.StretchSums.{sum_at};
 
     type Out = i64;
 
     ghost place_count = { λ s. s.rows * s.stretches };
 
-    ghost outcome = { λ s. sum_at s.numbers.now s.near s.items s.block s.stretches };
+    ghost outcome = { λ s. sum_at (map T.number_in s.numbers.now) s.near s.items s.block s.stretches };
 
     fn count(&self) -> usize {
         self.rows * self.stretches
@@ -117,9 +118,9 @@ impl Kernel for Stretches<'_> {
     }
 }
 
-impl Stretches<'_> {
+impl<T: Numeric> Stretches<'_, T> {
     /// The stretches of rows that begin `block` apart.
-    pub(crate) fn new(numbers: &[i64], rows: usize, items: usize, block: usize) -> Stretches<'_>
+    pub(crate) fn new(numbers: &[T], rows: usize, items: usize, block: usize) -> Stretches<'_, T>
         requires two { 2 ≤ items }
         requires most { rows * items ≤ MOST_PLACES }
         requires within { (row : ℕ) → row < rows → row * block + items ≤ length numbers.now }
@@ -141,8 +142,8 @@ impl Stretches<'_> {
     /// The sum of a row, of those of its stretches.
     fn row_sum(&self, sums: &[i64], row: usize) -> i64
         requires row { row < self.now.rows }
-        requires sums { let s = self.now in AreValues (sum_at s.numbers.now s.near s.items s.block s.stretches) (s.rows * s.stretches) sums.now }
-        ensures { let s = self.now in IsSumNear (number_from s.numbers.now (row * s.block)) s.near s.items result }
+        requires sums { let s = self.now in AreValues (sum_at (map T.number_in s.numbers.now) s.near s.items s.block s.stretches) (s.rows * s.stretches) sums.now }
+        ensures { let s = self.now in IsSumNear (number_from (map T.number_in s.numbers.now) (row * s.block)) s.near s.items result }
     {
         let first = row * self.stretches;
         let mut total = 0;
@@ -155,13 +156,13 @@ impl Stretches<'_> {
 
 /// The sums of all rows, of those of their stretches.
 #[derive(Drop)]
-struct RowSums<'a, 'b> {
-    rows: &'a Stretches<'b>,
+struct RowSums<'a, 'b, T: Numeric> {
+    rows: &'a Stretches<'b, T>,
     sums: &'a [i64],
-    ghost values: { let s = rows.now in AreValues (sum_at s.numbers.now s.near s.items s.block s.stretches) (s.rows * s.stretches) sums.now },
+    ghost values: { let s = rows.now in AreValues (sum_at (map T.number_in s.numbers.now) s.near s.items s.block s.stretches) (s.rows * s.stretches) sums.now },
 }
 
-impl Kernel for RowSums<'_, '_> {
+impl<T: Numeric> Kernel for RowSums<'_, '_, T> {
     ghost use Rattle.std.specs.Prelude.{map};
     ghost use Rattle.apl_array.specs.declared.array.Elem.TheVariants.{Int};
     ghost use Rattle.apl_array.specs.declared.function.ScalarFunction.TheVariants.{Plus};
@@ -171,7 +172,7 @@ impl Kernel for RowSums<'_, '_> {
 
     ghost place_count = { λ k. k.rows.now.rows };
 
-    ghost outcome = { λ k. fold_at Plus (map Int k.rows.now.numbers.now) k.rows.now.items k.rows.now.block 1 };
+    ghost outcome = { λ k. fold_at Plus (map Int (map T.number_in k.rows.now.numbers.now)) k.rows.now.items k.rows.now.block 1 };
 
     fn count(&self) -> usize {
         self.rows.rows
@@ -184,13 +185,13 @@ impl Kernel for RowSums<'_, '_> {
 }
 
 /// The sums of all rows, unless a number may be far from 0.
-pub(crate) fn fill_row_sums<W: Crew>(
+pub(crate) fn fill_row_sums<T: Numeric + Sync, W: Crew>(
     workers: &W,
-    rows: &Stretches,
+    rows: &Stretches<T>,
 ) -> Result<Option<Vec<i64>>, Stop>
     ensures values { let s = rows.now in
-        IfOk result (λ sums. IfSome sums (λ v. AreValues (fold_at Plus (map Int s.numbers.now) s.items s.block 1) s.rows v.items)) }
-    ensures stop { let s = rows.now in IfErr result (IsStopOf (fold_at Plus (map Int s.numbers.now) s.items s.block 1) s.rows) }
+        IfOk result (λ sums. IfSome sums (λ v. AreValues (fold_at Plus (map Int (map T.number_in s.numbers.now)) s.items s.block 1) s.rows v.items)) }
+    ensures stop { let s = rows.now in IfErr result (IsStopOf (fold_at Plus (map Int (map T.number_in s.numbers.now)) s.items s.block 1) s.rows) }
 {
     match workers.pool().fill(workers.rt(), workers.alloc(), rows) {
         Ok(sums) => {

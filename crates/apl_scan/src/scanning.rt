@@ -11,13 +11,17 @@ ghost use Rattle.apl_reduce.specs.Folding.{reduction};
 ghost use Rattle.apl_scan.specs.Scanning.{items_up_to, scanned, scan_row};
 
 use crate::lines::{AxisLines, fill_scans};
+use crate::summarized::put_scans;
 use crate::truth_scans::{TruthScan, scan_lines};
-use apl_answer::{OpFault, array_copy, array_from_fill, constant_array, numbers_of};
+use apl_answer::{
+    Numeric, OpFault, array_copy, array_from_fill, constant_array, elements_are_numbers, numbers_of,
+};
 use apl_array::{
     Array, Axis, Elements, ScalarFunction, Shape, places_match_index_lists,
     replaced_index_has_place, split_index_has_place,
 };
 use apl_pool::{Crew, Cut, Fault, Gate, Pool, Workers};
+use apl_summary::has_summary;
 use std::alloc::Global;
 use std::thread::Threads;
 
@@ -53,6 +57,32 @@ fn scan_made<W: Crew>(workers: &W, f: ScalarFunction, b: &Array, k: usize) -> Re
         unreachable!()
     };
     scan_numbers(workers, f, b, numbers.as_slice(), k)
+}
+
+/// The scan along axis `k`, of two and more items, of numbers as they are held. Along the last axis it is in one pass, if it can be.
+fn scan_held<T: Numeric, W: Crew>(
+    workers: &W,
+    f: ScalarFunction,
+    b: &Array,
+    elements: &[T],
+    k: usize,
+) -> Result<Array, OpFault>
+    requires axis { k < length b.now.shape }
+    requires some { 0 < count_of b.now.shape }
+    requires elements { b.now.ravel ≡ map T.elem_of elements.now }
+    requires kind { b.now.kind ≡ Number }
+    ensures { IsAnswerOf (answer_of b.now.shape (λ index. reduction f (items_up_to b.now k index)) Number) result }
+{
+    places_match_index_lists();
+    replaced_index_has_place();
+    split_index_has_place();
+    elements_are_numbers(elements);
+    if b.shape().inner(k) == 1 && has_summary(f) {
+        if let Some(values) = put_scans(workers, f, elements, b.shape().axis(k))? {
+            return array_from_fill(b.shape().copy(workers.alloc())?, Ok(values));
+        }
+    }
+    scan_made(workers, f, b, k)
 }
 
 /// The scan of truth values along axis `k`, of two and more items. Along the last axis they are scanned as they are, if they can be. Else
@@ -102,8 +132,8 @@ fn scan_items<W: Crew>(
         return constant_array(workers, b.shape().copy(workers.alloc())?, Ok(0));
     }
     match b.elements() {
-        Elements::Numbers(numbers) => scan_numbers(workers, f, b, numbers, k),
-        Elements::Narrow(_) => scan_made(workers, f, b, k),
+        Elements::Numbers(numbers) => scan_held(workers, f, b, numbers, k),
+        Elements::Narrow(numbers) => scan_held(workers, f, b, numbers, k),
         Elements::Truths(truths) => scan_truths(workers, f, b, truths, k),
         Elements::Characters(_) => constant_array(
             workers,

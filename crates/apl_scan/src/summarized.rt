@@ -1,5 +1,5 @@
 //! The folds of numbers up to each place of lines of neighbours, by summaries.
-ghost use Rattle.std.specs.Prelude.{◌≡◌, ℕ, true, ◌+◌, ◌-◌, ◌*◌, ◌/◌, ◌%◌, ◌<◌, ◌≤◌, IfOk, IfErr, IfSome, MatchOption, length, vec_len, vec_capacity};
+ghost use Rattle.std.specs.Prelude.{◌≡◌, ℕ, true, ◌+◌, ◌-◌, ◌*◌, ◌/◌, ◌%◌, ◌<◌, ◌≤◌, IfOk, IfErr, IfSome, MatchOption, length, map, vec_len, vec_capacity};
 ghost use Rattle.apl_pool.specs.declared.kernel.TheConstants.{MOST_PLACES};
 ghost use Rattle.apl_pool.specs.Pool.{AreValues, IsStopOf};
 ghost use Rattle.apl_pool.specs.Runs.{AreWritten};
@@ -13,6 +13,7 @@ ghost use Rattle.apl_scan.specs.Running.{line_before, chunks_before, IsChunkBefo
 use crate::bounded_summary::BoundedSummary;
 use crate::chunks::{CHUNK, Chunks, summarize};
 use crate::running::{fold_behind, with_next};
+use apl_answer::Numeric;
 use apl_array::ScalarFunction;
 use apl_divisor::Divisor;
 use apl_pool::{Crew, Fault, Kernel, Reused, Stop, Summary, fill};
@@ -203,14 +204,14 @@ pub(crate) fn room_for<T: Reused, W: Crew>(workers: &W, count: usize) -> Result<
 }
 
 /// The folds of numbers up to each place of lines of neighbours, line after line in one pass, if the summaries put all of them.
-fn put_lines<S: Running, W: Crew>(
+fn put_lines<S: Running, T: Numeric, W: Crew>(
     workers: &W,
-    numbers: &[i64],
+    numbers: &[T],
     items: usize,
 ) -> Result<Option<Vec<i64>>, AllocError>
     requires items { 0 < items }
     requires lines { length numbers.now / items * items ≡ length numbers.now }
-    ensures { IfOk result (λ lines. IfSome lines (λ v. AreValues (scan_at S.step numbers.now items 1) (length numbers.now) v.items)) }
+    ensures { IfOk result (λ lines. IfSome lines (λ v. AreValues (scan_at S.step (map T.number_in numbers.now) items 1) (length numbers.now) v.items)) }
 {
     let mut values = room_for(workers, numbers.len())?;
     for line in 0..numbers.len() / items {
@@ -226,6 +227,32 @@ fn put_lines<S: Running, W: Crew>(
 /// How many times as much work is asked for, since a scan that is shared goes over the numbers twice.
 const SUMMARIES: usize = 2;
 
+/// The folds of numbers up to each place of lines of neighbours, as `put_lines` has them, by a function whose folds have summaries. There
+/// are none if the workers are to share them.
+pub(crate) fn put_scans<T: Numeric, W: Crew>(
+    workers: &W,
+    f: ScalarFunction,
+    numbers: &[T],
+    items: usize,
+) -> Result<Option<Vec<i64>>, AllocError>
+    requires summary { has_summary f ≡ true }
+    requires items { 0 < items }
+    requires lines { length numbers.now / items * items ≡ length numbers.now }
+    ensures { IfOk result (λ lines. IfSome lines (λ v. AreValues (scan_at (dyadic_numbers f) (map T.number_in numbers.now) items 1) (length numbers.now) v.items)) }
+{
+    if workers
+        .pool()
+        .is_shared(numbers.len(), numbers.len() / SUMMARIES)
+    {
+        return Ok(None);
+    }
+    with_summary!(
+        f,
+        put_lines::<S, T, W>(workers, numbers, items),
+        unreachable!()
+    )
+}
+
 /// The folds of numbers up to each place of lines of neighbours, by one type of summaries.
 fn fill_summarized<S: Running + Copy + Drop + Send + Sync, W: Crew>(
     workers: &W,
@@ -238,12 +265,6 @@ fn fill_summarized<S: Running + Copy + Drop + Send + Sync, W: Crew>(
     ensures values { IfOk result (λ v. AreValues (scan_at S.step numbers.now items 1) (length numbers.now) v.items) }
     ensures stop { IfErr result (IsStopOf (scan_at S.step numbers.now items 1) (length numbers.now)) }
 {
-    let work = numbers.len() / SUMMARIES;
-    if !workers.pool().is_shared(numbers.len(), work) {
-        if let Some(values) = put_lines::<S, W>(workers, numbers, items)? {
-            return Ok(values);
-        }
-    }
     let per_line = (items - 1) / CHUNK;
     let beginnings: Vec<BoundedSummary<S>> = summarize_lines(workers, numbers, items, per_line)?;
     let scans = Scans {

@@ -1,5 +1,5 @@
 //! Sums of all numbers up to each, or differences, while the numbers are so small together that none is refused.
-ghost use Rattle.std.specs.Prelude.{◌≡◌, ℕ, ℤ, pos, neg_ℤ, ◌-ℤ◌, ◌+◌, ◌≤ℤ◌, ◌≤◌, [], nat_eq, IfSome, length, vec_len, vec_capacity};
+ghost use Rattle.std.specs.Prelude.{◌≡◌, ℕ, ℤ, pos, neg_ℤ, ◌-ℤ◌, ◌+◌, ◌≤ℤ◌, ◌≤◌, [], nat_eq, IfSome, length, map, vec_len, vec_capacity};
 ghost use Rattle.apl_pool.specs.Summaries.{IsI64};
 ghost use Rattle.apl_scalar.specs.Scalar.{dyadic_numbers};
 ghost use Rattle.apl_summary.specs.Constants.{signed_function};
@@ -9,6 +9,7 @@ ghost use Rattle.apl_summary.specs.Fronts.{signed_total, IsBoundedSum, IsBoundOf
 use crate::range::{greater_of, lesser_of};
 use crate::running::{PrefixState, append_scan_after, scan_run_after};
 use crate::running_sum::{RunningSum, is_minus};
+use apl_answer::Numeric;
 
 /// The fold of numbers by `+` if `MINUS` is 0, else by `-`. Beside it is how far the fold of every end stays within the range.
 #[derive(Clone, Copy)]
@@ -141,10 +142,10 @@ pub fn put_sums_behind<const MINUS: u8>(
 
 /// Appends the folds by `+` or `-` of all numbers up to each of these to a list that has room for them. It stops before the first that it
 /// can't tell.
-pub fn append_sums<const MINUS: u8>(numbers: &[i64], values: Vec<i64>) -> Vec<i64>
+pub fn append_sums<const MINUS: u8, T: Numeric>(numbers: &[T], values: Vec<i64>) -> Vec<i64>
     requires room { vec_len values + length numbers.now ≤ vec_capacity values }
     ensures most { vec_len result ≤ vec_len values + length numbers.now }
-    ensures folds { HasFoldsAppended (dyadic_numbers (signed_function (nat_eq MINUS 0))) numbers.now values.items result.items }
+    ensures folds { HasFoldsAppended (dyadic_numbers (signed_function (nat_eq MINUS 0))) (map T.number_in numbers.now) values.items result.items }
     ensures capacity { vec_capacity result ≡ vec_capacity values }
 {
     let start = values.len();

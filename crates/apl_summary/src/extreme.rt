@@ -6,6 +6,7 @@ use crate::extremum::{Extremum, extremum_of_run};
 use crate::running::{Running, append_scan_after, scan_run_after};
 use crate::running_columns::append_columns_after;
 use crate::running_extreme::RunningExtreme;
+use apl_answer::Numeric;
 use apl_pool::{Fault, Kernel, Summary};
 use std::alloc::{AllocError, Global};
 
@@ -67,7 +68,7 @@ impl<const GREATEST: u8> Running for Extreme<GREATEST> {
         scan_run_after(front, numbers, room)
     }
 
-    fn append_scan(numbers: &[i64], values: Vec<i64>) -> Vec<i64> {
+    fn append_scan<T: Numeric>(numbers: &[T], values: Vec<i64>) -> Vec<i64> {
         append_scan_after(RunningExtreme::<GREATEST>::none(), numbers, values)
     }
 

@@ -1,6 +1,7 @@
 //! Summaries of numbers that are folded from the right by a scalar function, so that a fold can be cut anywhere.
 //!
-//! Below it: `apl_array` for the names of functions, `apl_pool` for its trait `Summary`, and `apl_scalar` for the functions.
+//! Below it: `apl_array` for the names of functions, `apl_pool` for its trait `Summary`, `apl_answer` for numbers as they are held, and
+//! `apl_scalar` for the functions.
 //! Begin with `signed_sum.rt`, the summary under `+` and `-`, and then `folding.rt`, which chooses a summary.
 #![tactic(auto)]
 

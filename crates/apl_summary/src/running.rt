@@ -1,11 +1,12 @@
 //! Numbers after others, each folded with all before it.
-ghost use Rattle.std.specs.Prelude.{◌≡◌, ◌<◌, ◌≤◌, ◌+◌, ℕ, ℤ, List, [], ◌∷◌, ◌++◌, Result, Ok, IfOk, IfErr, IfSome, length, take, vec_len, vec_capacity};
+ghost use Rattle.std.specs.Prelude.{◌≡◌, ◌<◌, ◌≤◌, ◌+◌, ℕ, ℤ, List, [], ◌∷◌, ◌++◌, Result, Ok, IfOk, IfErr, IfSome, length, map, take, vec_len, vec_capacity};
 ghost use Rattle.apl_pool.specs.declared.kernel.Fault.{Fault};
 ghost use Rattle.apl_pool.specs.Summaries.{fold_onto};
 ghost use Rattle.apl_summary.specs.Running.{AreFoldsBehind, AreFoldsAfter, HasFoldsAppended};
 ghost use Rattle.apl_summary.specs.Fronts.{AreMoreFolds, HasMoreAppended, IsFrontBehind};
 ghost use Rattle.apl_summary.specs.Columns.{AreColumnFolds};
 
+use apl_answer::{Numeric, number_at};
 use apl_pool::{Fault, Summary};
 use std::alloc::{AllocError, Global};
 
@@ -25,10 +26,10 @@ pub trait Running: Summary<Item = i64> {
 
     /// Appends the folds of all numbers up to each of these to a list that has room for them. It appends the first of them, all or fewer,
     /// and takes no memory.
-    fn append_scan(_numbers: &[i64], values: Vec<i64>) -> Vec<i64>
+    fn append_scan<T: Numeric>(_numbers: &[T], values: Vec<i64>) -> Vec<i64>
         requires room { vec_len values + length _numbers.now ≤ vec_capacity values }
         ensures most { vec_len result ≤ vec_len values + length _numbers.now }
-        ensures folds { HasFoldsAppended Self.Summary.step _numbers.now values.items result.items }
+        ensures folds { HasFoldsAppended Self.Summary.step (map T.number_in _numbers.now) values.items result.items }
         ensures capacity { vec_capacity result ≡ vec_capacity values }
     {
         values
@@ -129,25 +130,25 @@ pub fn scan_run_after<F: PrefixState + Drop>(front: F, numbers: &[i64], room: &m
 /// Appends the folds of all numbers up to each of `count` from a place on. The front is of the numbers before that place. It answers the
 /// front of all of these, or none if it stopped before the first that the front can't tell.
 #[inline(always)]
-fn append_some<F: PrefixState + Drop>(
+fn append_some<F: PrefixState + Drop, T: Numeric>(
     front: F,
-    numbers: &[i64],
+    numbers: &[T],
     values: &mut Vec<i64>,
     from: usize,
     count: usize,
 ) -> Option<F>
     requires places { from + count ≤ length numbers.now }
     requires room { vec_len values.old + count ≤ vec_capacity values.old }
-    requires front { F.is_of front (take from numbers.now) }
+    requires front { F.is_of front (take from (map T.number_in numbers.now)) }
     ensures all { IfSome result (λ next. vec_len values.new ≡ vec_len values.old + count) }
     ensures most { vec_len values.new ≤ vec_len values.old + count }
-    ensures front { IfSome result (λ next. F.is_of next (take (from + count) numbers.now)) }
-    ensures folds { HasMoreAppended F.step numbers.now from values.old.items values.new.items }
+    ensures front { IfSome result (λ next. F.is_of next (take (from + count) (map T.number_in numbers.now))) }
+    ensures folds { HasMoreAppended F.step (map T.number_in numbers.now) from values.old.items values.new.items }
     ensures capacity { vec_capacity values.new ≡ vec_capacity values.old }
 {
     let mut state = front;
     for offset in 0..count {
-        let (value, next) = state.with(numbers[from + offset])?;
+        let (value, next) = state.with(number_at(numbers, from + offset))?;
         values.push_reserved(value);
         state = next;
     }
@@ -157,15 +158,15 @@ fn append_some<F: PrefixState + Drop>(
 /// Appends the folds of all numbers up to each of these to a list that has room for them. The front is of no number. It stops before the
 /// first that this can't tell.
 #[inline(always)]
-pub fn append_scan_after<F: PrefixState + Drop>(
+pub fn append_scan_after<F: PrefixState + Drop, T: Numeric>(
     front: F,
-    numbers: &[i64],
+    numbers: &[T],
     values: Vec<i64>,
 ) -> Vec<i64>
     requires none { F.is_of front [] }
     requires room { vec_len values + length numbers.now ≤ vec_capacity values }
     ensures most { vec_len result ≤ vec_len values + length numbers.now }
-    ensures folds { HasFoldsAppended F.step numbers.now values.items result.items }
+    ensures folds { HasFoldsAppended F.step (map T.number_in numbers.now) values.items result.items }
     ensures capacity { vec_capacity result ≡ vec_capacity values }
 {
     let mut front = front;

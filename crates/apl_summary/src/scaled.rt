@@ -7,6 +7,7 @@ use crate::coefficients::Coefficients;
 use crate::running::{Running, append_scan_after, scan_run_after};
 use crate::running_columns::append_columns_after;
 use crate::small_coefficients::small_coefficients;
+use apl_answer::Numeric;
 use apl_pool::{Fault, Kernel, Summary};
 use std::alloc::{AllocError, Global};
 
@@ -72,7 +73,7 @@ impl Running for Scaled {
         }
     }
 
-    fn append_scan(numbers: &[i64], values: Vec<i64>) -> Vec<i64> {
+    fn append_scan<T: Numeric>(numbers: &[T], values: Vec<i64>) -> Vec<i64> {
         append_scan_after(BoundedProduct::none(), numbers, values)
     }
 

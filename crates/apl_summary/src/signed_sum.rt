@@ -9,6 +9,7 @@ use crate::running::Running;
 use crate::running_columns::append_columns_after;
 use crate::running_sum::RunningSum;
 use crate::small_constants::small_constants;
+use apl_answer::Numeric;
 use apl_pool::{Fault, Kernel, Summary};
 use std::alloc::{AllocError, Global};
 
@@ -74,8 +75,8 @@ impl<const MINUS: u8> Running for SignedSum<MINUS> {
         }
     }
 
-    fn append_scan(numbers: &[i64], values: Vec<i64>) -> Vec<i64> {
-        append_sums::<MINUS>(numbers, values)
+    fn append_scan<T: Numeric>(numbers: &[T], values: Vec<i64>) -> Vec<i64> {
+        append_sums::<MINUS, T>(numbers, values)
     }
 
     fn append_columns(

@@ -6,6 +6,7 @@ use crate::answers::Answers;
 use crate::running::{Running, append_scan_after, scan_run_after};
 use crate::running_bits::{RunningBits, answers_of_run};
 use crate::running_columns::append_columns_after;
+use apl_answer::Numeric;
 use apl_pool::{Fault, Kernel, Summary};
 use apl_scalar::function_types::{
     And, Equal, Function, Greater, GreaterOrEqual, Less, LessOrEqual, Nand, Nor, NotEqual, Or,
@@ -122,7 +123,7 @@ impl<P: TwoValuedFunction + Drop> Running for TwoValued<P> {
         }
     }
 
-    fn append_scan(numbers: &[i64], values: Vec<i64>) -> Vec<i64> {
+    fn append_scan<T: Numeric>(numbers: &[T], values: Vec<i64>) -> Vec<i64> {
         append_scan_after(RunningBits::<P>::none(), numbers, values)
     }
 

@@ -1,15 +1,13 @@
-use Rattle.std.proofs.Common.{map, refl}
-use Rattle.apl_array.specs.Array.{bit, truth_element}
+use Rattle.std.proofs.Common.{map}
+use Rattle.apl_array.specs.Array.{truth_element}
 use Rattle.apl_reduce.specs.Folded.{fold_at}
-use Rattle.apl_reduce.proofs.Onto.{axis_row}
 use Rattle.apl_reduce.proofs.axis_items.fill_truth_folds.Goals as goal
 
 pub returns-then-shares_items : goal.returns-then-shares_items
 returns-then-shares_items g c =
     let axis = c.args.axis.now in
-    let elements = axis.elements.now in
-    let fold = fold_at c.args.f (map truth_element elements) axis.items axis.block axis.inner in
+    let fold = fold_at c.args.f (map truth_element axis.elements.now) axis.items axis.block axis.inner in
     record {
-      values = c.fold_rows.ensures.values fold (λ place below. axis_row truth_element bit (λ x. refl) c.args.f elements axis.items axis.block axis.inner place axis.two);
-      stop = c.fold_rows.ensures.stop fold (λ place below. axis_row truth_element bit (λ x. refl) c.args.f elements axis.items axis.block axis.inner place axis.two);
+      values = c.fold_rows.ensures.values fold c.rows_have_folds.ensures;
+      stop = c.fold_rows.ensures.stop fold c.rows_have_folds.ensures;
     }

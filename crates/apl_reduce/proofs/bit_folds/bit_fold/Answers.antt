@@ -23,28 +23,28 @@ pub returns-then-bits-eq1 : goal.returns-then-bits-eq1
 returns-then-bits-eq1 g c =
     let at = (goal.at.returns-then-bits-eq1 g c).After-FUNCTION in
     let named = sym c.FUNCTION.ensures ∙ c.in-And.is in
-    ap (λ f. folded_onto f (item_in (map Int c.args.numbers.now)) c.args.first (2 * c.args.half) (Ok c.args.total)) named
-    ∙ and_of_ones c.args.numbers.now c.args.first (2 * c.args.half) _ _ c.of_halves-bits.ensures (any_low g at) c.args.total c.ranges.total (total_low g at) (omega (arith, c.if-bits-eq1.true))
+    ap (λ f. folded_onto f (item_in (map Int (map g.T.Numeric.number_in c.args.numbers.now))) c.args.first (2 * c.args.half) (Ok c.args.total)) named
+    ∙ and_of_ones (map g.T.Numeric.number_in c.args.numbers.now) c.args.first (2 * c.args.half) _ _ c.of_halves-bits.ensures (any_low g at) c.args.total c.ranges.total (total_low g at) (omega (arith, c.if-bits-eq1.true))
     ∙ ap (λ (z : ℤ). Ok z) (sym (read g at))
 
 pub returns-else-bits-eq1 : goal.returns-else-bits-eq1
 returns-else-bits-eq1 g c =
     let at = (goal.at.returns-else-bits-eq1 g c).After-FUNCTION in
     let named = sym c.FUNCTION.ensures ∙ c.in-And.is in
-    ap (λ f. folded_onto f (item_in (map Int c.args.numbers.now)) c.args.first (2 * c.args.half) (Ok c.args.total)) named
-    ∙ and_with_zero c.args.numbers.now c.args.first (2 * c.args.half) _ _ c.of_halves-bits.ensures (any_low g at) c.args.total c.ranges.total (total_low g at) (omega (arith, c.of_halves-bits.ensures.low, c.if-bits-eq1.false))
+    ap (λ f. folded_onto f (item_in (map Int (map g.T.Numeric.number_in c.args.numbers.now))) c.args.first (2 * c.args.half) (Ok c.args.total)) named
+    ∙ and_with_zero (map g.T.Numeric.number_in c.args.numbers.now) c.args.first (2 * c.args.half) _ _ c.of_halves-bits.ensures (any_low g at) c.args.total c.ranges.total (total_low g at) (omega (arith, c.of_halves-bits.ensures.low, c.if-bits-eq1.false))
 
 pub returns-then-bits-eq1-2 : goal.returns-then-bits-eq1-2
 returns-then-bits-eq1-2 g c =
     let at = (goal.at.returns-then-bits-eq1-2 g c).After-FUNCTION in
     let named = sym c.FUNCTION.ensures ∙ c.in-Or.is in
-    ap (λ f. folded_onto f (item_in (map Int c.args.numbers.now)) c.args.first (2 * c.args.half) (Ok c.args.total)) named
-    ∙ or_with_one c.args.numbers.now c.args.first (2 * c.args.half) _ _ c.of_halves-bits.ensures (any_low g at) c.args.total c.ranges.total (total_low g at) (omega (arith, c.if-bits-eq1-2.true))
+    ap (λ f. folded_onto f (item_in (map Int (map g.T.Numeric.number_in c.args.numbers.now))) c.args.first (2 * c.args.half) (Ok c.args.total)) named
+    ∙ or_with_one (map g.T.Numeric.number_in c.args.numbers.now) c.args.first (2 * c.args.half) _ _ c.of_halves-bits.ensures (any_low g at) c.args.total c.ranges.total (total_low g at) (omega (arith, c.if-bits-eq1-2.true))
 
 pub returns-else-bits-eq1-2 : goal.returns-else-bits-eq1-2
 returns-else-bits-eq1-2 g c =
     let at = (goal.at.returns-else-bits-eq1-2 g c).After-FUNCTION in
     let named = sym c.FUNCTION.ensures ∙ c.in-Or.is in
-    ap (λ f. folded_onto f (item_in (map Int c.args.numbers.now)) c.args.first (2 * c.args.half) (Ok c.args.total)) named
-    ∙ or_of_zeros c.args.numbers.now c.args.first (2 * c.args.half) _ _ c.of_halves-bits.ensures (any_low g at) c.args.total c.ranges.total (total_low g at) (omega (arith, any_low g at, c.if-bits-eq1-2.false))
+    ap (λ f. folded_onto f (item_in (map Int (map g.T.Numeric.number_in c.args.numbers.now))) c.args.first (2 * c.args.half) (Ok c.args.total)) named
+    ∙ or_of_zeros (map g.T.Numeric.number_in c.args.numbers.now) c.args.first (2 * c.args.half) _ _ c.of_halves-bits.ensures (any_low g at) c.args.total c.ranges.total (total_low g at) (omega (arith, any_low g at, c.if-bits-eq1-2.false))
     ∙ ap (λ (z : ℤ). Ok z) (sym (read g at))

@@ -6,8 +6,8 @@ use Rattle.apl_reduce.proofs.extreme_folds.each_extreme.Given as goal
 
 abbrev pub invariant-loop-k : goal.invariant-loop-k
 invariant-loop-k g l = record {
-  first : folded_onto g.E.Extreme.function (item_in (map Int l.numbers)) l.starts.first l.k (Ok l.fn.totals.first) ≡ Ok l.one;
-  second : folded_onto g.E.Extreme.function (item_in (map Int l.numbers)) l.starts.second l.k (Ok l.fn.totals.second) ≡ Ok l.two;
-  third : folded_onto g.E.Extreme.function (item_in (map Int l.numbers)) l.starts.third l.k (Ok l.fn.totals.third) ≡ Ok l.three;
-  fourth : folded_onto g.E.Extreme.function (item_in (map Int l.numbers)) l.starts.fourth l.k (Ok l.fn.totals.fourth) ≡ Ok l.four;
+  first : folded_onto g.E.Extreme.function (item_in (map Int (map g.T.Numeric.number_in l.numbers))) l.starts.first l.k (Ok l.fn.totals.first) ≡ Ok l.one;
+  second : folded_onto g.E.Extreme.function (item_in (map Int (map g.T.Numeric.number_in l.numbers))) l.starts.second l.k (Ok l.fn.totals.second) ≡ Ok l.two;
+  third : folded_onto g.E.Extreme.function (item_in (map Int (map g.T.Numeric.number_in l.numbers))) l.starts.third l.k (Ok l.fn.totals.third) ≡ Ok l.three;
+  fourth : folded_onto g.E.Extreme.function (item_in (map Int (map g.T.Numeric.number_in l.numbers))) l.starts.fourth l.k (Ok l.fn.totals.fourth) ≡ Ok l.four;
 }

@@ -9,7 +9,7 @@ pub loop-k-preserved : goal.loop-k-preserved
 loop-k-preserved g c =
     let first = c.args.first in
     let k = c.loop-k.k in
-    let next = one_more g.E.Extreme.function g.E.Extreme.of_two c.of_two-low.ensures.laws c.args.numbers.now in
+    let next = one_more g.E.Extreme.function g.E.Extreme.of_two c.of_two-low.ensures.laws (map g.T.Numeric.number_in c.args.numbers.now) in
     let low = next first k _ _ c.loop-k.invariant.low in
     let high = next (first + c.args.half) k _ _ c.loop-k.invariant.high in
     search rules
@@ -17,7 +17,7 @@ loop-k-preserved g c =
 pub returns : goal.returns
 returns g c =
     let f = g.E.Extreme.function in
-    let numbers = c.args.numbers.now in
+    let numbers = map g.T.Numeric.number_in c.args.numbers.now in
     let item = item_in (map Int numbers) in
     let first = c.args.first in
     let half = c.args.half in

@@ -1,10 +1,10 @@
-use Rattle.std.proofs.Common.{◌≡◌, ◌+◌, refl, subst, arith}
+use Rattle.std.proofs.Common.{◌≡◌, ◌+◌, refl, subst, arith, map}
 use Rattle.apl_reduce.proofs.halves.of_halves.Goals as goal
 
 pub loop-k-init : goal.loop-k-init
 loop-k-init g c = record {
-  low = c.none-low.ensures c.args.numbers.now c.args.first;
-  high = c.none-high.ensures c.args.numbers.now (c.args.first + c.args.half);
+  low = c.none-low.ensures (map g.T.Numeric.number_in c.args.numbers.now) c.args.first;
+  high = c.none-high.ensures (map g.T.Numeric.number_in c.args.numbers.now) (c.args.first + c.args.half);
 }
 
 pub loop-k-preserved : goal.loop-k-preserved
@@ -15,7 +15,7 @@ loop-k-preserved g c = record {
 
 pub returns : goal.returns
 returns g c =
-    let numbers = c.args.numbers.now in
+    let numbers = map g.T.Numeric.number_in c.args.numbers.now in
     let first = c.args.first in
     let half = c.args.half in
     let done : c.loop-k.k ≡ half = omega (arith, c.loop-k-test.false, c.loop-k.auto.k-end) in

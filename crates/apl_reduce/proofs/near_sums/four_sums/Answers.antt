@@ -1,17 +1,17 @@
-use Rattle.std.proofs.Common.{◌≡◌, ◌<◌, subst, arith}
+use Rattle.std.proofs.Common.{◌≡◌, ◌<◌, subst, arith, map}
 use Rattle.apl_reduce.specs.Magnitudes.{IsSum}
 use Rattle.apl_reduce.proofs.near_sums.four_sums.Goals as goal
 
 pub loop-k-init : goal.loop-k-init
-loop-k-init c = record {
-  first = c.none-one.ensures c.args.numbers.now _ _;
-  second = c.none-two.ensures c.args.numbers.now _ _;
-  third = c.none-three.ensures c.args.numbers.now _ _;
-  fourth = c.none-four.ensures c.args.numbers.now _ _;
+loop-k-init g c = record {
+  first = c.none-one.ensures (map g.T.Numeric.number_in c.args.numbers.now) _ _;
+  second = c.none-two.ensures (map g.T.Numeric.number_in c.args.numbers.now) _ _;
+  third = c.none-three.ensures (map g.T.Numeric.number_in c.args.numbers.now) _ _;
+  fourth = c.none-four.ensures (map g.T.Numeric.number_in c.args.numbers.now) _ _;
 }
 
 pub loop-k-preserved : goal.loop-k-preserved
-loop-k-preserved c =
+loop-k-preserved g c =
     let few : c.loop-k.k < 65536 = omega (arith, c.requires.few, c.loop-k-test.true) in
     record {
       first = c.with_next-one.ensures few c.loop-k.invariant.first;
@@ -21,21 +21,21 @@ loop-k-preserved c =
     }
 
 pub returns-clause-first : goal.returns-clause-first
-returns-clause-first c =
+returns-clause-first g c =
     let all : c.loop-k.k ≡ c.args.count = omega (arith, c.loop-k-test.false, c.loop-k.auto.k-end) in
-    subst (λ k. IsSum c.args.numbers.now c.args.starts.first 1 k c.loop-k.one) all c.loop-k.invariant.first
+    subst (λ k. IsSum (map g.T.Numeric.number_in c.args.numbers.now) c.args.starts.first 1 k c.loop-k.one) all c.loop-k.invariant.first
 
 pub returns-clause-second : goal.returns-clause-second
-returns-clause-second c =
+returns-clause-second g c =
     let all : c.loop-k.k ≡ c.args.count = omega (arith, c.loop-k-test.false, c.loop-k.auto.k-end) in
-    subst (λ k. IsSum c.args.numbers.now c.args.starts.second 1 k c.loop-k.two) all c.loop-k.invariant.second
+    subst (λ k. IsSum (map g.T.Numeric.number_in c.args.numbers.now) c.args.starts.second 1 k c.loop-k.two) all c.loop-k.invariant.second
 
 pub returns-clause-third : goal.returns-clause-third
-returns-clause-third c =
+returns-clause-third g c =
     let all : c.loop-k.k ≡ c.args.count = omega (arith, c.loop-k-test.false, c.loop-k.auto.k-end) in
-    subst (λ k. IsSum c.args.numbers.now c.args.starts.third 1 k c.loop-k.three) all c.loop-k.invariant.third
+    subst (λ k. IsSum (map g.T.Numeric.number_in c.args.numbers.now) c.args.starts.third 1 k c.loop-k.three) all c.loop-k.invariant.third
 
 pub returns-clause-fourth : goal.returns-clause-fourth
-returns-clause-fourth c =
+returns-clause-fourth g c =
     let all : c.loop-k.k ≡ c.args.count = omega (arith, c.loop-k-test.false, c.loop-k.auto.k-end) in
-    subst (λ k. IsSum c.args.numbers.now c.args.starts.fourth 1 k c.loop-k.four) all c.loop-k.invariant.fourth
+    subst (λ k. IsSum (map g.T.Numeric.number_in c.args.numbers.now) c.args.starts.fourth 1 k c.loop-k.four) all c.loop-k.invariant.fourth

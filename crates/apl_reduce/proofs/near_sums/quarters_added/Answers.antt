@@ -1,11 +1,11 @@
-use Rattle.std.proofs.Common.{◌≡◌, ◌+◌, ◌*◌, ◌≤◌, subst, ◌∙◌, arith}
+use Rattle.std.proofs.Common.{◌≡◌, ◌+◌, ◌*◌, ◌≤◌, subst, ◌∙◌, arith, map}
 use Rattle.apl_reduce.specs.Magnitudes.{IsSum}
 use Rattle.apl_reduce.proofs.NearFolds.{near_plus}
 use Rattle.apl_reduce.proofs.near_sums.quarters_added.Goals as goal
 
 pub returns : goal.returns
-returns c = λ low total small.
-    let numbers = c.args.numbers.now in
+returns g c = λ low total small.
+    let numbers = map g.T.Numeric.number_in c.args.numbers.now in
     let first = c.args.first in
     let n = c.args.quarter in
     let sums = c.four_sums-sums in

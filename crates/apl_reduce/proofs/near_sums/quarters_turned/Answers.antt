@@ -1,10 +1,10 @@
-use Rattle.std.proofs.Common.{◌≡◌, ◌+◌, ◌*◌, ◌≤◌, subst, ◌∙◌, arith}
+use Rattle.std.proofs.Common.{◌≡◌, ◌+◌, ◌*◌, ◌≤◌, subst, ◌∙◌, arith, map}
 use Rattle.apl_reduce.specs.FourFolds.{ArePairSums}
 use Rattle.apl_reduce.proofs.near_sums.quarters_turned.Goals as goal
 
 pub returns : goal.returns
-returns c =
-    let numbers = c.args.numbers.now in
+returns g c =
+    let numbers = map g.T.Numeric.number_in c.args.numbers.now in
     let first = c.args.first in
     let n = c.args.quarter in
     let sums = c.pair_sums-sums in

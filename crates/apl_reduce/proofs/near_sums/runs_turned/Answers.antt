@@ -1,8 +1,9 @@
+use Rattle.std.proofs.Common.{map}
 use Rattle.apl_reduce.proofs.near_sums.runs_turned.Goals as goal
 
 pub returns : goal.returns
-returns c =
-    let numbers = c.args.numbers.now in
+returns g c =
+    let numbers = map g.T.Numeric.number_in c.args.numbers.now in
     let few = c.requires.few in
     let sums = c.pair_sums-sums.ensures in
     record {

@@ -33,8 +33,8 @@ returns g c =
           let ravel : b.ravel ≡ map Int w.in-Narrow.numbers.now = ap (λ (a : ArrayValue). a.ravel) w.in-Narrow.ensures.elements in
           let axis = w.new-axis-in-Narrow in
           let at_place = fold_at c.args.f (map Int axis.result.elements.now) axis.result.items axis.result.block axis.result.inner in
-          let values = subst (λ n. IfOk w.fill_narrow_folds-filled.result (λ v. AreValues at_place n v.items)) axis.ensures.count w.fill_narrow_folds-filled.ensures.values in
-          let stop = subst (λ n. IfErr w.fill_narrow_folds-filled.result (IsStopOf at_place n)) axis.ensures.count w.fill_narrow_folds-filled.ensures.stop in
+          let values = subst (λ n. IfOk w.fill_number_folds-filled-in-Narrow.result (λ v. AreValues at_place n v.items)) axis.ensures.count w.fill_number_folds-filled-in-Narrow.ensures.values in
+          let stop = subst (λ n. IfErr w.fill_number_folds-filled-in-Narrow.result (IsStopOf at_place n)) axis.ensures.count w.fill_number_folds-filled-in-Narrow.ensures.stop in
           c.array_from_fill.ensures at_place (λ index. reduction c.args.f (items_along b k index))
           (outcomes (map Int axis.result.elements.now) axis.result.items axis.result.block axis.result.inner (ravel ∙ ap (map Int) (sym axis.ensures.elements)) axis.ensures.items axis.ensures.block axis.ensures.inner c.requires.two c.requires.shape)
           (subst (λ r. IfOk r (λ v. AreValues at_place (count_of shape) v.items)) (sym w.filled-is) values)

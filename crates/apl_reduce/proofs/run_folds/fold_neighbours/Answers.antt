@@ -9,7 +9,7 @@ use Rattle.apl_reduce.proofs.run_folds.fold_neighbours.Goals as goal
 pub returns-in-Err : goal.returns-in-Err
 returns-in-Err g c =
     let f = g.F.Function.FUNCTION in
-    let item = item_in (map Int c.args.numbers.now) in
+    let item = item_in (map g.T.ElementType.elem_of c.args.numbers.now) in
     let rest = c.loop-rest.rest in
     let start : Result ℤ Fault = Ok (to_z w64 (of_z w64 c.args.total)) in
     let read : to_z w64 (of_z w64 c.args.total) ≡ c.args.total = search rules in
@@ -23,7 +23,7 @@ returns-in-Err g c =
 pub loop-rest-preserved : goal.loop-rest-preserved
 loop-rest-preserved g c =
     let f = g.F.Function.FUNCTION in
-    let item = item_in (map Int c.args.numbers.now) in
+    let item = item_in (map g.T.ElementType.elem_of c.args.numbers.now) in
     let rest = c.loop-rest.rest in
     let next = rest - 8 * c.min-quarter.result in
     let kept = c.loop-rest.invariant in
@@ -37,7 +37,7 @@ loop-rest-preserved g c =
 pub returns : goal.returns
 returns g c =
     let f = g.F.Function.FUNCTION in
-    let item = item_in (map Int c.args.numbers.now) in
+    let item = item_in (map g.T.ElementType.elem_of c.args.numbers.now) in
     let rest = c.loop-rest.rest in
     let start : Result ℤ Fault = Ok (to_z w64 (of_z w64 c.args.total)) in
     let read : to_z w64 (of_z w64 c.args.total) ≡ c.args.total = search rules in
@@ -45,7 +45,7 @@ returns g c =
     let kept = c.loop-rest.invariant in
     let front : c.args.first ≡ c.args.first + 0 = omega arith in
     let all : c.args.count - 0 ≡ c.args.count = omega arith in
-    c.fold_items.ensures ∙ by_places f (map Int c.args.numbers.now) c.args.first rest so_far
+    c.fold_items.ensures ∙ by_places f (map g.T.ElementType.elem_of c.args.numbers.now) c.args.first rest so_far
     ∙ ap (λ i. folded_onto f item i rest so_far) front
     ∙ run_onto f item c.args.first 0 rest rest c.args.count so_far start (omega arith) kept.order kept.total
     ∙ ap (λ i. folded_onto f item i (c.args.count - 0) start) (sym front)

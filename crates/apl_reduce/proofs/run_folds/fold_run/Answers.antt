@@ -10,7 +10,7 @@ use Rattle.apl_reduce.proofs.run_folds.fold_run.Goals as goal
 pub returns-in-None : goal.returns-in-None
 returns-in-None g c =
     let f = g.F.Function.FUNCTION in
-    let items = map Int c.args.numbers.now in
+    let items = map g.T.ElementType.elem_of c.args.numbers.now in
     let first = c.args.first in
     let quarter = c.args.quarter in
     let start : Result ℤ Fault = Ok (to_z w64 (of_z w64 c.args.total)) in

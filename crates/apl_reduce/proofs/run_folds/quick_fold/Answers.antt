@@ -9,7 +9,7 @@ use Rattle.apl_reduce.proofs.run_folds.quick_fold.Goals as goal
 
 pub returns-in-Plus : goal.returns-in-Plus
 returns-in-Plus g c =
-    let item = item_in (map Int c.args.numbers.now) in
+    let item = item_in (map Int (map g.T.Numeric.number_in c.args.numbers.now)) in
     let first = c.args.first in
     let count = 2 * (2 * (2 * c.args.quarter)) in
     let named = sym c.FUNCTION.ensures ∙ c.in-Plus.is in
@@ -17,11 +17,11 @@ returns-in-Plus g c =
     IfSome_then c.near_total.result c.near_total.ensures (λ z all.
     ap (λ f. folded_onto f item first count (Ok c.args.total)) named
     ∙ ap (λ (t : ℤ). folded_onto Plus item first count (Ok t)) (sym read)
-    ∙ all Plus c.args.numbers.now first count c.quarters_added.ensures)
+    ∙ all Plus (map g.T.Numeric.number_in c.args.numbers.now) first count c.quarters_added.ensures)
 
 pub returns-in-Minus : goal.returns-in-Minus
 returns-in-Minus g c =
-    let item = item_in (map Int c.args.numbers.now) in
+    let item = item_in (map Int (map g.T.Numeric.number_in c.args.numbers.now)) in
     let first = c.args.first in
     let count = 2 * (2 * (2 * c.args.quarter)) in
     let named = sym c.FUNCTION.ensures ∙ c.in-Minus.is in
@@ -29,4 +29,4 @@ returns-in-Minus g c =
     IfSome_then c.near_total-in-Minus.result c.near_total-in-Minus.ensures (λ z all.
     ap (λ f. folded_onto f item first count (Ok c.args.total)) named
     ∙ ap (λ (t : ℤ). folded_onto Minus item first count (Ok t)) (sym read)
-    ∙ all Minus c.args.numbers.now first count c.quarters_turned.ensures)
+    ∙ all Minus (map g.T.Numeric.number_in c.args.numbers.now) first count c.quarters_turned.ensures)

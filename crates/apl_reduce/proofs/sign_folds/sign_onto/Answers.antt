@@ -7,7 +7,7 @@ use Rattle.apl_reduce.proofs.sign_folds.sign_onto.Goals as goal
 use Rattle.apl_reduce.proofs.sign_folds.sign_onto.Goals.{then-run-eq0, else-run-eq0}
 
 pub returns-else-run : goal.returns-else-run
-returns-else-run c =
+returns-else-run g c =
     let t = c.args.total in
     let run = c.of_halves-run.result in
     let read : to_z w64 (of_z w64 t) ≡ t = to_z-of_z w64 t c.ranges.total in

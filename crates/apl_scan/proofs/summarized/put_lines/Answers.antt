@@ -1,4 +1,5 @@
-use Rattle.std.proofs.Common.{◌≡◌, ◌+◌, ◌-◌, ◌*◌, length, vec_len, refl, subst, rules, arith}
+use Rattle.std.proofs.Common.{◌≡◌, ◌+◌, ◌-◌, ◌*◌, map, length, vec_len, refl, subst, rules, arith}
+use Rattle.std.proofs.lemmas.List.{length-map}
 use Rattle.apl_pool.specs.Pool.{AreValues}
 use Rattle.apl_scan.specs.Lines.{scan_at}
 use Rattle.apl_scan.proofs.ScannedPlaces.{line_appended, line_within}
@@ -7,14 +8,14 @@ use Rattle.apl_scan.proofs.summarized.put_lines.Goals as goal
 pub loop-line-preserved : goal.loop-line-preserved
 loop-line-preserved g c =
     let step = g.S.Summary.step in
-    let numbers = c.args.numbers.now in
+    let numbers = map g.T.Numeric.number_in c.args.numbers.now in
     let items = c.args.items in
     let line = c.loop-line.line in
     let first = line * items in
     let kept = c.loop-line.invariant in
     let put = c.append_scan-values.ensures in
     let values = c.append_scan-values.result in
-    let within = line_within (length numbers) items line c.loop-line-test.true in
+    let within = line_within (length numbers) items line (omega (arith, c.loop-line-test.true, length-map c.args.numbers.now g.T.Numeric.number_in)) in
     let own : vec_len values ≡ length values.items = search rules in
     let all : first + items - first ≡ items = omega arith in
     let next : first + items ≡ (line + 1) * items = omega arith in

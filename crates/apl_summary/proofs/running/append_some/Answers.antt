@@ -1,5 +1,5 @@
-use Rattle.std.proofs.Common.{◌≡◌, ℤ, pos, ◌+◌, ◌<◌, [], ◌∷◌, ◌++◌, Ok, length, take, slice_index_or, to_z, of_z, w64, sym, ap, subst, ◌∙◌, rules, arith}
-use Rattle.std.proofs.lemmas.List.{length_push}
+use Rattle.std.proofs.Common.{◌≡◌, ℤ, pos, ◌+◌, ◌<◌, [], ◌∷◌, ◌++◌, Ok, length, map, take, slice_index_or, to_z, of_z, w64, sym, ap, subst, ◌∙◌, rules, arith}
+use Rattle.std.proofs.lemmas.List.{length_push, length-map}
 use Rattle.apl_pool.specs.Summaries.{fold_onto}
 use Rattle.apl_summary.specs.Fronts.{HasMoreAppended}
 use Rattle.apl_summary.proofs.FrontNumbers.{one_more_behind, one_more_appended}
@@ -8,7 +8,7 @@ use Rattle.apl_summary.proofs.running.append_some.Goals as goal
 pub loop-offset-preserved : goal.loop-offset-preserved
 loop-offset-preserved g c =
     let step = g.F.PrefixState.step in
-    let numbers = c.args.numbers.now in
+    let numbers = map g.T.Numeric.number_in c.args.numbers.now in
     let from = c.args.from in
     let old = c.args.values.now.items in
     let k = from + c.loop-offset.offset in
@@ -16,9 +16,9 @@ loop-offset-preserved g c =
     let values = c.loop-offset.values.items in
     let value : ℤ = to_z w64 (of_z w64 c.in_ok-value.value) in
     let x : ℤ = slice_index_or numbers k (pos 0) in
-    let read : to_z w64 (of_z w64 x) ≡ x = search rules in
+    let read : c.number_at.result ≡ x = c.number_at.ensures in
     let stored : value ≡ c.in_ok-value.value = search rules in
-    let inside : k < length numbers = omega (arith, c.loop-offset-test.true, c.requires.places) in
+    let inside : k < length numbers = omega (arith, c.loop-offset-test.true, c.requires.places, length-map c.args.numbers.now g.T.Numeric.number_in) in
     let pushed : c.push_reserved.new.self.items ≡ values ++ value ∷ [] = c.push_reserved.ensures.items in
     let next : k + 1 ≡ from + (c.loop-offset.offset + 1) = omega arith in
     record {

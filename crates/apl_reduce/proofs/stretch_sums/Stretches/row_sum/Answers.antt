@@ -1,11 +1,11 @@
-use Rattle.std.proofs.Common.{◌*◌, ◌+◌, ◌<◌, pos, slice_index_or, FitsSigned, w64, rules}
+use Rattle.std.proofs.Common.{◌*◌, ◌+◌, ◌<◌, map, pos, slice_index_or, FitsSigned, w64, rules}
 use Rattle.apl_reduce.proofs.StretchSums.{inside_rows, stretch_of_row, next_stretch}
 use Rattle.apl_reduce.proofs.stretch_sums.Stretches.row_sum.Goals as goal
 
 pub loop-k-preserved : goal.loop-k-preserved
-loop-k-preserved c =
+loop-k-preserved g c =
     let s = c.args.self.now in
-    let numbers = s.numbers.now in
+    let numbers = map g.T.Numeric.number_in s.numbers.now in
     let row = c.args.row in
     let k = c.loop-k.k in
     let place = row * s.stretches + k in
