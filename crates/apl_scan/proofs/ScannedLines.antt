@@ -1,6 +1,6 @@
 -- The reductions of the items up to each place, by the places of the numbers.
 use Rattle.std.proofs.Common.{◌≡◌, ℕ, zero, suc, ℤ, pos, ◌+◌, ◌-◌, ◌*◌, ◌/◌, ◌%◌, ◌<◌, ◌≤◌, List, map, length, Result, Ok, Err, slice_index, slice_index_or, refl, ap, sym, ◌∙◌, arith, div-add-mod', mul-pos}
-use Rattle.std.specs.Prelude.{◌^◌, drop, slice_set}
+use Rattle.std.specs.Prelude.{◌^◌, take, drop, slice_set}
 use Rattle.std.specs.List.{range_with_len}
 use Rattle.std.proofs.Math.Nat.{div-div-eq-div-mul, div-eq_of_lt-le}
 use Rattle.std.proofs.Math.ListN.{get_or-map}
@@ -77,6 +77,21 @@ whole_lines outer items inner count items_some inner_some is =
     let some : 0 < items * inner = mul-pos items_some inner_some in
     let same : count / (items * inner) ≡ outer = div-eq_of_lt-le (items * inner) (omega (arith, is)) (omega (arith, is, some)) in
     ap (λ q. q * (items * inner)) same ∙ omega (arith, is)
+
+-- the axis is of neighbours, and the elements are whole lines along it
+pub record AreLines (shape : List ℕ) (k count : ℕ) : Type 0 where
+  pub some : 0 < slice_index shape k
+  pub whole : count / slice_index shape k * slice_index shape k ≡ count
+
+pub are_lines : (shape : List ℕ) (k count : ℕ) → 1 ≡ count_of (drop (k + 1) shape) → count ≡ count_of shape
+    → count_of shape ≡ count_of (take k shape) * slice_index shape k * count_of (drop (k + 1) shape) → 0 < count_of shape → count_of shape ≤ 2 ^ 30 → AreLines shape k count
+are_lines shape k count near all product some most =
+    let n = slice_index shape k in
+    let apart = count_of (drop (k + 1) shape) in
+    let axis = axis_is (count_of (take k shape)) n apart (count_of shape) product some most in
+    let whole = whole_lines (count_of (take k shape)) n apart count axis.items_some axis.inner_some (all ∙ product) in
+    let neighbours : n * apart ≡ n = ap (λ m. n * m) (sym near) ∙ omega arith in
+    record { some = axis.items_some; whole = rw neighbours at whole }
 
 module _ (placed : (shape : List ℕ) (k place i : ℕ) → k < length shape → place < count_of shape
     → place_of shape (slice_set (index_at shape place) k i)

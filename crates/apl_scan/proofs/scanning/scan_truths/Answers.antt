@@ -1,5 +1,5 @@
 use Rattle.std.proofs.Common.{◌≡◌, ◌<◌, ◌+◌, ◌*◌, ◌/◌, ◌∙◌, ℕ, ℤ, Bool, List, Result, length, map, slice_index, ap, sym, subst, refl, arith, rules}
-use Rattle.std.specs.Prelude.{take, drop}
+use Rattle.std.specs.Prelude.{drop}
 use Rattle.std.proofs.lemmas.List.{length-map}
 use Rattle.std.proofs.lemmas.Simd.{map-map}
 use Rattle.apl_array.specs.declared.array.Elem.TheVariants.{Int}
@@ -14,48 +14,43 @@ use Rattle.apl_scan.specs.Lines.{scan_at}
 use Rattle.apl_scan.specs.Scanning.{items_up_to}
 use Rattle.apl_scan.specs.TruthLines.{AreTruthScans}
 use Rattle.apl_reduce.specs.Folding.{reduction}
-use Rattle.apl_scan.proofs.ScannedLines.{axis_is, whole_lines, outcomes_along}
+use Rattle.apl_scan.proofs.ScannedLines.{AreLines, are_lines, outcomes_along}
 use Rattle.apl_scan.proofs.TruthLines.{truths_are, same_elements}
 use Rattle.apl_scan.proofs.scanning.scan_truths.Goals as goal
 use Rattle.apl_scan.proofs.scanning.scan_truths.Goals.{After-axis-items}
 
--- the axis is of neighbours, and the truth values are whole lines along it
-record AreLines (g : _) (c : After-axis-items g) : Type 0 where
+-- the truth values are whole lines along the axis, which is of neighbours
+record AreTruthLines (g : _) (c : After-axis-items g) : Type 0 where
   items : c.axis-items.result ≡ slice_index c.args.b.now.shape c.args.k
   inner : 1 ≡ count_of (drop (c.args.k + 1) c.args.b.now.shape)
   all : length c.args.truths.now ≡ count_of c.args.b.now.shape
-  some : 0 < c.axis-items.result
-  whole : length c.args.truths.now / c.axis-items.result * c.axis-items.result ≡ length c.args.truths.now
+  lines : AreLines c.args.b.now.shape c.args.k (length c.args.truths.now)
 
-are_lines : (g : _) (c : After-axis-items g) → AreLines g c
-are_lines g c =
+are_truth_lines : (g : _) (c : After-axis-items g) → AreTruthLines g c
+are_truth_lines g c =
     let b = c.args.b.now in
     let k = c.args.k in
     let truths = c.args.truths.now in
-    let apart = count_of (drop (k + 1) b.shape) in
     let items : c.axis-items.result ≡ slice_index b.shape k = c.axis-items.ensures.length ∙ ap (λ s. slice_index s k) c.shape-then-inner-eq1.ensures.shape in
-    let told : c.inner.result ≡ apart = c.inner.ensures.inner ∙ ap (λ s. count_of (drop (k + 1) s)) c.shape.ensures.shape in
+    let told : c.inner.result ≡ count_of (drop (k + 1) b.shape) = c.inner.ensures.inner ∙ ap (λ s. count_of (drop (k + 1) s)) c.shape.ensures.shape in
     let one : c.inner.result ≡ 1 = search rules in
-    let inner : 1 ≡ apart = sym one ∙ told in
+    let inner = sym one ∙ told in
     let all : length truths ≡ count_of b.shape = sym (ap length c.requires.truths ∙ length-map truths truth_element) ∙ c.shape.ensures.lawful.len in
-    let count = c.replaced_index_has_place.ensures.count b.shape k c.requires.axis in
-    let axis = axis_is (count_of (take k b.shape)) (slice_index b.shape k) apart (count_of b.shape) count c.requires.some c.shape.ensures.lawful.shape.count in
-    let whole = whole_lines (count_of (take k b.shape)) (slice_index b.shape k) apart (length truths) axis.items_some axis.inner_some (all ∙ count) in
-    let neighbours : slice_index b.shape k * apart ≡ c.axis-items.result = ap (λ n. slice_index b.shape k * n) (sym inner) ∙ omega (arith, items) in
     record {
       items = items;
       inner = inner;
       all = all;
-      some = omega (arith, items, axis.items_some);
-      whole = rw neighbours at whole;
+      lines = are_lines b.shape k (length truths) inner all (c.replaced_index_has_place.ensures.count b.shape k c.requires.axis) c.requires.some c.shape.ensures.lawful.shape.count;
     }
 
 pub scan_lines-requires-clause-lines : goal.scan_lines-requires-clause-lines
-scan_lines-requires-clause-lines g c = λ κs lives. (are_lines g c).whole
+scan_lines-requires-clause-lines g c = λ κs lives.
+    let lines = are_truth_lines g c in
+    rw lines.items lines.lines.whole
 
 pub returns-in-Some-Truths : goal.returns-in-Some-Truths
 returns-in-Some-Truths g c =
-    let lines = are_lines g (goal.at.returns-in-Some-Truths g c).After-axis-items in
+    let lines = are_truth_lines g (goal.at.returns-in-Some-Truths g c).After-axis-items in
     let b = c.args.b.now in
     let k = c.args.k in
     let f = c.args.f in
@@ -78,7 +73,7 @@ returns-in-Some-Truths g c =
 
 pub returns-in-Some-Numbers : goal.returns-in-Some-Numbers
 returns-in-Some-Numbers g c =
-    let lines = are_lines g (goal.at.returns-in-Some-Numbers g c).After-axis-items in
+    let lines = are_truth_lines g (goal.at.returns-in-Some-Numbers g c).After-axis-items in
     let b = c.args.b.now in
     let k = c.args.k in
     let f = c.args.f in
