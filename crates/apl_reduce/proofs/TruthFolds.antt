@@ -17,7 +17,7 @@ use Rattle.apl_reduce.specs.Folded.{number_step, folded_onto}
 use Rattle.apl_reduce.specs.Items.{item_in}
 use Rattle.apl_walk.specs.Ones.{one_of}
 use Rattle.apl_reduce.specs.Ones.{ones}
-use Rattle.apl_reduce.specs.TruthFolds.{IsConjunction, IsDisjunction, turned, TurnsAt}
+use Rattle.apl_reduce.specs.TruthFolds.{IsConjunction, IsDisjunction, turned, TurnsAt, turns_among}
 use Rattle.apl_reduce.proofs.BitFolds.{is_low}
 use Rattle.apl_reduce.proofs.Folds.{two_runs}
 use Rattle.apl_reduce.proofs.NearFolds.{near_exact}
@@ -106,9 +106,8 @@ module _ (truths : List Bool) (first : ℕ) where
   -- ---- functions that turn their right argument over
 
   -- how many of the first n truth values turn it
-  abbrev pub turns : (turn : Bool) → ℕ → ℕ
-  turns true n = ones truths first n
-  turns false n = n - ones truths first n
+  abbrev turns : (turn : Bool) → ℕ → ℕ
+  turns turn n = turns_among truths first turn n
 
   module _ (turn : Bool) (f : ScalarFunction) (asks : TurnsAt turn f) where
     turn_step : (n : ℕ) (t b : Bool) → truth n ≡ t → folded_onto f item first (suc n) (Ok (bit b)) ≡ folded_onto f item first n (Ok (bit (turned turn t b)))

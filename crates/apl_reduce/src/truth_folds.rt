@@ -6,7 +6,7 @@ ghost use Rattle.apl_array.specs.Array.{truth_element};
 ghost use Rattle.apl_pool.specs.declared.kernel.TheConstants.{MOST_PLACES};
 ghost use Rattle.apl_reduce.specs.Folded.{folded_onto};
 ghost use Rattle.apl_reduce.specs.Items.{item_in};
-ghost use Rattle.apl_reduce.specs.TruthFolds.{IsConjunction, IsDisjunction, TurnsAt};
+ghost use Rattle.apl_reduce.specs.TruthFolds.{IsConjunction, IsDisjunction, TurnsAt, turns_among};
 
 use crate::folding::fold_items;
 use crate::ones::ones;
@@ -73,6 +73,15 @@ fn any_onto(truths: &[bool], first: usize, count: usize, total: i64) -> Option<i
     })
 }
 
+/// How many of neighbours are `turn`.
+fn turn_count(truths: &[bool], first: usize, count: usize, turn: bool) -> usize
+    requires within { first + count ≤ length truths.now }
+    ensures { result ≡ turns_among truths.now first turn count }
+{
+    let ones = ones(truths, first, count);
+    if turn { ones } else { count - ones }
+}
+
 /// The fold of neighbours onto a total, if that is 0 or 1, by a function that turns its right argument over where the left one is `turn`.
 fn turned_onto(truths: &[bool], first: usize, count: usize, total: i64, turn: bool) -> Option<i64>
     requires within { first + count ≤ length truths.now }
@@ -81,8 +90,7 @@ fn turned_onto(truths: &[bool], first: usize, count: usize, total: i64, turn: bo
     if total.cast_unsigned() > 1 {
         return None;
     }
-    let ones = ones(truths, first, count);
-    let turns = if turn { ones } else { count - ones };
+    let turns = turn_count(truths, first, count, turn);
     Some(if turns % 2 == 0 { total } else { 1 - total })
 }
 

@@ -1,5 +1,6 @@
 //! Shapes, places of a small array, and arrays that keep their kind.
 use crate::notation::{held_characters, held_numbers, held_truths, lengths_of};
+use apl_answer::number_at;
 use apl_array::{
     Array, Elem, Kind, Ravel, Shape, ShapeError, changed_axis_has_place, elements_determine_array,
     inserted_index_has_place, joined_index_has_place, place_is_sum_of_strides,
@@ -141,7 +142,10 @@ fn narrow_numbers_in_row_order(rt: HostRuntime) -> Result<(), Fail> {
     let Ravel::Narrow(numbers) = table.into_ravel() else {
         return Err(Fail::new("no numbers of 32 bits"));
     };
-    assert!(rt; numbers.last() == Some(&i32::MAX));
+    assert!(rt; numbers.len() == 6);
+    assert!(rt; number_at(numbers.as_slice(), 0) == 1);
+    assert!(rt; number_at(numbers.as_slice(), 4) == -2147483648);
+    assert!(rt; number_at(numbers.as_slice(), 5) == 2147483647);
     Ok(())
 }
 
