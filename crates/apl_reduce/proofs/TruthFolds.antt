@@ -1,5 +1,5 @@
 -- Folds of truth values by how many of them are true.
-use Rattle.std.proofs.Common.{◌≡◌, ◌↔◌, ◌⊎◌, inl, inr, ℕ, zero, suc, ℤ, pos, ◌+◌, ◌-◌, ◌%◌, ◌^◌, ◌<◌, ◌≤◌, ◌+ℤ◌, ◌-ℤ◌, Bool, true, false, not, List, map, Result, Ok, FitsSigned, of_z, w64, refl, sym, ap, ◌∙◌, ⊎_elim, slice_index_or, arith}
+use Rattle.std.proofs.Common.{◌≡◌, ◌↔◌, ◌⊎◌, inl, inr, ℕ, zero, suc, ℤ, pos, ◌+◌, ◌%◌, ◌^◌, ◌<◌, ◌≤◌, ◌+ℤ◌, ◌-ℤ◌, Bool, true, false, not, List, map, Result, Ok, FitsSigned, of_z, w64, refl, sym, ap, ◌∙◌, ⊎_elim, slice_index_or, arith}
 use Rattle.std.specs.Prelude.{◌&&◌, ◌||◌, negsuc, nat_eq, unsigned_abs}
 use Rattle.std.proofs.Math.Bool.{and-false, or-true}
 use Rattle.std.proofs.Math.ListN.{get_or-map}

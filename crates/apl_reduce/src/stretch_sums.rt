@@ -77,6 +77,7 @@ pub(crate) struct Stretches<'a, T> {
     ghost all: { items ≤ stretches * STRETCH },
     ghost needed: { (stretches - 1) * STRETCH < items },
     ghost most: { rows * items ≤ MOST_PLACES },
+    ghost numbers_most: { length numbers.now ≤ MOST_PLACES },
     ghost near_most: { near ≤ 2 ^ 46 },
     ghost small: { near * items < 2 ^ 63 },
     ghost within: { (row : ℕ) → row < rows → row * block + items ≤ length numbers.now },
@@ -123,6 +124,7 @@ impl<T: Numeric> Stretches<'_, T> {
     pub(crate) fn new(numbers: &[T], rows: usize, items: usize, block: usize) -> Stretches<'_, T>
         requires two { 2 ≤ items }
         requires most { rows * items ≤ MOST_PLACES }
+        requires numbers { length numbers.now ≤ MOST_PLACES }
         requires within { (row : ℕ) → row < rows → row * block + items ≤ length numbers.now }
         ensures numbers { result.numbers.now ≡ numbers.now }
         ensures rows { result.rows ≡ rows }

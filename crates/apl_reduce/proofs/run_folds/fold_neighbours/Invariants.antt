@@ -1,5 +1,4 @@
 use Rattle.std.proofs.Common.{◌≡◌, ◌+◌, ◌-◌, ◌≤◌, Ok, map}
-use Rattle.apl_array.specs.declared.array.Elem.TheVariants.{Int}
 use Rattle.apl_reduce.specs.Folded.{folded_onto}
 use Rattle.apl_reduce.specs.Items.{item_in}
 use Rattle.apl_reduce.proofs.run_folds.fold_neighbours.Given as goal

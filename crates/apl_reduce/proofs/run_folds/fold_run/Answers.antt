@@ -1,6 +1,5 @@
 use Rattle.std.proofs.Common.{◌≡◌, ◌*◌, map, ℤ, Result, Ok, to_z, of_z, w64, ap, ◌∙◌, arith}
 use Rattle.std.proofs.lemmas.Int.{to_z-of_z}
-use Rattle.apl_array.specs.declared.array.Elem.TheVariants.{Int}
 use Rattle.apl_pool.specs.declared.kernel.Fault.{Fault}
 use Rattle.apl_reduce.specs.Folded.{folded_onto}
 use Rattle.apl_reduce.specs.Items.{item_in}

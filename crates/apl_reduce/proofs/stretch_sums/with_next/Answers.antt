@@ -16,10 +16,10 @@ returns g c = λ first count there before.
     let total = c.args.sum.sum in
     let number = number_from numbers first in
     let x = slice_index_or numbers c.args.place (pos 0) in
-    let is : c.number_at.result ≡ x = c.number_at.ensures in
+    let is : c.number_at-number.result ≡ x = c.number_at-number.ensures in
     let fits : FitsSigned w64 x = subst (FitsSigned w64) is (search rules) in
     let fits_total : FitsSigned w64 total = search rules in
-    let read : to_z w64 (of_z w64 c.number_at.result) ≡ x = ap (λ z. to_z w64 (of_z w64 z)) is ∙ to_z-of_z w64 x fits in
+    let read : to_z w64 (of_z w64 c.number_at-number.result) ≡ x = ap (λ z. to_z w64 (of_z w64 z)) is ∙ to_z-of_z w64 x fits in
     let here : x ≡ number count = ap (λ i. slice_index_or numbers i (pos 0)) (sym there) in
     let more : suc count ≡ count + 1 = omega arith in
     record {

@@ -17,9 +17,9 @@ returns g c = λ few sum low.
     let both = both_low (2 ^ 47) c.args.self.now.bits above low in
     let before = sum both.0 in
     let fits_total : FitsSigned w64 total = search rules in
-    let read : c.number_at.result ≡ x = c.number_at.ensures in
+    let read : c.number_at-number.result ≡ x = c.number_at-number.ensures in
     let fits : FitsSigned w64 x = subst (FitsSigned w64) read (search rules) in
-    let there : to_z w64 (of_z w64 c.number_at.result) ≡ x = ap (λ z. to_z w64 (of_z w64 z)) read ∙ to_z-of_z w64 x fits in
+    let there : to_z w64 (of_z w64 c.number_at-number.result) ≡ x = ap (λ z. to_z w64 (of_z w64 z)) read ∙ to_z-of_z w64 x fits in
     let near = near_from_above (2 ^ 46) above x (λ own. subst (λ z. pos above ≡ z +ℤ pos (2 ^ 46)) there (c.above_least.ensures.near own)) both.1 in
     let size = sum_is_near number (2 ^ 46) count total before in
     one_more number (2 ^ 46) count total _ before near
