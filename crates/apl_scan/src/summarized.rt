@@ -236,6 +236,7 @@ pub(crate) fn put_scans<T: Numeric, W: Crew>(
     items: usize,
 ) -> Result<Option<Vec<i64>>, AllocError>
     requires summary { has_summary f ≡ true }
+    requires most { length numbers.now ≤ MOST_PLACES }
     requires items { 0 < items }
     requires lines { length numbers.now / items * items ≡ length numbers.now }
     ensures { IfOk result (λ lines. IfSome lines (λ v. AreValues (scan_at (dyadic_numbers f) (map T.number_in numbers.now) items 1) (length numbers.now) v.items)) }

@@ -5,6 +5,7 @@ use Rattle.apl_array.specs.declared.array.Elem.TheVariants.{Int}
 use Rattle.apl_array.specs.declared.array.Kind.TheVariants.{Number}
 use Rattle.apl_array.specs.Shape.{count_of}
 use Rattle.apl_answer.specs.Pointwise.{answer_of, IsAnswerOf}
+use Rattle.apl_pool.specs.Pool.{AreValues}
 use Rattle.apl_pool.specs.declared.kernel.Fault.{Fault}
 use Rattle.apl_scalar.specs.Scalar.{dyadic_numbers}
 use Rattle.apl_scan.specs.Lines.{scan_at}
@@ -22,4 +23,40 @@ record AreElementLines (g : _) (c : After-axis g) : Type 0 where
   lines : AreLines c.args.b.now.shape c.args.k (length c.args.elements.now)
 
 are_element_lines : (g : _) (c : After-axis g) → AreElementLines g c
-are_element_lines g c = ?
+are_element_lines g c =
+    let b = c.args.b.now in
+    let k = c.args.k in
+    let elements = c.args.elements.now in
+    let items : c.axis.result ≡ slice_index b.shape k = c.axis.ensures.length ∙ ap (λ s. slice_index s k) c.shape-then-has_summary.ensures.shape in
+    let told : c.inner.result ≡ count_of (drop (k + 1) b.shape) = c.inner.ensures.inner ∙ ap (λ s. count_of (drop (k + 1) s)) c.shape.ensures.shape in
+    let one : c.inner.result ≡ 1 = search rules in
+    let inner = sym one ∙ told in
+    let all : length elements ≡ count_of b.shape = sym (ap length c.requires.elements ∙ length-map elements g.T.ElementType.elem_of) ∙ c.shape.ensures.lawful.len in
+    record {
+      items = items;
+      inner = inner;
+      all = all;
+      lines = are_lines b.shape k (length elements) inner all (c.replaced_index_has_place.ensures.count b.shape k c.requires.axis) c.requires.some c.shape.ensures.lawful.shape.count;
+    }
+
+pub put_scans-requires-clause-lines : goal.put_scans-requires-clause-lines
+put_scans-requires-clause-lines g c = λ κs lives.
+    let lines = are_element_lines g c in
+    rw lines.items lines.lines.whole
+
+pub returns-in-Some : goal.returns-in-Some
+returns-in-Some g c =
+    let lines = are_element_lines g (goal.at.returns-in-Some g c).After-axis in
+    let b = c.args.b.now in
+    let k = c.args.k in
+    let f = c.args.f in
+    let numbers = map g.T.Numeric.number_in c.args.elements.now in
+    let items = c.axis.result in
+    let at_place : ℕ → Result ℤ Fault = scan_at (dyadic_numbers f) numbers items 1 in
+    let folds : AreValues at_place (length c.args.elements.now) c.in-Some.values.items = rw c.in-Some.is at c.in_ok-values.ensures in
+    let outcome = λ (index : List ℕ). reduction f (items_up_to b k index) in
+    let shape : c.in_ok-copy.field-0 ≡ b.shape = search rules in
+    let ravel : b.ravel ≡ map Int numbers = c.requires.elements ∙ c.elements_are_numbers.ensures in
+    let outcomes = outcomes_along c.replaced_index_has_place.ensures.place c.split_index_has_place.ensures.index b numbers k c.requires.axis ravel f numbers items 1 refl lines.items lines.inner in
+    subst (λ s. IsAnswerOf (answer_of s outcome Number) c.array_from_fill.result) shape
+    (c.array_from_fill.ensures at_place outcome (rw shape outcomes) (rw (shape, sym lines.all) folds) (search rules))

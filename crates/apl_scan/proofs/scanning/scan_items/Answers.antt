@@ -6,7 +6,7 @@ use Rattle.apl_scan.proofs.scanning.scan_items.Goals as goal
 pub returns-in-Numbers : goal.returns-in-Numbers
 returns-in-Numbers g c =
     let number : c.args.b.now.kind ≡ Number = ap (λ (a : ArrayValue). a.kind) c.in-Numbers.ensures.elements in
-    rw number c.scan_numbers.ensures
+    rw number c.scan_held.ensures
 
 pub returns-in-Truths : goal.returns-in-Truths
 returns-in-Truths g c =
@@ -16,4 +16,4 @@ returns-in-Truths g c =
 pub returns-in-Narrow : goal.returns-in-Narrow
 returns-in-Narrow g c =
     let number : c.args.b.now.kind ≡ Number = ap (λ (a : ArrayValue). a.kind) c.in-Narrow.ensures.elements in
-    rw number c.scan_made.ensures
+    rw number c.scan_held-in-Narrow.ensures
