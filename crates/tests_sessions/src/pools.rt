@@ -195,7 +195,7 @@ fn a_kept_list_is_written_over(rt: HostRuntime) -> Result<(), Fail> {
                 count,
                 limit: count,
             };
-            pool.kept().keep(vec![in alloc; 9; count + count / 10]?);
+            pool.kept().keep(vec![in alloc; 9i64; count + count / 10]?);
             let values = fill(&workers, &whole)?;
             let is_used = !pool.kept().give_back();
             assert!(rt; is_used && values.len() == count && are_places(values.as_slice()));
