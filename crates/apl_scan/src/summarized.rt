@@ -228,7 +228,8 @@ fn put_lines<S: Running, T: Numeric, W: Crew>(
 const SUMMARIES: usize = 2;
 
 /// The folds of numbers up to each place of lines of neighbours, as `put_lines` has them, by a function whose folds have summaries. There
-/// are none if the workers are to share them.
+/// are none if the workers are to share them. Numbers of fewer than 64 bits are one worker's: several would have them widened first, which
+/// takes longer.
 pub(crate) fn put_scans<T: Numeric, W: Crew>(
     workers: &W,
     f: ScalarFunction,
@@ -241,10 +242,8 @@ pub(crate) fn put_scans<T: Numeric, W: Crew>(
     requires lines { length numbers.now / items * items ≡ length numbers.now }
     ensures { IfOk result (λ lines. IfSome lines (λ v. AreValues (scan_at (dyadic_numbers f) (map T.number_in numbers.now) items 1) (length numbers.now) v.items)) }
 {
-    if workers
-        .pool()
-        .is_shared(numbers.len(), numbers.len() / SUMMARIES)
-    {
+    let work = numbers.len() / SUMMARIES;
+    if T::PER_NUMBER == 1 && workers.pool().is_shared(numbers.len(), work) {
         return Ok(None);
     }
     with_summary!(
