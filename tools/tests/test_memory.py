@@ -12,7 +12,7 @@ TUNABLES = {"GLIBC_TUNABLES": "glibc.malloc.mmap_threshold=%d" % MEGABYTE}
 
 # Vectors of 32 and 40 megabytes.
 SMALL, LARGE = 4_000_000, 5_000_000
-LARGE_SUM = "12500002500000\n"
+LARGE_SUM = "%d\n" % (2 * LARGE)
 
 
 def answer(lines, room):
@@ -38,16 +38,18 @@ class LittleMemory(unittest.TestCase):
         self.fail("no room was enough")
 
     def test_what_is_kept_is_given_back(self):
-        vectors = ["A←⍳%d" % SMALL, "B←⍳%d" % LARGE, "+/B"]
+        vectors = ["A←%d⍴2" % SMALL, "B←%d⍴2" % LARGE, "+/B"]
         room = self.room_for(vectors, LARGE_SUM)
         # The first value of A is kept when the second is made, and there is no room for it beside A and B.
-        self.assertEqual(answer(["A←⍳%d" % SMALL, "A←A+A", *vectors[1:]], room), LARGE_SUM)
-        self.assertEqual(answer(["A←⍳%d" % SMALL, "A←A+A", "A←A-A", "+/A", *vectors[1:]], room), "0\n" + LARGE_SUM)
+        self.assertEqual(answer([vectors[0], "A←A+A", *vectors[1:]], room), LARGE_SUM)
+        self.assertEqual(answer([vectors[0], "A←A+A", "A←A-A", "+/A", *vectors[1:]], room), "0\n" + LARGE_SUM)
 
     def test_a_line_too_large_is_refused_all_the_same(self):
-        room = self.room_for(["A←⍳%d" % SMALL, "A←A+A", "+/A"], "%d\n" % (SMALL * (SMALL + 1)))
-        text = answer(["A←⍳%d" % SMALL, "A←A+A", "B←⍳%d" % (4 * LARGE), "+/A"], room)
-        self.assertEqual(text, "WS FULL\n      B←⍳%d\n%d\n" % (4 * LARGE, SMALL * (SMALL + 1)))
+        lines = ["A←%d⍴2" % SMALL, "A←A+A", "+/A"]
+        total = "%d\n" % (4 * SMALL)
+        room = self.room_for(lines, total)
+        large = "B←%d⍴2" % (4 * LARGE)
+        self.assertEqual(answer([*lines[:2], large, "+/A"], room), "WS FULL\n      %s\n%s" % (large, total))
 
 
 if __name__ == "__main__":
