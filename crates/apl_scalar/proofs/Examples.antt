@@ -3,3 +3,4 @@ mod Monadic
 mod Dyadic
 mod Identities
 mod Extension
+mod Narrow

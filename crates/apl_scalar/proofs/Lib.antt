@@ -5,6 +5,7 @@ pub mod Counting
 pub mod Powers
 pub mod PowerBits
 pub mod Residues
+pub mod Narrow
 pub mod Sources
 pub mod InRange
 pub mod WithinLimits

@@ -1,6 +1,6 @@
 -- The scalar functions, over exact whole numbers and characters, one line a function.
-use Rattle.std.specs.Prelude.{ℤ, pos, negsuc, neg_ℤ, ◌+ℤ◌, ◌-ℤ◌, ◌*ℤ◌, ◌%◌, Bool, true, false, not, ◌&&◌, ◌||◌, ◌==◌, int_lt, int_le, int_div, int_rem, unsigned_abs, Result, Ok, Err, Option, Some, None, if◌then◌else◌}
-use Rattle.std.specs.Int.{int_min, int_max, int_signum, int_pow, is_negative}
+use Rattle.std.specs.Prelude.{ℤ, pos, negsuc, neg_ℤ, ◌+ℤ◌, ◌-ℤ◌, ◌*ℤ◌, ◌%◌, ◌^◌, Bool, true, false, not, ◌&&◌, ◌||◌, ◌==◌, nat_le, int_lt, int_le, int_div, int_rem, unsigned_abs, Result, Ok, Err, Option, Some, None, if◌then◌else◌}
+use Rattle.std.specs.Int.{w32, int_min, int_max, int_signum, int_pow, int_wrap, is_negative}
 use Rattle.std.specs.Ordering.{int_eq}
 use Rattle.apl_array.specs.declared.array.Elem.{Elem}
 use Rattle.apl_array.specs.declared.array.Elem.TheVariants.{Int, Chr}
@@ -165,3 +165,19 @@ as_element (Err fault) = Err fault
 abbrev pub truth_outcome : Result ℤ Fault → Result Bool Fault
 truth_outcome (Ok z) = Ok (is_one z)
 truth_outcome (Err fault) = Err fault
+
+-- ---- numbers held in 32 bits
+
+-- the number that the low 32 bits of a number are, or the fault
+abbrev pub narrow_outcome : Result ℤ Fault → Result ℤ Fault
+narrow_outcome (Ok z) = Ok (int_wrap w32 z)
+narrow_outcome (Err fault) = Err fault
+
+-- whether the function is the residue, whose results may be held so
+abbrev pub is_residue : ScalarFunction → Bool
+is_residue Stile = true
+is_residue _ = false
+
+-- whether 32 bits hold all residues by the number: it is not 0, and its magnitude is at most 2^31
+abbrev pub has_narrow_residues : ℤ → Bool
+has_narrow_residues x = not (int_eq x (pos 0)) && nat_le (unsigned_abs x) (2 ^ 31)

@@ -3,7 +3,7 @@
 ghost use Rattle.std.specs.Prelude.{◌≡◌, ℕ, true, Ok, pos, negsuc, ◌+ℤ◌, ◌-ℤ◌, ◌*ℤ◌, FitsSigned, unsigned_abs, ◌+◌, ◌%◌, ◌^◌, ◌<◌, ◌≤◌, ◌==◌, if◌then◌else◌};
 ghost use Rattle.std.specs.Int.{int_pow, int_signum, w32};
 ghost use Rattle.apl_scalar.specs.Arithmetic.{factorial, binomial, residue};
-ghost use Rattle.apl_scalar.specs.Scalar.{exact, reciprocal, quotient, power, factorial_of, combinations};
+ghost use Rattle.apl_scalar.specs.Scalar.{exact, reciprocal, quotient, power, factorial_of, combinations, has_narrow_residues};
 ghost use Rattle.apl_scalar.specs.Limits.{limited_value};
 
 use apl_array::range_is_decided;
@@ -200,6 +200,13 @@ pub(crate) fn residue(a: i64, b: i64) -> i64
     }
     let rest = b.wrapping_rem_euclid(a);
     if a < 0 && rest != 0 { rest + a } else { rest }
+}
+
+/// Whether 32 bits hold all residues by the number.
+pub(crate) fn has_narrow_residues(x: i64) -> bool
+    ensures { result ≡ has_narrow_residues x }
+{
+    x != 0 && x.unsigned_abs() <= 1 << 31
 }
 
 /// `x` to the power `y`.

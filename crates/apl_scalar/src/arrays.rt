@@ -1,5 +1,5 @@
 //! The scalar functions of arrays.
-ghost use Rattle.std.specs.Prelude.{◌≡◌, true, false, Ok, IfSome, IsTrue, MatchOption, map};
+ghost use Rattle.std.specs.Prelude.{◌≡◌, true, false, Ok, IfSome, IsTrue, MatchOption, length, map, pos, slice_index_or};
 ghost use Rattle.apl_array.specs.declared.array.Elem.TheVariants.{Int};
 ghost use Rattle.apl_array.specs.declared.array.Kind.TheVariants.{Number};
 ghost use Rattle.apl_array.specs.Array.{IsArray, element_in, truth_element};
@@ -12,10 +12,11 @@ ghost use Rattle.apl_answer.specs.Pointwise.{IsAnswerAt, IsAnswerOf};
 ghost use Rattle.apl_scalar.specs.Monadic.{monadic_answer};
 ghost use Rattle.apl_scalar.specs.Dyadic.{answer_over, dyadic_answer};
 
+use crate::arithmetic::has_narrow_residues;
 use crate::elements::compare;
 use crate::extend::extended;
 use crate::operands::{Value, Whole};
-use crate::passes::{fill_elements, fill_pairs};
+use crate::passes::{fill_elements, fill_pairs, fill_residues};
 use apl_answer::{ElementType, OpFault, constant_array};
 use apl_array::{Array, Elem, Elements, ScalarFunction, Shape, places_match_index_lists};
 use apl_pool::{Crew, Cut, Fault, Gate, Pool, Workers};
@@ -137,6 +138,23 @@ fn fill_with_right<W: Crew>(
     }
 }
 
+/// A function of a number, which serves at all places, and of each element. Residues that fit in 32 bits are held so.
+fn fill_with_number<T: ElementType + Sync, W: Crew>(
+    workers: &W,
+    f: ScalarFunction,
+    shape: Shape,
+    x: i64,
+    ys: &[T],
+) -> Result<Array, OpFault>
+    requires { length ys.now ≡ count_of shape }
+    ensures { IsAnswerAt shape Number (λ place. as_element (dyadic_of f (Int x) (slice_index_or (map T.elem_of ys.now) place (Int (pos 0))))) result }
+{
+    match f {
+        ScalarFunction::Stile if has_narrow_residues(x) => fill_residues(workers, shape, x, ys),
+        _ => fill_pairs(workers, f, shape, Value(x), Whole(ys)),
+    }
+}
+
 /// The same of one element that serves at all places, and of each of an argument.
 fn fill_with_left<W: Crew>(
     workers: &W,
@@ -149,8 +167,8 @@ fn fill_with_left<W: Crew>(
     ensures { IsAnswerAt shape Number (λ place. as_element (dyadic_of f x (element_in right.now place))) result }
 {
     match (x, right.elements()) {
-        (Elem::Int(x), Elements::Numbers(ys)) => fill_pairs(workers, f, shape, Value(x), Whole(ys)),
-        (Elem::Int(x), Elements::Narrow(ys)) => fill_pairs(workers, f, shape, Value(x), Whole(ys)),
+        (Elem::Int(x), Elements::Numbers(ys)) => fill_with_number(workers, f, shape, x, ys),
+        (Elem::Int(x), Elements::Narrow(ys)) => fill_with_number(workers, f, shape, x, ys),
         (Elem::Int(x), Elements::Truths(ys)) => match truth_of(x) {
             Some(x) => fill_pairs(workers, f, shape, Value(x), Whole(ys)),
             None => fill_pairs(workers, f, shape, Value(x), Whole(ys)),

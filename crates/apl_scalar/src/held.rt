@@ -1,9 +1,18 @@
-//! What the results of scalar functions are held as: numbers, or truth values.
+//! What the results of scalar functions are held as: numbers, of 64 bits or of 32, or truth values.
 ghost use Rattle.std.specs.Prelude.{◌≡◌, refl};
+ghost use Rattle.std.specs.Int.{int_wrap, w32};
 
 use crate::truth::is_one;
 use apl_answer::ElementType;
 use apl_pool::Fault;
+
+/// The number that the low 32 bits of a number are.
+#[inline(always)]
+fn low_bits(number: i64) -> i32
+    ensures { result ≡ int_wrap w32 number }
+{
+    ((number.cast_unsigned() & 0xffff_ffff) as u32).cast_signed()
+}
 
 /// A type that results are held as.
 pub trait Held: ElementType {
@@ -28,6 +37,20 @@ impl Held for i64 {
     #[inline(always)]
     fn of(number: i64) -> i64 {
         number
+    }
+}
+
+/// The low 32 bits. They are for functions whose results fit in them.
+impl Held for i32 {
+    ghost use Rattle.apl_scalar.specs.Scalar.{narrow_outcome};
+
+    ghost held = { narrow_outcome };
+
+    ghost faults_stay = { λ fault. refl };
+
+    #[inline(always)]
+    fn of(number: i64) -> i32 {
+        low_bits(number)
     }
 }
 

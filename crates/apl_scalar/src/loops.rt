@@ -1,6 +1,7 @@
 //! The loops over results, of which one is chosen by the function.
 ghost use Rattle.std.specs.Prelude.{◌≡◌};
 
+use crate::function_types::Stile;
 use crate::kernels::Arguments;
 use crate::runs::HeldRuns;
 use crate::{with_number_type, with_truth_type};
@@ -50,6 +51,27 @@ impl HeldLoops for i64 {
         room: &mut [i64],
     ) -> Result<(), FirstFault> {
         with_number_type!(f, arguments.write::<F, i64>(from, to, room), unreachable!())
+    }
+}
+
+/// Residues alone are held in 32 bits.
+impl HeldLoops for i32 {
+    ghost use Rattle.apl_scalar.specs.Scalar.{is_residue};
+
+    ghost is_of = { is_residue };
+
+    #[inline(always)]
+    fn write_results_of<A: Arguments>(
+        f: ScalarFunction,
+        arguments: A,
+        from: usize,
+        to: usize,
+        room: &mut [i32],
+    ) -> Result<(), FirstFault> {
+        match f {
+            ScalarFunction::Stile => arguments.write::<Stile, i32>(from, to, room),
+            _ => unreachable!(),
+        }
     }
 }
 

@@ -2,16 +2,17 @@
 ghost use Rattle.std.specs.Prelude.{◌≡◌, ℕ, pos, ◌≤◌, ◌<◌, length, map, slice_index_or, IsTrue};
 ghost use Rattle.apl_array.specs.declared.array.Elem.TheVariants.{Int};
 ghost use Rattle.apl_array.specs.declared.array.Kind.TheVariants.{Number};
+ghost use Rattle.apl_array.specs.declared.function.ScalarFunction.TheVariants.{Stile};
 ghost use Rattle.apl_array.specs.Array.{truth_element};
 ghost use Rattle.apl_array.specs.Shape.{count_of};
 ghost use Rattle.apl_answer.specs.Elements.{element_outcome};
 ghost use Rattle.apl_answer.specs.Pointwise.{IsAnswerAt};
-ghost use Rattle.apl_scalar.specs.Scalar.{as_element, dyadic_of, is_truth_valued, monadic_of, truth_outcome};
+ghost use Rattle.apl_scalar.specs.Scalar.{as_element, dyadic_of, has_narrow_residues, is_truth_valued, monadic_of, truth_outcome};
 
 use crate::function_types::{has_monadic_runs, is_quick_of_two, is_truth_valued};
 use crate::kernels::{Argument, Arguments, ResultKernel, TwoArguments};
-use crate::laws::truth_values_are_results;
-use crate::operands::{Operand, Whole};
+use crate::laws::{narrow_residues_are_results, truth_values_are_results};
+use crate::operands::{Operand, Value, Whole};
 use apl_answer::{ElementType, OpFault, fill_array};
 use apl_array::{Array, ScalarFunction, Shape};
 use apl_pool::Crew;
@@ -107,4 +108,35 @@ pub(crate) fn fill_pairs<L: Operand + Sync, R: Operand + Sync, W: Crew>(
     let count = shape.count();
     let work = work_of(count, L::PER_NUMBER.min(R::PER_NUMBER), is_quick_of_two(f));
     fill_results(workers, f, shape, TwoArguments { left, right }, work)
+}
+
+/// The residues of each element by one number, if 32 bits hold them all. They are held so.
+pub(crate) fn fill_residues<T: ElementType + Sync, W: Crew>(
+    workers: &W,
+    shape: Shape,
+    divisor: i64,
+    elements: &[T],
+) -> Result<Array, OpFault>
+    requires narrow { IsTrue (has_narrow_residues divisor) }
+    requires elements { length elements.now ≡ count_of shape }
+    ensures { IsAnswerAt shape Number (λ place. as_element (dyadic_of Stile (Int divisor) (slice_index_or (map T.elem_of elements.now) place (Int (pos 0))))) result }
+{
+    narrow_residues_are_results();
+    let f = ScalarFunction::Stile;
+    let count = shape.count();
+    let arguments = TwoArguments {
+        left: Value(divisor),
+        right: Whole(elements),
+    };
+    fill_array(
+        workers,
+        shape,
+        &ResultKernel::<TwoArguments<Value<i64>, Whole<T>>, i32> {
+            f,
+            arguments,
+            count,
+            work: work_of_pairs::<i64>(f, count),
+            held: PhantomData,
+        },
+    )
 }

@@ -107,6 +107,21 @@ pub trait HeldRuns: Held {
         ensures len { length room.new ≡ length room.old };
 }
 
+/// Writes the likely result after the first `done` into the room for the places from `from` on. It answers the doubts whether it is right.
+#[inline(always)]
+fn write_one<P: Results, H: Held>(results: P, from: usize, done: usize, room: &mut [H]) -> u64
+    requires places { from + done + 1 ≤ P.served results }
+    requires most { from + done + 1 ≤ MOST_PLACES }
+    requires room { done + 1 ≤ length room.old }
+    ensures values { result ≡ 0 → HasPart (λ place. H.held (P.outcome results place)) from done 1 room.new }
+    ensures others { DiffersIn done 1 room.old room.new }
+    ensures len { length room.new ≡ length room.old }
+{
+    let (value, doubts) = results.likely_at(from + done);
+    room[done] = H::of(value);
+    doubts
+}
+
 impl HeldRuns for i64 {
     ghost block = { 1 };
 
@@ -117,9 +132,7 @@ impl HeldRuns for i64 {
 
     #[inline(always)]
     fn write_block<P: Results>(results: P, from: usize, done: usize, room: &mut [i64]) -> u64 {
-        let (value, doubts) = results.likely_at(from + done);
-        room[done] = value;
-        doubts
+        write_one(results, from, done, room)
     }
 
     #[inline(always)]
@@ -129,6 +142,31 @@ impl HeldRuns for i64 {
         done: usize,
         count: usize,
         room: &mut [i64],
+    ) -> u64 {
+        write_likely(results, from + done, count - done, &mut room[done..])
+    }
+}
+
+impl HeldRuns for i32 {
+    ghost block = { 1 };
+
+    #[inline(always)]
+    fn block_places() -> usize {
+        1
+    }
+
+    #[inline(always)]
+    fn write_block<P: Results>(results: P, from: usize, done: usize, room: &mut [i32]) -> u64 {
+        write_one(results, from, done, room)
+    }
+
+    #[inline(always)]
+    fn write_rest<P: Results>(
+        results: P,
+        from: usize,
+        done: usize,
+        count: usize,
+        room: &mut [i32],
     ) -> u64 {
         write_likely(results, from + done, count - done, &mut room[done..])
     }
