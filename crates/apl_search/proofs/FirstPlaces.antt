@@ -114,7 +114,7 @@ module _ (values : List ℤ) (placed : List Placed) (ordered : AreInOrder upward
 
 -- elements are found by their numbers
 module _ {T : Type 0} (elem_of : T → Elem) (key : T → ℤ) (decides : (x y : T) → is_same_element (elem_of x) (elem_of y) ≡ int_eq (key x) (key y)) where
-  pub place_by_key : (xs : List T) (x : T) → first_place (map elem_of xs) (elem_of x) ≡ position_or_len (λ v. int_eq v (key x)) (map key xs)
+  place_by_key : (xs : List T) (x : T) → first_place (map elem_of xs) (elem_of x) ≡ position_or_len (λ v. int_eq v (key x)) (map key xs)
   place_by_key [] x = refl
   place_by_key (y ∷ ys) x = rw (decides y x, place_by_key ys x) refl
 

@@ -11,3 +11,4 @@ pub mod Tables
 pub mod Searches
 pub mod Origins
 pub mod Parted
+pub mod ByKeys

@@ -6,13 +6,10 @@ use Rattle.std.proofs.lemmas.List.{drop-map, take-map, get_or-drop, get_or-take}
 use Rattle.std.proofs.lemmas.List.Sums.{position_or_len_is}
 use Rattle.apl_array.specs.declared.array.Elem.{Elem}
 use Rattle.apl_array.specs.declared.array.Elem.TheVariants.{Int, Chr}
-use Rattle.apl_array.specs.declared.array.Elements.{Elements}
-use Rattle.apl_array.specs.declared.array.Elements.TheVariants.{Numbers, Narrow, Truths, Characters}
 use Rattle.apl_array.specs.declared.array.Kind.TheVariants.{Number, Character}
 use Rattle.apl_array.specs.declared.axis.Origin.{Origin}
 use Rattle.apl_array.specs.Array.{ArrayValue, IsArray, bit, element_in, kind_of}
 use Rattle.apl_array.specs.Axes.{origin_number}
-use Rattle.apl_array.specs.Elements.{AreElementsOf}
 use Rattle.apl_array.specs.Shape.{count_of, place_of, index_at}
 use Rattle.apl_search.specs.Searching.{is_same_element}
 use Rattle.apl_search.specs.Finding.{first_place, found_outcome, member_outcome}
@@ -49,15 +46,8 @@ nowhere a b lawful_a lawful_b differ place inside =
     (λ k h. false_of _ (λ e. differ (sym (lawful_a.kinds k (Int (pos 0)) h) ∙ same_kind (get_or a.ravel k (Int (pos 0))) x e ∙ kind)))
     (λ h. absurd (omega (arith, h)))
 
-number_or_character : Number ≡ Character → ⊥
+pub number_or_character : Number ≡ Character → ⊥
 number_or_character e = cc
-
--- an array that does not lend characters is of no characters
-pub not_of_characters : (a : ArrayValue) (elements : Elements) → AreElementsOf a elements → ((cs : _) → elements ≡ Characters cs → ⊥) → a.kind ≡ Character → ⊥
-not_of_characters a (Numbers ns) are not_lent kind = number_or_character (sym (ap (λ v. v.kind) are) ∙ kind)
-not_of_characters a (Narrow ns) are not_lent kind = number_or_character (sym (ap (λ v. v.kind) are) ∙ kind)
-not_of_characters a (Truths ts) are not_lent kind = number_or_character (sym (ap (λ v. v.kind) are) ∙ kind)
-not_of_characters a (Characters cs) are not_lent kind = not_lent cs refl
 
 below_itself : (n : ℕ) → nat_lt n n ≡ false
 below_itself n = grind arith

@@ -6,6 +6,7 @@ use Rattle.std.proofs.lemmas.Int.{ints}
 use Rattle.std.proofs.lemmas.List.{length-set, get_or-set_same, get_or-set_other, drop_all}
 use Rattle.std.proofs.lemmas.List.Elements.{All-map}
 use Rattle.std.proofs.lemmas.List.Sums.{position_or_len_is, prefix_len-le-length}
+use Rattle.apl_pool.specs.declared.kernel.TheConstants.{MOST_PLACES}
 use Rattle.apl_search.specs.Tables.{place_of, IsNumberWithin, ArePlacesFrom, IsTable}
 use Rattle.apl_search.proofs.Grades.{false_of}
 
@@ -77,3 +78,8 @@ module _ (numbers : List ℤ) (least : ℤ) where
 
 pub place_within : (numbers : List ℤ) (x : ℤ) → place_of numbers x ≤ length numbers
 place_within numbers x = prefix_len-le-length (λ y. not (int_eq y x)) numbers
+
+-- the entries of a list that is no longer than kernels are no greater
+pub entries_within : (numbers : List ℤ) (least : ℤ) (places : List ℕ) → length numbers ≤ MOST_PLACES
+    → ((k d : ℕ) → k < length places → get_or places k d ≡ place_of numbers (least +ℤ pos k)) → All (λ p. p ≤ MOST_PLACES) places
+entries_within numbers least places count each = λ k d inside. omega (arith, each k d inside, place_within numbers (least +ℤ pos k), count)

@@ -1,36 +1,20 @@
-//! Where an element first is in a list.
-ghost use Rattle.std.specs.Prelude.{◌≡◌, ℤ, pos, ◌<◌, ◌≤◌, ◌^◌, List, Ok, length, map, IfOk};
+//! Where a number first is in a list, whose elements are found by numbers.
+ghost use Rattle.std.specs.Prelude.{◌≡◌, ℤ, pos, ◌+◌, ◌<◌, ◌≤◌, ◌^◌, List, Ok, length, map, slice_index_or, IfOk};
 ghost use Rattle.apl_pool.specs.declared.kernel.TheConstants.{MOST_PLACES};
 ghost use Rattle.apl_pool.specs.Runs.{AreWritten};
-ghost use Rattle.apl_search.specs.Finding.{element_of, first_place, ArePlaces};
+ghost use Rattle.apl_search.specs.Finding.{ArePlaces};
+ghost use Rattle.apl_search.specs.Keys.{keys_in};
 ghost use Rattle.apl_search.specs.Ordering.{upwards};
 ghost use Rattle.apl_search.specs.Sorting.{AreInOrder};
 ghost use Rattle.apl_search.specs.Tables.{place_of};
 
-use crate::replies::{Reply, write_replies};
+use crate::keys::count_in;
+use crate::replies::{Reply, write_run_replies};
 use crate::sorting::{Keyed, Placed, in_order};
 use crate::table::Table;
-use apl_answer::ElementType;
+use apl_array::{Elements, with_elements};
 use apl_pool::Crew;
 use std::alloc::AllocError;
-
-/// An element that is found by a number: elements are the same exactly where their numbers are.
-pub(crate) trait Searchable: ElementType + Keyed {
-    ghost use Rattle.std.specs.Prelude.{◌≡◌};
-    ghost use Rattle.std.specs.Ordering.{int_eq};
-    ghost use Rattle.apl_search.specs.Searching.{is_same_element};
-
-    fn key_decides()
-        ensures { (x y : Self) → is_same_element (Self.elem_of x) (Self.elem_of y) ≡ int_eq (Self.key x) (Self.key y) };
-}
-
-impl Searchable for i64 {
-    fn key_decides() {}
-}
-
-impl Searchable for char {
-    fn key_decides() {}
-}
 
 /// The first places of a list's numbers.
 #[derive(Drop)]
@@ -70,6 +54,19 @@ impl Places {
         Ok(Places::InOrder(placed))
     }
 
+    /// The places of elements' numbers, however the elements are held.
+    fn of_elements<W: Crew>(
+        workers: &W,
+        elements: Elements<'_>,
+        most: u64,
+    ) -> Result<Places, AllocError>
+        requires count { length (keys_in elements) ≤ MOST_PLACES }
+        requires most { most < 2 ^ 34 }
+        ensures { IfOk result (ArePlaces (keys_in elements.entry)) }
+    {
+        with_elements!(elements, list => Places::new(workers, list, most))
+    }
+
     /// The first place of a number.
     #[inline(always)]
     fn first(&self, number: i64) -> usize
@@ -90,47 +87,46 @@ const HALVING: usize = 16;
 
 /// A list whose elements are found by their numbers.
 #[derive(Drop)]
-pub(crate) struct Finder<'a, T: Searchable> {
-    elements: &'a [T],
+pub(crate) struct Finder<'a> {
+    elements: Elements<'a>,
     places: Places,
-    ghost most: { length elements.now ≤ MOST_PLACES },
-    ghost places_of: { ∥ ArePlaces (map T.key elements.now) places ∥₁ },
+    ghost most: { length (keys_in elements) ≤ MOST_PLACES },
+    ghost places_of: { ∥ ArePlaces (keys_in elements) places ∥₁ },
 }
 
-impl<'a, T: Searchable> Finder<'a, T> {
+impl<'a> Finder<'a> {
     /// The list, in which so many elements are looked for. It gets a table if its numbers span less than four for each of its elements and
     /// one for each of those. For a small table they may span 64 for each of its elements.
     pub(crate) fn new<W: Crew>(
         workers: &W,
-        elements: &'a [T],
+        elements: Elements<'a>,
         searched: usize,
     ) -> Result<Self, AllocError>
-        requires count { length elements.now ≤ MOST_PLACES }
+        requires count { length (keys_in elements) ≤ MOST_PLACES }
         requires searched { searched ≤ MOST_PLACES }
-        ensures { IfOk result (λ s. s.elements.now ≡ elements.now) }
+        ensures { IfOk result (λ s. s.elements ≡ elements.entry) }
     {
-        let count = elements.len() as u64;
+        let count = count_in(elements) as u64;
         let most = (4 * count + searched as u64).max((64 * count).min(SMALL_TABLE));
-        let places = Places::new(workers, elements, most)?;
+        let places = Places::of_elements(workers, elements, most)?;
         Ok(Finder { elements, places })
     }
 
     /// How many elements there are.
     pub(crate) fn count(&self) -> usize
-        ensures count { result ≡ length self.now.elements.now }
+        ensures count { result ≡ length (keys_in self.now.elements) }
         ensures most { result ≤ MOST_PLACES }
     {
-        self.elements.len()
+        count_in(self.elements)
     }
 
-    /// The first place of an element, or the count where there is none.
+    /// The first place of a number, or the count where there is none.
     #[inline(always)]
-    pub(crate) fn place(&self, element: T) -> usize
-        ensures place { result ≡ first_place (map T.elem_of self.now.elements.now) (T.elem_of element) }
-        ensures most { result ≤ length self.now.elements.now }
+    pub(crate) fn place(&self, number: i64) -> usize
+        ensures place { result ≡ place_of (keys_in self.now.elements) number }
+        ensures most { result ≤ length (keys_in self.now.elements) }
     {
-        T::key_decides();
-        self.places.first(element.key())
+        self.places.first(number)
     }
 
     /// About how much work so many searches are, as `Kernel::work` has it.
@@ -141,25 +137,38 @@ impl<'a, T: Searchable> Finder<'a, T> {
         }
     }
 
-    /// Writes what is answered of elements into the room for it. It answers of how many: of all if the places are in a table, else of none.
+    /// Writes what is answered of the elements from one place up to before another into the room for it. It answers the place at which it
+    /// stopped: the last one if the places are in a table, else the first.
     #[inline(always)]
     pub(crate) fn write_replies<R: Reply>(
         &self,
-        elements: &[T],
+        elements: Elements<'_>,
+        from: usize,
+        to: usize,
         reply: R,
         room: &mut [R::Value],
     ) -> usize
-        requires room { length elements.now ≤ length room.old }
-        ensures within { result ≤ length elements.now }
-        ensures values { let list = map T.elem_of self.now.elements.now in
-            AreWritten (λ k. Ok (R.value reply (length list) (first_place list (element_of (map T.elem_of elements.now) k)))) 0 result room.new }
+        requires order { from ≤ to }
+        requires places { to ≤ length (keys_in elements) }
+        requires room { from + length room.old ≡ to }
+        ensures order { from ≤ result }
+        ensures within { result ≤ to }
+        ensures values { let numbers = keys_in self.now.elements in
+            AreWritten (λ k. Ok (R.value reply (length numbers) (place_of numbers (slice_index_or (keys_in elements.entry) k (pos 0))))) from result room.new }
         ensures len { length room.new ≡ length room.old }
     {
-        T::key_decides();
         let Places::InTable(table) = &self.places else {
-            return 0;
+            return from;
         };
-        write_replies(table.entries(), self.elements.len(), elements, reply, room);
-        elements.len()
+        write_run_replies(
+            table.entries(),
+            self.count(),
+            elements,
+            from,
+            to,
+            reply,
+            room,
+        );
+        to
     }
 }

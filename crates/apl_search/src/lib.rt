@@ -7,6 +7,7 @@
 #![tactic(auto)]
 
 mod finding;
+mod keys;
 mod laws;
 mod ordering;
 mod replies;

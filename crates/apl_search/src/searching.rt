@@ -1,5 +1,5 @@
 //! The elements of one argument found in the other.
-ghost use Rattle.std.specs.Prelude.{◌≡◌, pos, ◌+◌, ◌<◌, ◌≤◌, Result, Ok, map, length};
+ghost use Rattle.std.specs.Prelude.{◌≡◌, pos, ◌+◌, ◌≤◌, Ok, length};
 ghost use Rattle.apl_array.specs.declared.array.Kind.TheVariants.{Number};
 ghost use Rattle.apl_array.specs.declared.array.Elem.TheVariants.{Int};
 ghost use Rattle.apl_pool.specs.declared.kernel.Fault.{Fault};
@@ -7,11 +7,13 @@ ghost use Rattle.apl_pool.specs.declared.kernel.TheConstants.{MOST_PLACES};
 ghost use Rattle.apl_answer.specs.Pointwise.{answer_of, IsAnswerOf, IsAnswerAt};
 ghost use Rattle.apl_answer.specs.Rows.{Answers};
 ghost use Rattle.apl_search.specs.Finding.{found_outcome, member_outcome};
+ghost use Rattle.apl_search.specs.Keys.{keys_in};
 ghost use Rattle.apl_search.specs.Searching.{index_of_row, member_row};
 
-use crate::finding::{Finder, Searchable};
+use crate::finding::Finder;
+use crate::keys::{count_in, key_at};
 use crate::replies::Reply;
-use apl_answer::{OpFault, constant_array, fill_array, numbers_of};
+use apl_answer::{OpFault, constant_array, fill_array};
 use apl_array::{Array, Elements, Origin, places_match_index_lists};
 use apl_pool::{Crew, Cut, Fault, Gate, Kernel, Pool, Workers};
 use std::alloc::Global;
@@ -27,13 +29,13 @@ struct PlaceFrom {
 impl Reply for PlaceFrom {
     ghost use Rattle.std.specs.Prelude.{◌+◌, pos};
 
-    type Value = i64;
+    type Value = i32;
 
     ghost value = { λ r count place. pos (r.first + place) };
 
     #[inline(always)]
-    fn value(self, _count: usize, place: usize) -> i64 {
-        (self.first + place) as i64
+    fn value(self, _count: usize, place: usize) -> i32 {
+        (self.first + place) as i32
     }
 }
 
@@ -56,60 +58,59 @@ impl Reply for IsFound {
 
 /// What is answered of each element by its first place in a list.
 #[derive(Drop)]
-struct Searched<'a, T: Searchable, R: Reply> {
-    elements: &'a [T],
-    list: Finder<'a, T>,
+struct Searched<'a, R: Reply> {
+    elements: Elements<'a>,
+    list: Finder<'a>,
     reply: R,
-    ghost most: { length elements.now ≤ MOST_PLACES },
+    ghost most: { length (keys_in elements) ≤ MOST_PLACES },
 }
 
-impl<T: Searchable, R: Reply> Kernel for Searched<'_, T, R> {
-    ghost use Rattle.std.specs.Prelude.{Ok, length};
-    ghost use Rattle.apl_search.specs.Finding.{first_place, element_of};
+impl<R: Reply> Kernel for Searched<'_, R> {
+    ghost use Rattle.std.specs.Prelude.{Ok, length, pos, slice_index_or};
+    ghost use Rattle.apl_search.specs.Keys.{keys_in};
+    ghost use Rattle.apl_search.specs.Tables.{place_of};
 
     type Out = R::Value;
 
-    ghost place_count = { λ k. length k.elements.now };
+    ghost place_count = { λ k. length (keys_in k.elements) };
 
-    ghost outcome = { λ k place. Ok (R.value k.reply (length (map T.elem_of k.list.elements.now)) (first_place (map T.elem_of k.list.elements.now) (element_of (map T.elem_of k.elements.now) place))) };
+    ghost outcome = { λ k place. Ok (R.value k.reply (length (keys_in k.list.elements)) (place_of (keys_in k.list.elements) (slice_index_or (keys_in k.elements) place (pos 0)))) };
 
     fn count(&self) -> usize {
-        self.elements.len()
+        count_in(self.elements)
     }
 
     fn work(&self) -> usize {
-        self.list.work(self.elements.len())
+        self.list.work(count_in(self.elements))
     }
 
     #[inline(always)]
     fn at(&self, place: usize) -> Result<R::Value, Fault> {
-        let found = self.list.place(self.elements[place]);
+        let found = self.list.place(key_at(self.elements, place));
         Ok(self.reply.value(self.list.count(), found))
     }
 
     #[inline(always)]
     fn write_run(&self, from: usize, to: usize, room: &mut [R::Value]) -> usize {
-        from + self
-            .list
-            .write_replies(&self.elements[from..to], self.reply, room)
+        self.list
+            .write_replies(self.elements, from, to, self.reply, room)
     }
 }
 
-/// The first place in a list of each of an array's elements, counted from the origin.
-fn first_places<T: Searchable + Sync, W: Crew>(
+/// The first place in a list of each of an array's elements, counted from the origin. Both are of one kind.
+fn first_places<W: Crew>(
     workers: &W,
-    list: &[T],
+    a: &Array,
     b: &Array,
-    elements: &[T],
     origin: Origin,
 ) -> Result<Array, OpFault>
-    requires most { length list.now ≤ MOST_PLACES }
-    requires ravel { b.now.ravel ≡ map T.elem_of elements.now }
-    ensures { IsAnswerOf (answer_of b.now.shape (found_outcome (map T.elem_of list.now) b.now origin) Number) result }
+    requires { a.now.kind ≡ b.now.kind }
+    ensures { IsAnswerOf (answer_of b.now.shape (found_outcome a.now.ravel b.now origin) Number) result }
 {
     places_match_index_lists();
     let shape = b.shape().copy(workers.alloc())?;
-    let list = Finder::new(workers, list, elements.len())?;
+    let elements = b.elements();
+    let list = Finder::new(workers, a.elements(), count_in(elements))?;
     let first = origin.number() as usize;
     let kernel = Searched {
         elements,
@@ -119,20 +120,15 @@ fn first_places<T: Searchable + Sync, W: Crew>(
     fill_array(workers, shape, &kernel)
 }
 
-/// 1 for each of an array's elements that is in a list, else 0.
-fn membership<T: Searchable + Sync, W: Crew>(
-    workers: &W,
-    a: &Array,
-    elements: &[T],
-    list: &[T],
-) -> Result<Array, OpFault>
-    requires most { length list.now ≤ MOST_PLACES }
-    requires ravel { a.now.ravel ≡ map T.elem_of elements.now }
-    ensures { IsAnswerOf (answer_of a.now.shape (member_outcome a.now (map T.elem_of list.now)) Number) result }
+/// 1 for each of an array's elements that is in a list, else 0. Both are of one kind.
+fn membership<W: Crew>(workers: &W, a: &Array, b: &Array) -> Result<Array, OpFault>
+    requires { a.now.kind ≡ b.now.kind }
+    ensures { IsAnswerOf (answer_of a.now.shape (member_outcome a.now b.now.ravel) Number) result }
 {
     places_match_index_lists();
     let shape = a.shape().copy(workers.alloc())?;
-    let list = Finder::new(workers, list, elements.len())?;
+    let elements = a.elements();
+    let list = Finder::new(workers, b.elements(), count_in(elements))?;
     let kernel = Searched {
         elements,
         list,
@@ -168,20 +164,11 @@ pub fn index_of<R: Threads + Sync, C: Cut + Sync, G: Gate + Sync>(
         return Err(OpFault::Rank);
     }
     places_match_index_lists();
-    let past = origin.number() as usize + a.shape().count();
-    if let Some(list) = numbers_of(&workers, a)? {
-        let Some(elements) = numbers_of(&workers, b)? else {
-            return same_everywhere(&workers, b, past);
-        };
-        return first_places(&workers, list.as_slice(), b, elements.as_slice(), origin);
-    }
-    let Elements::Characters(list) = a.elements() else {
-        unreachable!()
-    };
-    let Elements::Characters(elements) = b.elements() else {
+    if a.kind() != b.kind() {
+        let past = origin.number() as usize + a.shape().count();
         return same_everywhere(&workers, b, past);
-    };
-    first_places(&workers, list, b, elements, origin)
+    }
+    first_places(&workers, a, b, origin)
 }
 
 /// `A∊B`, membership: 1 for each element of `A` that is in `B`, else 0.
@@ -198,17 +185,8 @@ pub fn member<R: Threads + Sync, C: Cut + Sync, G: Gate + Sync>(
 {
     let workers = Workers { rt, alloc, pool };
     places_match_index_lists();
-    if let Some(list) = numbers_of(&workers, b)? {
-        let Some(elements) = numbers_of(&workers, a)? else {
-            return same_everywhere(&workers, a, 0);
-        };
-        return membership(&workers, a, elements.as_slice(), list.as_slice());
-    }
-    let Elements::Characters(list) = b.elements() else {
-        unreachable!()
-    };
-    let Elements::Characters(elements) = a.elements() else {
+    if a.kind() != b.kind() {
         return same_everywhere(&workers, a, 0);
-    };
-    membership(&workers, a, elements, list)
+    }
+    membership(&workers, a, b)
 }

@@ -13,6 +13,7 @@ pub(crate) struct Table {
     pub least: i64,
     pub places: Vec<u32>,
     ghost some: { 0 < length places.items },
+    ghost most: { All (λ p. p ≤ MOST_PLACES) places.items },
 }
 
 /// How far a number is above a least one. It is past all numbers from there on if it is below.
@@ -106,6 +107,7 @@ pub(crate) struct Entries<'a> {
     least: i64,
     places: &'a [u32],
     ghost some: { 0 < length places.now },
+    ghost most: { All (λ p. p ≤ MOST_PLACES) places.now },
 }
 
 impl Entries<'_> {
@@ -113,7 +115,7 @@ impl Entries<'_> {
     #[inline(always)]
     pub(crate) fn place(&self, number: i64) -> usize
         ensures place { (numbers : List ℤ) → IsTable numbers self.now.least self.now.places.now → result ≡ place_of numbers number }
-        ensures most { result < 2 ^ 32 }
+        ensures most { result ≤ MOST_PLACES }
     {
         let last = self.places.len() - 1;
         let entry = distance(self.least, number).min(last as u64);

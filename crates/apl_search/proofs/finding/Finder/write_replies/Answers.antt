@@ -1,30 +1,28 @@
-use Rattle.std.proofs.Common.{◌≡◌, pos, Ok, ◌+◌, ◌<◌, ◌≤◌, map, length, get_or, sym, ap, subst, arith, rules}
+use Rattle.std.proofs.Common.{◌≡◌, pos, Ok, ◌+◌, ◌-◌, ◌<◌, length, take, drop, get_or, sym, ap, ◌∙◌, subst, arith}
 use Rattle.std.proofs.Math.Logic.{∥∥₁_elim}
-use Rattle.std.proofs.lemmas.List.{length-map}
+use Rattle.std.proofs.lemmas.List.{get_or-take, get_or-drop}
 use base.Stored.{Coded-set}
-use Rattle.apl_search.specs.Finding.{element_of, first_place, ArePlaces}
+use Rattle.apl_search.specs.Finding.{ArePlaces}
+use Rattle.apl_search.specs.Keys.{keys_in}
 use Rattle.apl_search.specs.Tables.{place_of, IsTable}
-use Rattle.apl_search.proofs.FirstPlaces.{place_at_key}
 use Rattle.apl_search.proofs.finding.Finder.write_replies.Goals as goal
 
 pub returns-clause-values : goal.returns-clause-values
 returns-clause-values g c =
-    let list = c.args.self.now.elements.now in
-    let elements = c.args.elements.now in
-    let elem_of = g.T.ElementType.elem_of in
-    let key = g.T.Keyed.key in
-    let long : length elements ≤ length c.write_replies.new.room = search rules in
+    let numbers = keys_in c.args.self.now.elements in
+    let keys = keys_in c.args.elements in
+    let from = c.args.from in
+    let to = c.args.to in
     let value = g.R.Reply.value c.args.reply in
     record {
-      room = omega (arith, long);
+      room = omega (arith, c.requires.room, c.write_run_replies.ensures.len);
       each = λ k d inside.
-          let within : k < length elements = omega (arith, inside) in
-          let place : first_place (map elem_of list) (element_of (map elem_of elements) k) ≡ place_of (map key list) (get_or (map key elements) k (pos 0)) = place_at_key elem_of key c.key_decides.ensures list elements k within in
-          let is : value (length (map elem_of list)) (first_place (map elem_of list) (element_of (map elem_of elements) k)) ≡ get_or c.write_replies.new.room k d =
+          let within : k < to - from = omega (arith, inside) in
+          let key : get_or (take (to - from) (drop from keys)) k (pos 0) ≡ get_or keys (from + k) (pos 0) = get_or-take (to - from) (drop from keys) k (pos 0) within ∙ get_or-drop from keys k (pos 0) in
+          let is : value (length numbers) (place_of numbers (get_or keys (from + k) (pos 0))) ≡ get_or c.write_run_replies.new.room k d =
           ∥∥₁_elim c.args.self.now.places_of (Coded-set g.row.R-Value.coded _ _) (λ places.
-          let table : IsTable (map key list) c.in-InTable.table.least c.in-InTable.table.places.items = subst (ArePlaces (map key list)) c.in-InTable.is places in
-          let written = c.write_replies.ensures.values (map key list) (rw (c.entries.ensures.least, c.entries.ensures.places) table) k d within in
-          rw (place, length-map list elem_of) (sym written)) in
-          let first : 0 + k ≡ k = omega arith in
-          rw first (ap Ok is);
+          let table : IsTable numbers c.in-InTable.table.least c.in-InTable.table.places.items = subst (ArePlaces numbers) c.in-InTable.is places in
+          let written = c.write_run_replies.ensures.values numbers (rw (c.entries.ensures.least, c.entries.ensures.places) table) k d within in
+          rw (sym key, sym c.count.ensures.count) (sym written)) in
+          ap Ok is;
     }
