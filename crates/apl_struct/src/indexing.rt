@@ -6,12 +6,12 @@ ghost use Rattle.apl_answer.specs.Arguments.{rank_of};
 ghost use Rattle.apl_answer.specs.Pointwise.{IsShapeOf};
 ghost use Rattle.apl_answer.specs.Rows.{Answers};
 ghost use Rattle.apl_struct.specs.Indexing.{are_slots_within, selected_shape, selection_checks, select_row};
-ghost use Rattle.apl_struct.specs.Selecting.{IsCheckedResult, IsSelection};
+ghost use Rattle.apl_struct.specs.Selecting.{slot_list, IsCheckedResult, IsSelection};
 
 use crate::building::empty;
 use crate::chosen::select_of_vector;
-use crate::selecting::{NumberArray, push_slots, selected_walk};
-use apl_answer::OpFault;
+use crate::selecting::{NumberArray, SlotNumbers, push_slots, selected_walk};
+use apl_answer::{Numeric, OpFault, number_at};
 use apl_array::{Array, Origin, Shape, places_match_index_lists};
 use apl_pool::{Crew, Cut, Gate, Pool, Workers};
 use apl_walk::gather;
@@ -27,14 +27,24 @@ fn is_index(number: i64, origin: Origin, axis_length: usize) -> bool
 }
 
 /// Whether all numbers, less the origin, are indexes of an axis of that length. The loop has no branches.
-fn are_indexes(numbers: &[i64], origin: Origin, axis_length: usize) -> bool
-    ensures { result ≡ list_all (λ number. is_below axis_length (from_origin origin number)) numbers.now }
+fn are_indexes<N: Numeric>(numbers: &[N], origin: Origin, axis_length: usize) -> bool
+    ensures { result ≡ list_all (λ number. is_below axis_length (from_origin origin number)) (map N.number_in numbers.now) }
 {
     let mut are_all = true;
     for place in 0..numbers.len() {
-        are_all &= is_index(numbers[place], origin, axis_length);
+        are_all &= is_index(number_at(numbers, place), origin, axis_length);
     }
     are_all
+}
+
+/// The same of the numbers of a slot.
+fn are_slot_indexes(numbers: &SlotNumbers, origin: Origin, axis_length: usize) -> bool
+    ensures { result ≡ list_all (λ number. is_below axis_length (from_origin origin number)) (slot_list numbers.now) }
+{
+    match numbers {
+        SlotNumbers::Narrow(numbers) => are_indexes(numbers, origin, axis_length),
+        SlotNumbers::Wide(numbers) => are_indexes(numbers.as_slice(), origin, axis_length),
+    }
 }
 
 /// Whether each number of the slots, less the origin, is an index of the slot's axis.
@@ -48,7 +58,7 @@ fn are_within(lengths: &[usize], slots: &[Option<NumberArray>], origin: Origin) 
         return true;
     };
     match slot {
-        Some(chosen) if !are_indexes(chosen.numbers.as_slice(), origin, *axis_length) => false,
+        Some(chosen) if !are_slot_indexes(&chosen.numbers, origin, *axis_length) => false,
         _ => are_within(lengths, slots, origin),
     }
 }

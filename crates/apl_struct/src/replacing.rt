@@ -25,7 +25,7 @@ use crate::selecting::{NumberArray, selected_walk};
 use apl_answer::{ElementType, Numbers, OpFault, answer_is_each_outcome};
 use apl_array::{Array, Elements, Origin, Ravel, Shape, places_match_index_lists};
 use apl_pool::{Crew, Cut, Gate, Pool, Workers};
-use apl_walk::{AxisMap, Map, element_or, start_at};
+use apl_walk::{AxisMap, Listed, Map, element_or, start_at};
 use std::alloc::{AllocError, Global};
 use std::mem;
 use std::thread::Threads;
@@ -114,7 +114,10 @@ fn write_line<T: Copy>(
 {
     let line = Line { base, from, step };
     match last {
-        Map::Listed(last) => write_along(last, line, values, fill, room),
+        Map::Listed(list) => match list {
+            Listed::Numbers(last) => write_along(last, line, values, fill, room),
+            Listed::Narrow(last) => write_along(last, line, values, fill, room),
+        },
         Map::Window(last) => write_along(last, line, values, fill, room),
         last => write_along(last, line, values, fill, room),
     }

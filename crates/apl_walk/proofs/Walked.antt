@@ -5,9 +5,12 @@ use Rattle.std.proofs.lemmas.Bool.{cases_lt}
 use Rattle.std.proofs.Math.Arith.{mod-mul}
 use Rattle.std.proofs.Math.Nat.{add_assoc, mod-lt, div-one, div-div-eq-div-mul, mul-le-mul_right, mul-lt-mul_of_pos_right}
 use Rattle.apl_walk.specs.declared.window.Window.{Window}
+use Rattle.apl_walk.specs.declared.listed.Listed.{Listed as NumberList}
+use Rattle.apl_walk.specs.declared.listed.Listed.TheVariants.{Numbers, Narrow}
 use Rattle.apl_walk.specs.declared.maps.Map.{Map}
 use Rattle.apl_walk.specs.declared.maps.Map.TheVariants.{Window as WindowMap, Reversed, Rotated, Listed, Indexed, Repeated, Ones, Expanded}
 use Rattle.apl_walk.specs.Steps.{and_step, window_step}
+use Rattle.apl_walk.specs.Listed.{listed_extent}
 use Rattle.apl_walk.specs.Maps.{step_of, map_extent, map_step, extent_of, walked, windows_step}
 use Rattle.apl_walk.proofs.Stepped.{window_within, window_before, window_after}
 
@@ -79,11 +82,15 @@ joined_step outer inner place from start to stride =
     ∙ ap (λ s. and_step s (window_step outer.from outer.to outer.start (inner.stride * e) q)) (whole_step inner r from start to rest)
     ∙ ap (λ t. and_step (step_of inner r) (window_step outer.from outer.to outer.start t q)) (sym stride)
 
+listed_some : (l : NumberList) → 0 < listed_extent l
+listed_some (Numbers l) = l.count_some
+listed_some (Narrow l) = l.count_some
+
 pub map_some : (m : Map) → 0 < map_extent m
 map_some (WindowMap w) = w.extent_some
 map_some (Reversed r) = r.some
 map_some (Rotated r) = r.some
-map_some (Listed l) = l.count_some
+map_some (Listed l) = listed_some l
 map_some (Indexed l) = l.count_some
 map_some (Ones o) = o.some
 map_some (Expanded e) = e.some

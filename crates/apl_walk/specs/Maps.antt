@@ -3,7 +3,8 @@ use Rattle.std.specs.Prelude.{ℕ, ◌*◌, ◌/◌, ◌%◌, ◌-◌, ◌+◌, 
 use Rattle.apl_walk.specs.declared.window.Window.{Window as WindowMap}
 use Rattle.apl_walk.specs.declared.maps.Map.{Map}
 use Rattle.apl_walk.specs.declared.maps.Map.TheVariants.{Window, Reversed, Rotated, Listed, Indexed, Repeated, Ones, Expanded}
-use Rattle.apl_walk.specs.Steps.{and_step, window_step, reversed_step, rotated_step, listed_step, indexed_step, repeated_step}
+use Rattle.apl_walk.specs.Steps.{and_step, window_step, reversed_step, rotated_step, indexed_step, repeated_step}
+use Rattle.apl_walk.specs.Listed.{listed_extent, listed_reach, step_listed}
 use Rattle.apl_walk.specs.Ones.{one_step, next_step}
 
 -- the step of a window
@@ -15,7 +16,7 @@ abbrev pub map_extent : Map → ℕ
 map_extent (Window w) = w.extent
 map_extent (Reversed r) = r.extent
 map_extent (Rotated r) = r.extent
-map_extent (Listed l) = length l.numbers.now
+map_extent (Listed l) = listed_extent l
 map_extent (Indexed l) = length l.indexes.now
 map_extent (Repeated r) = r.axis_length * r.times
 map_extent (Ones o) = o.counted.count
@@ -26,7 +27,7 @@ abbrev pub map_reach : Map → ℕ
 map_reach (Window w) = (w.to + w.start - (w.from + 1)) * w.stride
 map_reach (Reversed r) = (r.extent - 1) * r.stride
 map_reach (Rotated r) = (r.extent - 1) * r.stride
-map_reach (Listed l) = (l.axis_length - 1) * l.stride
+map_reach (Listed l) = listed_reach l
 map_reach (Indexed l) = (l.axis_length - 1) * l.stride
 map_reach (Repeated r) = (r.axis_length - 1) * r.stride
 map_reach (Ones o) = (length o.counted.bits.now - 1) * o.stride
@@ -37,7 +38,7 @@ abbrev pub map_step : Map → ℕ → Option ℕ
 map_step (Window w) i = window_step w.from w.to w.start w.stride i
 map_step (Reversed r) i = reversed_step r.extent r.stride i
 map_step (Rotated r) i = rotated_step r.extent r.by r.stride i
-map_step (Listed l) i = listed_step l.first l.stride l.numbers.now i
+map_step (Listed l) i = step_listed l i
 map_step (Indexed l) i = indexed_step l.stride l.indexes.now i
 map_step (Repeated r) i = repeated_step r.times r.stride i
 map_step (Ones o) i = one_step o.counted.bits.now o.stride i

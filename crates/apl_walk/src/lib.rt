@@ -26,7 +26,7 @@ pub use expanded::Expanded;
 pub use fronts::element_or;
 pub use gathered::{Gathered, gather};
 pub use lined::{ByLines, Lined};
-pub use listed::{Indexed, Listed};
+pub use listed::{Indexed, Listed, Numbered};
 pub use map::{AxisMap, MOST_STEP};
 pub use maps::{MOST_MAPS, Map, start_at};
 pub use ones::Ones;
