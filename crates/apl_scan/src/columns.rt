@@ -1,5 +1,5 @@
 //! The folds of numbers along their columns, in one pass over the rows.
-ghost use Rattle.std.specs.Prelude.{◌≡◌, true, ◌+◌, ◌*◌, ◌<◌, ◌≤◌, [], IfOk, IfSome, length, vec_len};
+ghost use Rattle.std.specs.Prelude.{◌≡◌, true, ◌+◌, ◌*◌, ◌<◌, ◌≤◌, [], IfOk, IfSome, length, map, vec_len};
 ghost use Rattle.apl_pool.specs.declared.kernel.TheConstants.{MOST_PLACES};
 ghost use Rattle.apl_scalar.specs.Scalar.{dyadic_numbers};
 ghost use Rattle.apl_summary.specs.Columns.{AreColumnFolds};
@@ -8,6 +8,7 @@ ghost use Rattle.apl_summary.specs.Running.{IsSummaryOrNone};
 
 use crate::running::{fold_behind, with_next};
 use crate::summarized::room_for;
+use apl_answer::Numeric;
 use apl_array::ScalarFunction;
 use apl_pool::{Crew, MOST_PLACES, Summary};
 use apl_summary::{PrefixState, Running, append_columns_after, with_summary};
@@ -52,16 +53,16 @@ impl<S: Summary<Item = i64> + Copy + Drop> PrefixState for ExactState<S> {
 
 /// The folds of all numbers of its column up to each place, up to the first that has a fault. The numbers are in blocks of `items` rows of
 /// `inner` numbers.
-fn fold_columns_by<S: Running + Copy + Drop, W: Crew>(
+fn fold_columns_by<S: Running + Copy + Drop, T: Numeric, W: Crew>(
     workers: &W,
-    numbers: &[i64],
+    numbers: &[T],
     items: usize,
     inner: usize,
 ) -> Result<Vec<i64>, AllocError>
     requires items { 0 < items }
     requires inner { 0 < inner }
     ensures most { IfOk result (λ v. vec_len v ≤ length numbers.now) }
-    ensures folds { IfOk result (λ v. AreColumnFolds S.step numbers.now items inner (vec_len v) v.items) }
+    ensures folds { IfOk result (λ v. AreColumnFolds S.step (map T.number_in numbers.now) items inner (vec_len v) v.items) }
 {
     let room = room_for(workers, numbers.len())?;
     let mut values = S::append_columns(workers.alloc(), numbers, items, inner, room)?;
@@ -75,10 +76,10 @@ fn fold_columns_by<S: Running + Copy + Drop, W: Crew>(
 
 /// The folds of all numbers of its column up to each place, by a function whose folds have summaries. They end before the first that has
 /// a fault.
-pub(crate) fn fold_columns<W: Crew>(
+pub(crate) fn fold_columns<T: Numeric, W: Crew>(
     workers: &W,
     f: ScalarFunction,
-    numbers: &[i64],
+    numbers: &[T],
     items: usize,
     inner: usize,
 ) -> Result<Vec<i64>, AllocError>
@@ -86,11 +87,11 @@ pub(crate) fn fold_columns<W: Crew>(
     requires items { 0 < items }
     requires inner { 0 < inner }
     ensures most { IfOk result (λ v. vec_len v ≤ length numbers.now) }
-    ensures folds { IfOk result (λ v. AreColumnFolds (dyadic_numbers f) numbers.now items inner (vec_len v) v.items) }
+    ensures folds { IfOk result (λ v. AreColumnFolds (dyadic_numbers f) (map T.number_in numbers.now) items inner (vec_len v) v.items) }
 {
     with_summary!(
         f,
-        fold_columns_by::<S, W>(workers, numbers, items, inner),
+        fold_columns_by::<S, T, W>(workers, numbers, items, inner),
         unreachable!()
     )
 }

@@ -1,5 +1,5 @@
 //! The numbers along an axis, folded up to each place.
-ghost use Rattle.std.specs.Prelude.{◌≡◌, true, ◌+◌, ◌-◌, ◌*◌, ◌/◌, ◌%◌, ◌<◌, ◌≤◌, IfOk, IfErr, length};
+ghost use Rattle.std.specs.Prelude.{◌≡◌, true, ◌+◌, ◌-◌, ◌*◌, ◌/◌, ◌%◌, ◌<◌, ◌≤◌, IfOk, IfErr, IfSome, length, map};
 ghost use Rattle.apl_pool.specs.declared.kernel.TheConstants.{MOST_PLACES};
 ghost use Rattle.apl_pool.specs.Pool.{AreValues, IsStopOf};
 ghost use Rattle.apl_scalar.specs.Scalar.{dyadic_numbers};
@@ -7,13 +7,15 @@ ghost use Rattle.apl_summary.specs.Functions.{has_summary};
 ghost use Rattle.apl_scan.specs.Lines.{folded, number_along, numbers_before, scan_at};
 
 use crate::columns::fold_columns;
-use crate::summarized::fill_by_summary;
+use crate::summarized::{fill_by_summary, put_scans};
+use apl_answer::Numeric;
 use apl_array::ScalarFunction;
 use apl_divisor::Divisor;
 use apl_pool::{Crew, Fault, Kernel, Stop, fill};
 use apl_scalar::function_types::Function;
 use apl_scalar::with_type;
 use apl_summary::has_summary;
+use std::alloc::AllocError;
 
 /// The numbers of an array, in lines along an axis.
 #[derive(Drop)]
@@ -186,4 +188,33 @@ pub(crate) fn fill_scans<W: Crew>(
         return fill_by_summary(workers, f, lines.numbers, lines.items.number());
     }
     fill_by_columns(workers, f, lines)
+}
+
+/// The folds of numbers up to each place of lines, in one pass over the numbers as they are held, by a function whose folds have summaries.
+/// There are none where the workers are to share them, or where one may have a fault.
+pub(crate) fn scans_in_one_pass<T: Numeric, W: Crew>(
+    workers: &W,
+    f: ScalarFunction,
+    numbers: &[T],
+    items: usize,
+    inner: usize,
+) -> Result<Option<Vec<i64>>, AllocError>
+    requires summary { has_summary f ≡ true }
+    requires most { length numbers.now ≤ MOST_PLACES }
+    requires items { 0 < items }
+    requires inner { 0 < inner }
+    requires lines { length numbers.now / (items * inner) * (items * inner) ≡ length numbers.now }
+    ensures { IfOk result (λ scans. IfSome scans (λ v. AreValues (scan_at (dyadic_numbers f) (map T.number_in numbers.now) items inner) (length numbers.now) v.items)) }
+{
+    if inner == 1 {
+        return put_scans(workers, f, numbers, items);
+    }
+    if T::PER_NUMBER == 1 {
+        return Ok(None);
+    }
+    let values = fold_columns(workers, f, numbers, items, inner)?;
+    if values.len() < numbers.len() {
+        return Ok(None);
+    }
+    Ok(Some(values))
 }

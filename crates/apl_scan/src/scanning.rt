@@ -10,8 +10,7 @@ ghost use Rattle.apl_answer.specs.Rows.{Answers};
 ghost use Rattle.apl_reduce.specs.Folding.{reduction};
 ghost use Rattle.apl_scan.specs.Scanning.{items_up_to, scanned, scan_row};
 
-use crate::lines::{AxisLines, fill_scans};
-use crate::summarized::put_scans;
+use crate::lines::{AxisLines, fill_scans, scans_in_one_pass};
 use crate::truth_scans::{TruthScan, scan_lines};
 use apl_answer::{
     Numeric, OpFault, array_copy, array_from_fill, constant_array, elements_are_numbers, numbers_of,
@@ -59,7 +58,7 @@ fn scan_made<W: Crew>(workers: &W, f: ScalarFunction, b: &Array, k: usize) -> Re
     scan_numbers(workers, f, b, numbers.as_slice(), k)
 }
 
-/// The scan along axis `k`, of two and more items, of numbers as they are held. Along the last axis it is in one pass, if it can be.
+/// The scan along axis `k`, of two and more items, of numbers as they are held: in one pass, if it can be.
 fn scan_held<T: Numeric, W: Crew>(
     workers: &W,
     f: ScalarFunction,
@@ -77,8 +76,9 @@ fn scan_held<T: Numeric, W: Crew>(
     replaced_index_has_place();
     split_index_has_place();
     elements_are_numbers(elements);
-    if b.shape().inner(k) == 1 && has_summary(f) {
-        if let Some(values) = put_scans(workers, f, elements, b.shape().axis(k))? {
+    if has_summary(f) {
+        let (items, inner) = (b.shape().axis(k), b.shape().inner(k));
+        if let Some(values) = scans_in_one_pass(workers, f, elements, items, inner)? {
             return array_from_fill(b.shape().copy(workers.alloc())?, Ok(values));
         }
     }

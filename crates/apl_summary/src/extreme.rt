@@ -72,9 +72,9 @@ impl<const GREATEST: u8> Running for Extreme<GREATEST> {
         append_scan_after(RunningExtreme::<GREATEST>::none(), numbers, values)
     }
 
-    fn append_columns(
+    fn append_columns<T: Numeric>(
         alloc: Global,
-        numbers: &[i64],
+        numbers: &[T],
         items: usize,
         inner: usize,
         values: Vec<i64>,

@@ -1,5 +1,5 @@
 //! Sums and differences along columns of numbers near 0. An array has so few places that no total of them leaves the range.
-ghost use Rattle.std.specs.Prelude.{◌≡◌, ◌+◌, ◌*◌, ◌/◌, ◌^◌, ◌<◌, ◌≤◌, ℕ, ℤ, List, pos, ◌+ℤ◌, Bool, true, nat_eq, length, vec_len, vec_capacity};
+ghost use Rattle.std.specs.Prelude.{◌≡◌, ◌+◌, ◌*◌, ◌/◌, ◌^◌, ◌<◌, ◌≤◌, ℕ, ℤ, List, pos, ◌+ℤ◌, Bool, true, nat_eq, length, map, vec_len, vec_capacity};
 ghost use Rattle.apl_pool.specs.Summaries.{IsI64};
 ghost use Rattle.apl_pool.specs.declared.kernel.TheConstants.{MOST_PLACES};
 ghost use Rattle.apl_scalar.specs.Scalar.{dyadic_numbers};
@@ -9,6 +9,7 @@ ghost use Rattle.apl_summary.specs.Fronts.{signed_total};
 ghost use Rattle.apl_summary.specs.NearTotals.{sign_after, AreNearFolds, IsRow};
 
 use crate::running_sum::is_minus;
+use apl_answer::{Numeric, number_at};
 use apl_pool::MOST_PLACES;
 
 /// Numbers are near 0 from the negative of this one up to before it. As many of them as an array has places add up to at most 2^62.
@@ -44,19 +45,19 @@ fn total_with(subtracts: bool, total: i64, number: i64) -> i64
 
 /// Appends the first row of a block, whose numbers are their own folds. It answers whether all are near 0.
 #[inline(always)]
-fn append_first_row(numbers: &[i64], inner: usize, values: &mut Vec<i64>) -> bool
+fn append_first_row<T: Numeric>(numbers: &[T], inner: usize, values: &mut Vec<i64>) -> bool
     requires places { vec_len values.old + inner ≤ length numbers.now }
     requires room { vec_len values.old + inner ≤ vec_capacity values.old }
     ensures len { vec_len values.new ≡ vec_len values.old + inner }
     ensures capacity { vec_capacity values.new ≡ vec_capacity values.old }
-    ensures folds { result ≡ true → (is_plus : Bool) (before : ℕ → List ℤ) → IsRow before numbers.now (vec_len values.old) inner 0
-        → AreNearFolds is_plus before numbers.now (vec_len values.old) values.old.items
-        → AreNearFolds is_plus before numbers.now (vec_len values.new) values.new.items }
+    ensures folds { result ≡ true → (is_plus : Bool) (before : ℕ → List ℤ) → IsRow before (map T.number_in numbers.now) (vec_len values.old) inner 0
+        → AreNearFolds is_plus before (map T.number_in numbers.now) (vec_len values.old) values.old.items
+        → AreNearFolds is_plus before (map T.number_in numbers.now) (vec_len values.new) values.new.items }
 {
     let start = values.len();
     let mut most = 0;
     for column in 0..inner {
-        let number = numbers[start + column];
+        let number = number_at(numbers, start + column);
         most |= above_least(number);
         values.push_reserved(number);
     }
@@ -66,21 +67,26 @@ fn append_first_row(numbers: &[i64], inner: usize, values: &mut Vec<i64>) -> boo
 /// Appends a row that is not the first of its block: the totals of the row before it plus the numbers, or minus them. It answers whether
 /// all are near 0. The loop has no branch, and a processor adds several numbers at once.
 #[inline(always)]
-fn append_row(subtracts: bool, numbers: &[i64], inner: usize, values: &mut Vec<i64>) -> bool
+fn append_row<T: Numeric>(
+    subtracts: bool,
+    numbers: &[T],
+    inner: usize,
+    values: &mut Vec<i64>,
+) -> bool
     requires past { inner ≤ vec_len values.old }
     requires places { vec_len values.old + inner ≤ length numbers.now }
     requires room { vec_len values.old + inner ≤ vec_capacity values.old }
     ensures len { vec_len values.new ≡ vec_len values.old + inner }
     ensures capacity { vec_capacity values.new ≡ vec_capacity values.old }
     ensures folds { result ≡ true → (is_plus : Bool) (before : ℕ → List ℤ) (count : ℕ)
-        → 0 < count → count < MOST_PLACES → subtracts ≡ sign_after is_plus count → IsRow before numbers.now (vec_len values.old) inner count
-        → AreNearFolds is_plus before numbers.now (vec_len values.old) values.old.items
-        → AreNearFolds is_plus before numbers.now (vec_len values.new) values.new.items }
+        → 0 < count → count < MOST_PLACES → subtracts ≡ sign_after is_plus count → IsRow before (map T.number_in numbers.now) (vec_len values.old) inner count
+        → AreNearFolds is_plus before (map T.number_in numbers.now) (vec_len values.old) values.old.items
+        → AreNearFolds is_plus before (map T.number_in numbers.now) (vec_len values.new) values.new.items }
 {
     let start = values.len();
     let mut most = 0;
     for column in 0..inner {
-        let number = numbers[start + column];
+        let number = number_at(numbers, start + column);
         most |= above_least(number);
         let total = values[start + column - inner];
         values.push_reserved(total_with(subtracts, total, number));
@@ -90,9 +96,9 @@ fn append_row(subtracts: bool, numbers: &[i64], inner: usize, values: &mut Vec<i
 
 /// Appends the row that has `row` rows of its block before it. It answers whether all numbers are near 0.
 #[inline(always)]
-fn append_next_row<const MINUS: u8>(
+fn append_next_row<const MINUS: u8, T: Numeric>(
     row: usize,
-    numbers: &[i64],
+    numbers: &[T],
     inner: usize,
     values: &mut Vec<i64>,
 ) -> bool
@@ -102,9 +108,9 @@ fn append_next_row<const MINUS: u8>(
     requires room { vec_len values.old + inner ≤ vec_capacity values.old }
     ensures len { vec_len values.new ≡ vec_len values.old + inner }
     ensures capacity { vec_capacity values.new ≡ vec_capacity values.old }
-    ensures folds { result ≡ true → (before : ℕ → List ℤ) → IsRow before numbers.now (vec_len values.old) inner row
-        → AreNearFolds (nat_eq MINUS 0) before numbers.now (vec_len values.old) values.old.items
-        → AreNearFolds (nat_eq MINUS 0) before numbers.now (vec_len values.new) values.new.items }
+    ensures folds { result ≡ true → (before : ℕ → List ℤ) → IsRow before (map T.number_in numbers.now) (vec_len values.old) inner row
+        → AreNearFolds (nat_eq MINUS 0) before (map T.number_in numbers.now) (vec_len values.old) values.old.items
+        → AreNearFolds (nat_eq MINUS 0) before (map T.number_in numbers.now) (vec_len values.new) values.new.items }
 {
     if row == 0 {
         append_first_row(numbers, inner, values)
@@ -117,8 +123,8 @@ fn append_next_row<const MINUS: u8>(
 
 /// Puts the folds by `+` or `-` of all numbers of its column up to each place into a list that is empty and has room for them. The numbers
 /// are in blocks of `items` rows of `inner` numbers. It stops after a row with a number that is not near 0.
-pub fn append_near_columns<const MINUS: u8>(
-    numbers: &[i64],
+pub fn append_near_columns<const MINUS: u8, T: Numeric>(
+    numbers: &[T],
     items: usize,
     inner: usize,
     values: Vec<i64>,
@@ -131,7 +137,7 @@ pub fn append_near_columns<const MINUS: u8>(
     ensures all { result.are_near ≡ true → vec_len result.values ≡ length numbers.now / inner * inner }
     ensures folds { result.are_near ≡ true
         → AreColumnFolds (dyadic_numbers (signed_function (nat_eq MINUS 0)))
-        numbers.now items inner (vec_len result.values) result.values.items }
+        (map T.number_in numbers.now) items inner (vec_len result.values) result.values.items }
     ensures capacity { vec_capacity result.values ≡ vec_capacity values }
 {
     let mut values = values;
@@ -142,7 +148,7 @@ pub fn append_near_columns<const MINUS: u8>(
         };
     }
     for row in 0..numbers.len() / inner {
-        if !append_next_row::<MINUS>(row % items, numbers, inner, &mut values) {
+        if !append_next_row::<MINUS, T>(row % items, numbers, inner, &mut values) {
             return NearColumns {
                 values,
                 are_near: false,

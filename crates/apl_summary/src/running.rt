@@ -37,9 +37,9 @@ pub trait Running: Summary<Item = i64> {
 
     /// Puts the folds of all numbers of its column up to each place into a list that is empty and has room for them. The numbers are in
     /// blocks of `items` rows of `inner` numbers. It puts the first of them, all or fewer.
-    fn append_columns(
+    fn append_columns<T: Numeric>(
         _alloc: Global,
-        _numbers: &[i64],
+        _numbers: &[T],
         _items: usize,
         _inner: usize,
         values: Vec<i64>,
@@ -49,7 +49,7 @@ pub trait Running: Summary<Item = i64> {
         requires empty { vec_len values ≡ 0 }
         requires room { length _numbers.now ≤ vec_capacity values }
         ensures most { IfOk result (λ v. vec_len v ≤ length _numbers.now) }
-        ensures folds { IfOk result (λ v. AreColumnFolds Self.Summary.step _numbers.now _items _inner (vec_len v) v.items) }
+        ensures folds { IfOk result (λ v. AreColumnFolds Self.Summary.step (map T.number_in _numbers.now) _items _inner (vec_len v) v.items) }
         ensures capacity { IfOk result (λ v. vec_capacity v ≡ vec_capacity values) }
     {
         Ok(values)

@@ -77,9 +77,9 @@ impl Running for Scaled {
         append_scan_after(BoundedProduct::none(), numbers, values)
     }
 
-    fn append_columns(
+    fn append_columns<T: Numeric>(
         alloc: Global,
-        numbers: &[i64],
+        numbers: &[T],
         items: usize,
         inner: usize,
         values: Vec<i64>,

@@ -79,14 +79,14 @@ impl<const MINUS: u8> Running for SignedSum<MINUS> {
         append_sums::<MINUS, T>(numbers, values)
     }
 
-    fn append_columns(
+    fn append_columns<T: Numeric>(
         alloc: Global,
-        numbers: &[i64],
+        numbers: &[T],
         items: usize,
         inner: usize,
         values: Vec<i64>,
     ) -> Result<Vec<i64>, AllocError> {
-        let near = append_near_columns::<MINUS>(numbers, items, inner, values);
+        let near = append_near_columns::<MINUS, T>(numbers, items, inner, values);
         let mut values = near.values;
         if near.are_near {
             return Ok(values);

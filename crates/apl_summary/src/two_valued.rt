@@ -127,9 +127,9 @@ impl<P: TwoValuedFunction + Drop> Running for TwoValued<P> {
         append_scan_after(RunningBits::<P>::none(), numbers, values)
     }
 
-    fn append_columns(
+    fn append_columns<T: Numeric>(
         alloc: Global,
-        numbers: &[i64],
+        numbers: &[T],
         items: usize,
         inner: usize,
         values: Vec<i64>,

@@ -1,4 +1,4 @@
-use Rattle.std.proofs.Common.{◌≡◌, ◌+◌, ◌^◌, ◌<◌, ℤ, pos, [], ◌∷◌, ◌++◌, length, slice_index_or, to_z, of_z, w64, sym, ap, subst, ◌∙◌, rules, arith}
+use Rattle.std.proofs.Common.{◌≡◌, ◌+◌, ◌^◌, ◌<◌, ℤ, pos, [], ◌∷◌, ◌++◌, length, slice_index_or, to_z, of_z, w64, sym, ap, subst, ◌∙◌, rules, arith, map}
 use Rattle.std.proofs.lemmas.Bool.{ltb-true}
 use Rattle.std.proofs.lemmas.List.{length_push}
 use Rattle.apl_summary.specs.NearTotals.{AreNearFolds, IsRow}
@@ -6,16 +6,17 @@ use Rattle.apl_summary.proofs.NearTotals.{IsNear, near_from_above, both_low, emp
 use Rattle.apl_summary.proofs.near_columns.append_first_row.Goals as goal
 
 pub loop-column-preserved : goal.loop-column-preserved
-loop-column-preserved c =
-    let numbers = c.args.numbers.now in
+loop-column-preserved g c =
+    let numbers = map g.T.Numeric.number_in c.args.numbers.now in
     let start = c.len-start.result in
     let column = c.loop-column.column in
     let place = start + column in
     let kept = c.loop-column.invariant in
     let values = c.loop-column.values.items in
     let x : ℤ = slice_index_or numbers place (pos 0) in
-    let value : ℤ = to_z w64 (of_z w64 x) in
-    let read : value ≡ x = search rules in
+    let value : ℤ = to_z w64 (of_z w64 c.number_at-number.result) in
+    let read_number : value ≡ c.number_at-number.result = search rules in
+    let read : value ≡ x = read_number ∙ c.number_at-number.ensures in
     let pushed : c.push_reserved.new.self.items ≡ values ++ value ∷ [] = c.push_reserved.ensures.items in
     let next : place + 1 ≡ start + (column + 1) = omega arith in
     record {
@@ -32,8 +33,8 @@ loop-column-preserved c =
     }
 
 pub returns-clause-folds : goal.returns-clause-folds
-returns-clause-folds c = λ near is_plus before row had.
-    let numbers = c.args.numbers.now in
+returns-clause-folds g c = λ near is_plus before row had.
+    let numbers = map g.T.Numeric.number_in c.args.numbers.now in
     let kept = c.loop-column.invariant in
     let low : c.loop-column.most < 2 ^ 33 = ltb-true c.loop-column.most (2 ^ 33) near in
     let start = c.len-start.ensures in

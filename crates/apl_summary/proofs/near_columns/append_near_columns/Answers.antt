@@ -1,4 +1,4 @@
-use Rattle.std.proofs.Common.{◌%◌, nat_eq, vec_len, sym, subst, ◌∙◌, arith}
+use Rattle.std.proofs.Common.{◌%◌, nat_eq, vec_len, sym, subst, ◌∙◌, arith, map}
 use Rattle.apl_summary.specs.Columns.{column_before}
 use Rattle.apl_summary.specs.NearTotals.{IsRow}
 use Rattle.apl_summary.proofs.NearTotals.{row_there, column_folds}
@@ -6,7 +6,7 @@ use Rattle.apl_summary.proofs.near_columns.append_near_columns.Goals as goal
 
 pub loop-row-preserved : goal.loop-row-preserved
 loop-row-preserved g c =
-    let numbers = c.args.numbers.now in
+    let numbers = (map g.T.Numeric.number_in c.args.numbers.now) in
     let items = c.args.items in
     let inner = c.args.inner in
     let row = c.loop-row.row in
@@ -22,4 +22,4 @@ loop-row-preserved g c =
 
 pub returns-clause-folds : goal.returns-clause-folds
 returns-clause-folds g c = λ near.
-    column_folds (nat_eq g.row.MINUS 0) c.args.numbers.now c.loop-row.values.items c.args.items c.args.inner (vec_len c.loop-row.values) c.loop-row.invariant.folds
+    column_folds (nat_eq g.row.MINUS 0) (map g.T.Numeric.number_in c.args.numbers.now) c.loop-row.values.items c.args.items c.args.inner (vec_len c.loop-row.values) c.loop-row.invariant.folds

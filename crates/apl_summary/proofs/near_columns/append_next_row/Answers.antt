@@ -1,11 +1,11 @@
-use Rattle.std.proofs.Common.{◌≡◌, ◌<◌, nat_eq, vec_len, sym, subst, ◌∙◌, rules, arith}
+use Rattle.std.proofs.Common.{◌≡◌, ◌<◌, nat_eq, vec_len, sym, subst, ◌∙◌, rules, arith, map}
 use Rattle.apl_summary.specs.NearTotals.{IsRow}
 use Rattle.apl_summary.proofs.near_columns.append_next_row.Goals as goal
 
 pub returns-then-row-eq0-clause-folds : goal.returns-then-row-eq0-clause-folds
 returns-then-row-eq0-clause-folds g c = λ near before row had.
     let first : c.args.row ≡ 0 = search rules in
-    c.append_first_row.ensures.folds near (nat_eq g.row.MINUS 0) before (subst (IsRow before c.args.numbers.now (vec_len c.args.values.now) c.args.inner) first row) had
+    c.append_first_row.ensures.folds near (nat_eq g.row.MINUS 0) before (subst (IsRow before (map g.T.Numeric.number_in c.args.numbers.now) (vec_len c.args.values.now) c.args.inner) first row) had
 
 pub returns-then-is_minus-clause-folds : goal.returns-then-is_minus-clause-folds
 returns-then-is_minus-clause-folds g c = λ near before row had.

@@ -1,4 +1,4 @@
-use Rattle.std.proofs.Common.{◌≡◌, ◌+◌, ◌-◌, ◌*◌, ◌%◌, length, vec_len, ap, subst, ◌∙◌, arith}
+use Rattle.std.proofs.Common.{◌≡◌, ◌+◌, ◌-◌, ◌*◌, ◌%◌, length, vec_len, ap, subst, ◌∙◌, arith, map}
 use Rattle.apl_summary.specs.Columns.{AreFrontsInRow}
 use Rattle.apl_summary.proofs.running_columns.append_row.Goals as goal
 
@@ -20,7 +20,7 @@ loop-turn-preserved g c =
       capacity = said.capacity ∙ kept.capacity;
       folds = λ before are folds. said.folds before start kept.count (kept.fronts before are) (kept.folds before are folds);
       fronts = λ before are.
-          subst (λ n. AreFrontsInRow g.F.PrefixState.is_of before c.args.numbers.now start n c.append_some.new.fronts) next
+          subst (λ n. AreFrontsInRow g.F.PrefixState.is_of before (map g.T.Numeric.number_in c.args.numbers.now) start n c.append_some.new.fronts) next
           (said.fronts c.if-not-append_some.false before start kept.count (kept.fronts before are));
     }
 
@@ -31,7 +31,7 @@ returns-clause-folds g c = λ before are folds.
     let count = length c.loop-turn.fronts in
     let done : c.loop-turn.turn * 4 ≡ count - count % 4 = omega (arith, c.loop-turn-test.false, c.loop-turn.auto.turn-end, kept.len) in
     c.append_some-2.ensures.folds before start (kept.count ∙ ap (λ n. start + n) done)
-    (subst (λ n. AreFrontsInRow g.F.PrefixState.is_of before c.args.numbers.now start n c.loop-turn.fronts) done (kept.fronts before are)) (kept.folds before are folds)
+    (subst (λ n. AreFrontsInRow g.F.PrefixState.is_of before (map g.T.Numeric.number_in c.args.numbers.now) start n c.loop-turn.fronts) done (kept.fronts before are)) (kept.folds before are folds)
 
 pub returns-clause-fronts : goal.returns-clause-fronts
 returns-clause-fronts g c = λ all before are.
@@ -40,6 +40,6 @@ returns-clause-fronts g c = λ all before are.
     let count = length c.loop-turn.fronts in
     let done : c.loop-turn.turn * 4 ≡ count - count % 4 = omega (arith, c.loop-turn-test.false, c.loop-turn.auto.turn-end, kept.len) in
     let whole : count - count % 4 + count % 4 ≡ length c.args.fronts.now = omega (arith, kept.len) in
-    subst (λ n. AreFrontsInRow g.F.PrefixState.is_of before c.args.numbers.now start n c.append_some-2.new.fronts) whole
+    subst (λ n. AreFrontsInRow g.F.PrefixState.is_of before (map g.T.Numeric.number_in c.args.numbers.now) start n c.append_some-2.new.fronts) whole
     (c.append_some-2.ensures.fronts all before start (kept.count ∙ ap (λ n. start + n) done)
-    (subst (λ n. AreFrontsInRow g.F.PrefixState.is_of before c.args.numbers.now start n c.loop-turn.fronts) done (kept.fronts before are)))
+    (subst (λ n. AreFrontsInRow g.F.PrefixState.is_of before (map g.T.Numeric.number_in c.args.numbers.now) start n c.loop-turn.fronts) done (kept.fronts before are)))

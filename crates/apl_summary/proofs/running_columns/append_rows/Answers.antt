@@ -1,4 +1,4 @@
-use Rattle.std.proofs.Common.{◌≡◌, ◌+◌, ◌*◌, length, vec_len, sym, subst, ◌∙◌, arith}
+use Rattle.std.proofs.Common.{◌≡◌, ◌+◌, ◌*◌, length, vec_len, sym, subst, ◌∙◌, arith, map}
 use Rattle.apl_summary.specs.Columns.{AreFrontsAt, AreFrontsInRow, column_before}
 use Rattle.apl_summary.proofs.ColumnFolds.{begun, gone_on}
 use Rattle.apl_summary.proofs.running_columns.append_rows.Given.{Over}
@@ -6,10 +6,10 @@ use Rattle.apl_summary.proofs.running_columns.append_rows.Goals as goal
 use Rattle.apl_summary.proofs.running_columns.append_rows.Goals.{After-begin_row}
 
 fronts_there : (g : Over) (c : After-begin_row g)
-    → AreFrontsAt g.F.PrefixState.is_of (column_before c.args.numbers.now c.args.items (length c.args.fronts.now)) (vec_len c.loop-row.values) c.begin_row.new.fronts
+    → AreFrontsAt g.F.PrefixState.is_of (column_before (map g.T.Numeric.number_in c.args.numbers.now) c.args.items (length c.args.fronts.now)) (vec_len c.loop-row.values) c.begin_row.new.fronts
 fronts_there g c =
     let is_of = g.F.PrefixState.is_of in
-    let numbers = c.args.numbers.now in
+    let numbers = (map g.T.Numeric.number_in c.args.numbers.now) in
     let inner = length c.args.fronts.now in
     let kept = c.loop-row.invariant in
     let said = c.begin_row.ensures in
@@ -19,12 +19,12 @@ fronts_there g c =
 pub returns-then-not-append_row-clause-folds : goal.returns-then-not-append_row-clause-folds
 returns-then-not-append_row-clause-folds g c =
     let at = goal.at.returns-then-not-append_row-clause-folds g c in
-    c.append_row.ensures.folds (column_before c.args.numbers.now c.args.items (length c.args.fronts.now)) (fronts_there g at.After-begin_row) c.loop-row.invariant.folds
+    c.append_row.ensures.folds (column_before (map g.T.Numeric.number_in c.args.numbers.now) c.args.items (length c.args.fronts.now)) (fronts_there g at.After-begin_row) c.loop-row.invariant.folds
 
 pub loop-row-preserved : goal.loop-row-preserved
 loop-row-preserved g c =
     let is_of = g.F.PrefixState.is_of in
-    let numbers = c.args.numbers.now in
+    let numbers = (map g.T.Numeric.number_in c.args.numbers.now) in
     let inner = length c.args.fronts.now in
     let before = column_before numbers c.args.items inner in
     let kept = c.loop-row.invariant in

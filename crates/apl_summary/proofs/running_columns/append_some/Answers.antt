@@ -1,4 +1,4 @@
-use Rattle.std.proofs.Common.{◌≡◌, ℤ, pos, ◌+◌, ◌<◌, [], ◌∷◌, ◌++◌, Ok, length, slice_index_or, slice_set, to_z, of_z, w64, sym, ap, subst, ◌∙◌, rules, arith, length-set}
+use Rattle.std.proofs.Common.{◌≡◌, ℤ, pos, ◌+◌, ◌<◌, [], ◌∷◌, ◌++◌, Ok, length, slice_index_or, slice_set, to_z, of_z, w64, sym, ap, subst, ◌∙◌, rules, arith, length-set, map}
 use Rattle.std.proofs.lemmas.List.{length_push}
 use Rattle.apl_pool.specs.Summaries.{fold_onto}
 use Rattle.apl_summary.specs.Columns.{ArePlaceFolds, AreFrontsInRow}
@@ -9,7 +9,7 @@ pub loop-offset-preserved : goal.loop-offset-preserved
 loop-offset-preserved g c =
     let step = g.F.PrefixState.step in
     let is_of = g.F.PrefixState.is_of in
-    let numbers = c.args.numbers.now in
+    let numbers = map g.T.Numeric.number_in c.args.numbers.now in
     let k = c.len-place.result + c.loop-offset.offset in
     let at = c.args.from + c.loop-offset.offset in
     let kept = c.loop-offset.invariant in
@@ -17,7 +17,8 @@ loop-offset-preserved g c =
     let values = c.loop-offset.values.items in
     let value : ℤ = to_z w64 (of_z w64 c.in-Some.value) in
     let x : ℤ = slice_index_or numbers k (pos 0) in
-    let read : to_z w64 (of_z w64 x) ≡ x = search rules in
+    let held : to_z w64 (of_z w64 c.number_at.result) ≡ c.number_at.result = search rules in
+    let read : to_z w64 (of_z w64 c.number_at.result) ≡ x = held ∙ c.number_at.ensures in
     let stored : value ≡ c.in-Some.value = search rules in
     let here : at < length fronts = omega (arith, c.loop-offset-test.true, c.requires.columns, kept.len) in
     let pushed : c.push_reserved.new.self.items ≡ values ++ value ∷ [] = c.push_reserved.ensures.items in
