@@ -27,7 +27,7 @@ pub record AreParts (a b : List ℕ) (place : ℕ) : Type 0 where
   pub left : place_of a (index_at a (place / count_of b)) ≡ place / count_of b
   pub right : place_of b (index_at b (place % count_of b)) ≡ place % count_of b
 
-some_columns : (m n place : ℕ) → place < m * n → 0 < n
+pub some_columns : (m n place : ℕ) → place < m * n → 0 < n
 some_columns m n place inside = grind arith
 
 module _ (laws : PlaceLaws) where

@@ -48,3 +48,4 @@ pub mod Multiplying
 pub mod ProductSums
 pub mod ProductRows
 pub mod StretchSums
+pub mod Mixed

@@ -1,7 +1,8 @@
 //! Inner products.
-ghost use Rattle.std.specs.Prelude.{◌≡◌, ◌*◌, ◌≤◌, true, IsTrue, length, map};
+ghost use Rattle.std.specs.Prelude.{◌≡◌, ◌≢◌, ◌*◌, ◌≤◌, true, IsTrue, length, map};
 ghost use Rattle.apl_array.specs.declared.array.Elem.TheVariants.{Int, Chr};
 ghost use Rattle.apl_array.specs.declared.function.ScalarFunction.TheVariants.{Plus as PlusNamed, Times as TimesNamed};
+ghost use Rattle.apl_array.specs.Array.{IsArray};
 ghost use Rattle.apl_array.specs.Valences.{has_dyadic};
 ghost use Rattle.apl_pool.specs.declared.kernel.TheConstants.{MOST_PLACES};
 ghost use Rattle.apl_summary.specs.Functions.{has_summary};
@@ -15,23 +16,24 @@ use crate::conformability::{common_length, layout_of, left_lengths, right_length
 use crate::dyadic::{Chosen, Dyadic, Typed};
 use crate::inner_runs::fill_runs;
 use crate::item_rows::ItemRows;
-use crate::items::reduced;
+use crate::items::{SameItems, reduced};
 use crate::layouts::{Layout, SEVERAL_ITEMS};
 use crate::magnitudes::{is_narrow, magnitude, sums_are_small};
+use crate::narrow_products::fill_narrow_products;
 use crate::product_items::ProductItems;
 use crate::product_rows::fill_product_rows;
 use crate::product_sums::fill_product_sums;
 use crate::shapes::{characters_of, joined_shape};
 use crate::sharing::shares_items;
 use crate::sums::Sums;
-use apl_answer::{ElementType, OpFault, array_from_fill, numbers_of};
-use apl_array::{Array, ScalarFunction, range_is_decided};
+use apl_answer::{ElementType, OpFault, array_from_fill, fill_uniform, numbers_of};
+use apl_array::{Array, Elem, ScalarFunction, range_is_decided};
 use apl_divisor::Divisor;
 use apl_pool::{Crew, Cut, Fault, Gate, Kernel, Pool, Stop, Workers, fill};
-use apl_scalar::Prim;
 use apl_scalar::function_types::{
     And, Ceiling, Equal, Floor, Function, NotEqual, Or, Plus, Star, Times,
 };
+use apl_scalar::{Prim, dyadic_result};
 use apl_summary::fold_rows;
 use apl_walk::ByLines;
 use std::alloc::Global;
@@ -133,16 +135,16 @@ fn typed<T: ElementType + Sync, F: Function + Copy + Sync, P: Function + Copy + 
 }
 
 /// The reduction of the items at each place by two functions, which are chosen at each of a few items.
-fn chosen<T: ElementType + Sync, U: ElementType + Sync, W: Crew>(
+fn chosen<T: ElementType + Sync, W: Crew>(
     workers: &W,
     f: ScalarFunction,
     g: ScalarFunction,
     layout: &Layout,
     left: &[T],
-    right: &[U],
+    right: &[T],
 ) -> Result<Vec<i64>, Stop>
     requires { IsWithin layout.now (length left.now) (length right.now) }
-    ensures { IsFilled (inner_number layout.now (map T.elem_of left.now) (map U.elem_of right.now) f g) layout.now.count result }
+    ensures { IsFilled (inner_number layout.now (map T.elem_of left.now) (map T.elem_of right.now) f g) layout.now.count result }
 {
     if layout.items >= SEVERAL_ITEMS {
         return fill_runs(workers, layout, left, right, f, g);
@@ -358,7 +360,29 @@ fn fill_character_items<W: Crew>(
     fill_inner_characters(workers, f, g, layout, left, right)
 }
 
-/// An inner product of any two arguments. The items of numbers and characters are all alike, so the workers do not share those of a place.
+/// An inner product of numbers and characters, whose items are all alike.
+fn fill_mixed_items<W: Crew>(
+    workers: &W,
+    f: ScalarFunction,
+    g: ScalarFunction,
+    layout: &Layout,
+    a: &Array,
+    b: &Array,
+) -> Result<Vec<i64>, Stop>
+    requires within { IsWithin layout.now (length a.now.ravel) (length b.now.ravel) }
+    requires kinds { a.now.kind ≢ b.now.kind }
+    requires left { IsArray a.now }
+    requires right { IsArray b.now }
+    ensures { IsFilled (inner_number layout.now a.now.ravel b.now.ravel f g) layout.now.count result }
+{
+    let items = SameItems {
+        item: dyadic_result(g, Elem::Int(0), Elem::Chr(' ')),
+        count: layout.items,
+    };
+    fill_uniform(workers, layout.count, reduced(&items, Chosen(f)))
+}
+
+/// An inner product of any two arguments.
 fn fill_inner_elements<W: Crew>(
     workers: &W,
     f: ScalarFunction,
@@ -370,15 +394,17 @@ fn fill_inner_elements<W: Crew>(
     requires { IsWithin layout.now (length a.now.ravel) (length b.now.ravel) }
     ensures { IsFilled (inner_number layout.now a.now.ravel b.now.ravel f g) layout.now.count result }
 {
+    if let Some(filled) = fill_narrow_products(workers, f, g, layout, a, b) {
+        return filled;
+    }
     match (numbers_of(workers, a)?, numbers_of(workers, b)?) {
         (Some(left), Some(right)) => {
             fill_number_items(workers, f, g, layout, left.as_slice(), right.as_slice())
         }
-        (Some(left), None) => { chosen(workers, f, g, layout, left.as_slice(), characters_of(b)) }
-        (None, Some(right)) => { chosen(workers, f, g, layout, characters_of(a), right.as_slice()) }
         (None, None) => {
             fill_character_items(workers, f, g, layout, characters_of(a), characters_of(b))
         }
+        _ => fill_mixed_items(workers, f, g, layout, a, b),
     }
 }
 

@@ -24,6 +24,27 @@ pub(crate) trait Items {
         ensures { result ≡ outcome self.now k };
 }
 
+/// Items that are all alike.
+#[derive(Drop)]
+pub(crate) struct SameItems {
+    pub item: Result<i64, Fault>,
+    pub count: usize,
+}
+
+impl Items for SameItems {
+    ghost outcome = { λ x k. x.item };
+
+    ghost item_count = { λ x. x.count };
+
+    fn count(&self) -> usize {
+        self.count
+    }
+
+    fn at(&self, _k: usize) -> Result<i64, Fault> {
+        self.item
+    }
+}
+
 /// Item `k` and what was folded on its right.
 #[inline(always)]
 fn with_item<X: Items, F: Dyadic>(

@@ -34,6 +34,7 @@ mod layouts;
 mod line_folds;
 mod line_rows;
 mod magnitudes;
+mod narrow_products;
 mod near_products;
 mod near_rows;
 mod near_sums;

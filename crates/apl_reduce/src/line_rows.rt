@@ -1,5 +1,5 @@
 //! A line of numbers times the rows of a matrix, folded by `+` in neighbouring columns. The rows are read as they lie.
-ghost use Rattle.std.specs.Prelude.{◌≡◌, ℕ, pos, ◌+◌, ◌-◌, ◌*◌, ◌<◌, ◌≤◌, true, Ok, length, slice_index_or};
+ghost use Rattle.std.specs.Prelude.{◌≡◌, ℕ, pos, ◌+◌, ◌-◌, ◌*◌, ◌<◌, ◌≤◌, true, Ok, length, map, slice_index_or};
 ghost use Rattle.apl_array.specs.declared.function.ScalarFunction.TheVariants.{Plus as PlusNamed, Times as TimesNamed};
 ghost use Rattle.apl_pool.specs.Runs.{AreWritten};
 ghost use Rattle.apl_scalar.specs.Scalar.{dyadic_numbers};
@@ -7,6 +7,7 @@ ghost use Rattle.apl_reduce.specs.Items.{number_step};
 ghost use Rattle.apl_reduce.specs.ProductRows.{row_item, AreRowFolds};
 
 use crate::folded_rows::put;
+use apl_answer::{Numeric, number_at};
 use apl_pool::Fault;
 use apl_scalar::function_types::{Function, Plus, Times};
 
@@ -20,26 +21,27 @@ fn with_product(x: i64, y: i64, folded: i64) -> Result<i64, Fault>
 }
 
 /// A line of numbers, and the rows of a matrix: each number of the line meets all of a row.
-#[derive(Clone, Copy)]
-pub(crate) struct LineRows<'a> {
+#[derive(Drop)]
+pub(crate) struct LineRows<'a, U> {
     pub line: &'a [i64],
-    pub right: &'a [i64],
+    pub right: &'a [U],
     /// How far apart the rows are.
     pub stride: usize,
     ghost some: { 0 < length line.now },
 }
 
-impl LineRows<'_> {
+impl<U: Numeric> LineRows<'_, U> {
     /// Puts the products of a row in neighbouring columns in place of the totals. It says whether no column has a fault.
     fn put_products(&self, column: usize, row: usize, totals: &mut [i64]) -> bool
         requires row { row < length self.now.line.now }
         requires within { (k : ℕ) → k < length self.now.line.now → column + k * self.now.stride + length totals.old ≤ length self.now.right.now }
         ensures values { let s = self.now in
-            result ≡ true → AreWritten (λ j. row_item s.line.now s.right.now s.stride (column + j) row) 0 (length totals.old) totals.new }
+            result ≡ true → AreWritten (λ j. row_item s.line.now (map U.number_in s.right.now) s.stride (column + j) row) 0 (length totals.old) totals.new }
         ensures len { length totals.new ≡ length totals.old }
     {
         for j in 0..totals.len() {
-            match Times::apply(self.line[row], self.right[column + j + row * self.stride]) {
+            let number = number_at(self.right, column + j + row * self.stride);
+            match Times::apply(self.line[row], number) {
                 Ok(product) => put(totals, j, product),
                 Err(_) => return false,
             }
@@ -52,11 +54,11 @@ impl LineRows<'_> {
         requires row { row < length self.now.line.now }
         requires within { (k : ℕ) → k < length self.now.line.now → column + k * self.now.stride + length totals.old ≤ length self.now.right.now }
         ensures values { let s = self.now in
-            result ≡ true → AreWritten (λ j. number_step PlusNamed (row_item s.line.now s.right.now s.stride (column + j) row) (Ok (slice_index_or totals.old j (pos 0)))) 0 (length totals.old) totals.new }
+            result ≡ true → AreWritten (λ j. number_step PlusNamed (row_item s.line.now (map U.number_in s.right.now) s.stride (column + j) row) (Ok (slice_index_or totals.old j (pos 0)))) 0 (length totals.old) totals.new }
         ensures len { length totals.new ≡ length totals.old }
     {
         for j in 0..totals.len() {
-            let number = self.right[column + j + row * self.stride];
+            let number = number_at(self.right, column + j + row * self.stride);
             match with_product(self.line[row], number, totals[j]) {
                 Ok(total) => put(totals, j, total),
                 Err(_) => return false,
@@ -70,7 +72,7 @@ impl LineRows<'_> {
     pub(crate) fn put_folds(&self, column: usize, totals: &mut [i64]) -> bool
         requires within { (k : ℕ) → k < length self.now.line.now → column + k * self.now.stride + length totals.old ≤ length self.now.right.now }
         ensures folds { let s = self.now in
-            result ≡ true → AreRowFolds s.line.now s.right.now s.stride column 0 (length s.line.now - 1) totals.new }
+            result ≡ true → AreRowFolds s.line.now (map U.number_in s.right.now) s.stride column 0 (length s.line.now - 1) totals.new }
         ensures len { length totals.new ≡ length totals.old }
     {
         let mut row = self.line.len() - 1;

@@ -1,5 +1,5 @@
 //! Sums of products of numbers near 0, in neighbouring columns. No sum leaves the range, so the numbers are judged and not each result.
-ghost use Rattle.std.specs.Prelude.{◌≡◌, ℕ, pos, ◌+◌, ◌*◌, ◌^◌, ◌<◌, ◌≤◌, true, length, slice_index_or};
+ghost use Rattle.std.specs.Prelude.{◌≡◌, ℕ, pos, ◌+◌, ◌*◌, ◌^◌, ◌<◌, ◌≤◌, true, length, map, slice_index_or};
 ghost use Rattle.apl_reduce.specs.Magnitudes.{magnitude};
 ghost use Rattle.apl_reduce.specs.ProductRows.{IsRowSum, AreRowSums};
 
@@ -7,6 +7,7 @@ use crate::folded_rows::put;
 use crate::near_sums::{above_least, wrapped_sum};
 use crate::product_sums::Bounds;
 use crate::sums::narrow_product;
+use apl_answer::{Numeric, number_at};
 
 /// How many rows go in one pass over the totals, each of which is read and written once for all of them.
 const PASS: usize = 4;
@@ -31,10 +32,10 @@ fn held_factor(factor: i64, above: u64) -> i64
 }
 
 /// A line of numbers near 0, so few that no sum of their products with others near 0 leaves the range, and the rows of a matrix.
-#[derive(Clone, Copy)]
-pub(crate) struct NearProducts<'a> {
+#[derive(Drop)]
+pub(crate) struct NearProducts<'a, U> {
     pub line: &'a [i64],
-    pub right: &'a [i64],
+    pub right: &'a [U],
     /// How far apart the rows are.
     pub stride: usize,
     /// How far from 0 the numbers of the line and of the rows may be.
@@ -45,16 +46,16 @@ pub(crate) struct NearProducts<'a> {
     ghost line_near: { magnitude line.now ≤ near.left },
 }
 
-impl NearProducts<'_> {
+impl<U: Numeric> NearProducts<'_, U> {
     /// A sum with the product of a row, and the row's number counted from the least one that is near 0.
     #[inline(always)]
     fn with_row(&self, column: usize, row: usize, sum: i64) -> (i64, u64)
         requires row { row < length self.now.line.now }
         requires within { column + row * self.now.stride < length self.now.right.now }
         ensures { let s = self.now in
-            result.1 < 2 * s.near.right → IsRowSum s.line.now s.right.now s.stride (s.near.left * s.near.right) column row sum → IsRowSum s.line.now s.right.now s.stride (s.near.left * s.near.right) column (row + 1) result.0 }
+            result.1 < 2 * s.near.right → IsRowSum s.line.now (map U.number_in s.right.now) s.stride (s.near.left * s.near.right) column row sum → IsRowSum s.line.now (map U.number_in s.right.now) s.stride (s.near.left * s.near.right) column (row + 1) result.0 }
     {
-        let number = self.right[column + row * self.stride];
+        let number = number_at(self.right, column + row * self.stride);
         let above = above_least(number, self.near.right);
         let product = narrow_product(held_factor(self.line[row], above), number);
         (wrapped_sum(sum, product), above)
@@ -66,7 +67,7 @@ impl NearProducts<'_> {
         requires rows { row + count ≤ length self.now.line.now }
         requires within { (k : ℕ) → k < length self.now.line.now → column + k * self.now.stride < length self.now.right.now }
         ensures { let s = self.now in
-            result.1 < 2 * s.near.right → IsRowSum s.line.now s.right.now s.stride (s.near.left * s.near.right) column row sum → IsRowSum s.line.now s.right.now s.stride (s.near.left * s.near.right) column (row + count) result.0 }
+            result.1 < 2 * s.near.right → IsRowSum s.line.now (map U.number_in s.right.now) s.stride (s.near.left * s.near.right) column row sum → IsRowSum s.line.now (map U.number_in s.right.now) s.stride (s.near.left * s.near.right) column (row + count) result.0 }
     {
         let mut sum = sum;
         let mut bits = 0;
@@ -84,9 +85,9 @@ impl NearProducts<'_> {
     fn add_rows(&self, column: usize, row: usize, count: usize, totals: &mut [i64]) -> bool
         requires rows { row + count ≤ length self.now.line.now }
         requires within { (k : ℕ) → k < length self.now.line.now → column + k * self.now.stride + length totals.old ≤ length self.now.right.now }
-        requires sums { let s = self.now in AreRowSums s.line.now s.right.now s.stride (s.near.left * s.near.right) column row totals.old }
+        requires sums { let s = self.now in AreRowSums s.line.now (map U.number_in s.right.now) s.stride (s.near.left * s.near.right) column row totals.old }
         ensures sums { let s = self.now in
-            result ≡ true → AreRowSums s.line.now s.right.now s.stride (s.near.left * s.near.right) column (row + count) totals.new }
+            result ≡ true → AreRowSums s.line.now (map U.number_in s.right.now) s.stride (s.near.left * s.near.right) column (row + count) totals.new }
         ensures len { length totals.new ≡ length totals.old }
     {
         let mut bits = 0;
@@ -103,7 +104,7 @@ impl NearProducts<'_> {
     pub(crate) fn put_sums(&self, column: usize, totals: &mut [i64]) -> bool
         requires within { (k : ℕ) → k < length self.now.line.now → column + k * self.now.stride + length totals.old ≤ length self.now.right.now }
         ensures sums { let s = self.now in
-            result ≡ true → AreRowSums s.line.now s.right.now s.stride (s.near.left * s.near.right) column (length s.line.now) totals.new }
+            result ≡ true → AreRowSums s.line.now (map U.number_in s.right.now) s.stride (s.near.left * s.near.right) column (length s.line.now) totals.new }
         ensures len { length totals.new ≡ length totals.old }
     {
         clear(totals);

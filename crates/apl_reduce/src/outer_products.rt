@@ -14,11 +14,14 @@ ghost use Rattle.apl_reduce.specs.Products.{outer_row};
 use crate::dyadic::{Chosen, Dyadic};
 use crate::shapes::{characters_of, joined_shape};
 use apl_answer::{ElementType, OpFault, constant_array, fill_array, numbers_of};
-use apl_array::{Array, ScalarFunction, Shape, joined_index_has_place, places_match_index_lists};
+use apl_array::{
+    Array, Elem, ScalarFunction, Shape, joined_index_has_place, places_match_index_lists,
+};
 use apl_divisor::Divisor;
 use apl_pool::{Crew, Cut, Fault, Gate, Kernel, Pool, Workers};
 use apl_scalar::{
-    HeldLoops, as_held, is_truth_valued, truth_values_are_results, work_of_pairs, write_row,
+    HeldLoops, as_held, dyadic_result, is_truth_valued, truth_values_are_results, work_of_pairs,
+    write_row,
 };
 use std::alloc::Global;
 use std::marker::PhantomData;
@@ -167,11 +170,11 @@ fn outer_elements<W: Crew>(
         (Some(left), Some(right)) => {
             outer_array(workers, shape, f, left.as_slice(), right.as_slice())
         }
-        (Some(left), None) => { outer_array(workers, shape, f, left.as_slice(), characters_of(b)) }
-        (None, Some(right)) => {
-            outer_array(workers, shape, f, characters_of(a), right.as_slice())
-        }
         (None, None) => outer_array(workers, shape, f, characters_of(a), characters_of(b)),
+        _ => {
+            let same = dyadic_result(f, Elem::Int(0), Elem::Chr(' '));
+            constant_array(workers, shape, same)
+        }
     }
 }
 

@@ -19,6 +19,7 @@ use crate::outer_products::NARROW;
 use crate::product_items::ProductItems;
 use crate::product_sums::{Bounds, bounds_of};
 use crate::sharing::FEWEST_COLUMNS;
+use apl_answer::{Numeric, elements_are_numbers};
 use apl_array::range_is_decided;
 use apl_divisor::Divisor;
 use apl_pool::{Crew, Fault, Kernel, Stop, fill};
@@ -39,8 +40,8 @@ impl Layout {
 
 /// The sums of products at the places of an inner product whose right argument has rows of neighbours.
 #[derive(Drop)]
-struct ProductRows<'a> {
-    items: ProductItems<'a, i64, i64, Typed<Times>>,
+struct ProductRows<'a, U> {
+    items: ProductItems<'a, i64, U, Typed<Times>>,
     /// How far from 0 numbers may be, so that no sum of their products leaves the range.
     near: Bounds,
     ghost near_most: { (near.left ≤ 2 ^ 30) × (near.right ≤ 2 ^ 30) },
@@ -48,7 +49,7 @@ struct ProductRows<'a> {
     ghost by_rows: { IsByRows items.layout.now },
 }
 
-impl Kernel for ProductRows<'_> {
+impl<U: Numeric> Kernel for ProductRows<'_, U> {
     ghost use Rattle.std.specs.Prelude.{map};
     ghost use Rattle.apl_array.specs.declared.array.Elem.TheVariants.{Int};
     ghost use Rattle.apl_array.specs.declared.function.ScalarFunction.TheVariants.{Plus as PlusNamed, Times as TimesNamed};
@@ -58,7 +59,7 @@ impl Kernel for ProductRows<'_> {
 
     ghost place_count = { λ k. k.items.layout.now.count };
 
-    ghost outcome = { λ k place. inner_number k.items.layout.now (map Int k.items.left.now) (map Int k.items.right.now) PlusNamed TimesNamed place };
+    ghost outcome = { λ k place. inner_number k.items.layout.now (map Int k.items.left.now) (map U.elem_of k.items.right.now) PlusNamed TimesNamed place };
 
     fn count(&self) -> usize {
         self.items.layout.count
@@ -89,7 +90,7 @@ impl Kernel for ProductRows<'_> {
     }
 }
 
-impl<'a> ProductRows<'a> {
+impl<'a, U: Numeric> ProductRows<'a, U> {
     /// How many places from one on up to before another go together, all of them in a line.
     fn run_length(&self, from: usize, to: usize) -> usize
         requires some { from < to }
@@ -104,7 +105,7 @@ impl<'a> ProductRows<'a> {
     }
 
     /// The line of a place, and the rows that it meets.
-    fn line_rows(&self, place: usize) -> LineRows<'a>
+    fn line_rows(&self, place: usize) -> LineRows<'a, U>
         requires { place < self.now.items.layout.now.count }
         ensures len { length result.line.now ≡ self.now.items.layout.now.items }
         ensures line { let x = self.now.items in
@@ -122,11 +123,11 @@ impl<'a> ProductRows<'a> {
 
     /// Puts the sums of the products of a line and of rows in neighbouring columns in place of the totals. It says whether all numbers are
     /// near 0, and so these are the sums.
-    fn put_sums(&self, rows: &LineRows<'_>, column: usize, totals: &mut [i64]) -> bool
+    fn put_sums(&self, rows: &LineRows<'_, U>, column: usize, totals: &mut [i64]) -> bool
         requires len { length rows.now.line.now ≡ self.now.items.layout.now.items }
         requires within { (k : ℕ) → k < length rows.now.line.now → column + k * rows.now.stride + length totals.old ≤ length rows.now.right.now }
         ensures sums { let r = rows.now in
-            result ≡ true → AreRowSums r.line.now r.right.now r.stride (self.now.near.left * self.now.near.right) column (length r.line.now) totals.new }
+            result ≡ true → AreRowSums r.line.now (map U.number_in r.right.now) r.stride (self.now.near.left * self.now.near.right) column (length r.line.now) totals.new }
         ensures len { length totals.new ≡ length totals.old }
     {
         if magnitude(rows.line) > self.near.left {
@@ -148,10 +149,11 @@ impl<'a> ProductRows<'a> {
         requires within { from + length totals.old ≤ self.now.items.layout.now.count }
         requires line { from % self.now.items.layout.now.columns + length totals.old ≤ self.now.items.layout.now.columns }
         ensures values { let x = self.now.items in
-            result ≡ true → AreWritten (inner_number x.layout.now (map Int x.left.now) (map Int x.right.now) PlusNamed TimesNamed) from (from + length totals.old) totals.new }
+            result ≡ true → AreWritten (inner_number x.layout.now (map Int x.left.now) (map U.elem_of x.right.now) PlusNamed TimesNamed) from (from + length totals.old) totals.new }
         ensures len { length totals.new ≡ length totals.old }
     {
         range_is_decided();
+        elements_are_numbers(self.items.right);
         let rows = self.line_rows(from);
         let column = self.items.columns.remainder(from);
         self.put_sums(&rows, column, totals) || rows.put_folds(column, totals)
@@ -159,15 +161,15 @@ impl<'a> ProductRows<'a> {
 }
 
 /// The sums of products at all places, row by row.
-pub(crate) fn fill_product_rows<W: Crew>(
+pub(crate) fn fill_product_rows<U: Numeric + Sync, W: Crew>(
     workers: &W,
     layout: &Layout,
     left: &[i64],
-    right: &[i64],
+    right: &[U],
 ) -> Result<Vec<i64>, Stop>
     requires within { IsWithin layout.now (length left.now) (length right.now) }
     requires by_rows { IsByRows layout.now }
-    ensures { IsFilled (inner_number layout.now (map Int left.now) (map Int right.now) PlusNamed TimesNamed) layout.now.count result }
+    ensures { IsFilled (inner_number layout.now (map Int left.now) (map U.elem_of right.now) PlusNamed TimesNamed) layout.now.count result }
 {
     let items = ProductItems {
         layout,

@@ -11,10 +11,11 @@ ghost use Rattle.apl_reduce.specs.Magnitudes.{IsProductSum};
 use crate::dyadic::Typed;
 use crate::items::reduced;
 use crate::layouts::Layout;
-use crate::magnitudes::{magnitude, sums_are_small};
+use crate::magnitudes::sums_are_small;
 use crate::near_sums::{above_least, wrapped_sum};
 use crate::product_items::{LineItems, ProductItems};
 use crate::sums::narrow_product;
+use apl_answer::{Numeric, elements_are_numbers, number_at};
 use apl_array::range_is_decided;
 use apl_divisor::Divisor;
 use apl_pool::{Crew, Fault, Kernel, Stop, fill};
@@ -53,13 +54,20 @@ impl ProductSum {
 
     /// The sum with the product of the numbers that meet at a place.
     #[inline(always)]
-    fn with_next(&self, left: &[i64], right: &[i64], near: Bounds, place: usize) -> ProductSum
+    fn with_next<T: Numeric, U: Numeric>(
+        &self,
+        left: &[T],
+        right: &[U],
+        near: Bounds,
+        place: usize,
+    ) -> ProductSum
         requires left { place < length left.now }
         requires right { place < length right.now }
         requires near { (near.left ≤ 2 ^ 30) × (near.right ≤ 2 ^ 30) }
-        ensures { (first count : ℕ) → first + count ≡ place → IsProductSum left.now right.now near first count self.now → IsProductSum left.now right.now near first (count + 1) result }
+        ensures { (first count : ℕ) → first + count ≡ place → IsProductSum (map T.number_in left.now) (map U.number_in right.now) near first count self.now → IsProductSum (map T.number_in left.now) (map U.number_in right.now) near first (count + 1) result }
     {
-        let (x, y) = (left[place], right[place]);
+        let x = number_at(left, place);
+        let y = number_at(right, place);
         ProductSum {
             sum: wrapped_sum(self.sum, narrow_product(x, y)),
             left: self.left | above_least(x, near.left),
@@ -84,10 +92,10 @@ impl ProductSum {
 /// The sum of the products of the numbers that meet in two lists. A turn takes a pair of each half, since memory gives two streams
 /// faster than one. The loop has no branches, and a processor multiplies several numbers at once.
 #[inline(never)]
-fn product_sum(left: &[i64], right: &[i64], near: Bounds) -> ProductSum
+fn product_sum<T: Numeric, U: Numeric>(left: &[T], right: &[U], near: Bounds) -> ProductSum
     requires same { length right.now ≡ length left.now }
     requires near { (near.left ≤ 2 ^ 30) × (near.right ≤ 2 ^ 30) }
-    ensures { IsProductSum left.now right.now near 0 (length left.now) result }
+    ensures { IsProductSum (map T.number_in left.now) (map U.number_in right.now) near 0 (length left.now) result }
 {
     let half = left.len() / 2;
     let mut low = ProductSum::none();
@@ -108,14 +116,21 @@ fn product_sum(left: &[i64], right: &[i64], near: Bounds) -> ProductSum
 const FEW: usize = 32;
 
 /// How far the first and the last of some numbers are from 0: the rest may well be about so far.
-fn typical(numbers: &[i64]) -> u64 {
-    let few = numbers.len().min(FEW);
-    magnitude(&numbers[..few]).max(magnitude(&numbers[numbers.len() - few..]))
+fn typical<T: Numeric>(numbers: &[T]) -> u64 {
+    let mut most = 0;
+    for k in 0..numbers.len().min(FEW) {
+        let (first, last) = (
+            number_at(numbers, k),
+            number_at(numbers, numbers.len() - 1 - k),
+        );
+        most = first.unsigned_abs().max(last.unsigned_abs()).max(most);
+    }
+    most
 }
 
 /// How far from 0 the numbers of two lists may be, of which so many meet at each place. Then no sum of their products leaves the range. The
 /// list whose numbers seem to be farther from 0 may have greater ones.
-pub(crate) fn bounds_of(left: &[i64], right: &[i64], count: usize) -> Bounds
+pub(crate) fn bounds_of<T: Numeric, U: Numeric>(left: &[T], right: &[U], count: usize) -> Bounds
     ensures near { (result.left ≤ 2 ^ 30) × (result.right ≤ 2 ^ 30) }
     ensures small { result.left * result.right * count < 2 ^ 63 }
 {
@@ -135,17 +150,22 @@ pub(crate) fn bounds_of(left: &[i64], right: &[i64], count: usize) -> Bounds
 }
 
 /// The sum of the products of some items that are neighbours, if all numbers are within these bounds.
-fn sure_sum(items: &LineItems<'_, i64, i64, Typed<Times>>, near: Bounds) -> Option<i64>
+fn sure_sum<T: Numeric, U: Numeric>(
+    items: &LineItems<'_, T, U, Typed<Times>>,
+    near: Bounds,
+) -> Option<i64>
     requires some { 0 < items.now.count }
     requires near { (near.left ≤ 2 ^ 30) × (near.right ≤ 2 ^ 30) }
     requires small { near.left * near.right * items.now.count < 2 ^ 63 }
     requires left { items.now.left_stride ≡ 1 }
     requires right { items.now.right_stride ≡ 1 }
     ensures { let x = items.now in
-        let item = meeting_number TimesNamed (map Int x.left.now) x.left_start x.left_stride (map Int x.right.now) x.right_start x.right_stride in
+        let item = meeting_number TimesNamed (map T.elem_of x.left.now) x.left_start x.left_stride (map U.elem_of x.right.now) x.right_start x.right_stride in
         IfSome result (λ z. as_number (judged_items item PlusNamed x.count) ≡ Ok z) }
 {
     range_is_decided();
+    elements_are_numbers(items.left);
+    elements_are_numbers(items.right);
     let left = &items.left[items.left_start..items.left_start + items.count];
     let right = &items.right[items.right_start..items.right_start + items.count];
     let line = product_sum(left, right, near);
@@ -158,8 +178,8 @@ fn sure_sum(items: &LineItems<'_, i64, i64, Typed<Times>>, near: Bounds) -> Opti
 
 /// The sums of products at the places of an inner product whose items are neighbours.
 #[derive(Drop)]
-struct ProductSums<'a> {
-    items: ProductItems<'a, i64, i64, Typed<Times>>,
+struct ProductSums<'a, T, U> {
+    items: ProductItems<'a, T, U, Typed<Times>>,
     /// How far from 0 the numbers of a line may be.
     near: Bounds,
     ghost near_most: { (near.left ≤ 2 ^ 30) × (near.right ≤ 2 ^ 30) },
@@ -169,7 +189,7 @@ struct ProductSums<'a> {
     ghost right_near: { items.layout.now.right.item ≡ 1 },
 }
 
-impl Kernel for ProductSums<'_> {
+impl<T: Numeric, U: Numeric> Kernel for ProductSums<'_, T, U> {
     ghost use Rattle.std.specs.Prelude.{map};
     ghost use Rattle.apl_array.specs.declared.array.Elem.TheVariants.{Int};
     ghost use Rattle.apl_array.specs.declared.function.ScalarFunction.TheVariants.{Plus as PlusNamed, Times as TimesNamed};
@@ -179,7 +199,7 @@ impl Kernel for ProductSums<'_> {
 
     ghost place_count = { λ k. k.items.layout.now.count };
 
-    ghost outcome = { λ k place. inner_number k.items.layout.now (map Int k.items.left.now) (map Int k.items.right.now) PlusNamed TimesNamed place };
+    ghost outcome = { λ k place. inner_number k.items.layout.now (map T.elem_of k.items.left.now) (map U.elem_of k.items.right.now) PlusNamed TimesNamed place };
 
     fn count(&self) -> usize {
         self.items.layout.count
@@ -203,17 +223,17 @@ impl Kernel for ProductSums<'_> {
 }
 
 /// The sums of products at all places.
-pub(crate) fn fill_product_sums<W: Crew>(
+pub(crate) fn fill_product_sums<T: Numeric + Sync, U: Numeric + Sync, W: Crew>(
     workers: &W,
     layout: &Layout,
-    left: &[i64],
-    right: &[i64],
+    left: &[T],
+    right: &[U],
 ) -> Result<Vec<i64>, Stop>
     requires within { IsWithin layout.now (length left.now) (length right.now) }
     requires some { 0 < layout.now.items }
     requires left_near { layout.now.left.item ≡ 1 }
     requires right_near { layout.now.right.item ≡ 1 }
-    ensures { IsFilled (inner_number layout.now (map Int left.now) (map Int right.now) PlusNamed TimesNamed) layout.now.count result }
+    ensures { IsFilled (inner_number layout.now (map T.elem_of left.now) (map U.elem_of right.now) PlusNamed TimesNamed) layout.now.count result }
 {
     let items = ProductItems {
         layout,

@@ -1,16 +1,16 @@
-use Rattle.std.proofs.Common.{◌≡◌, ◌+◌, ◌*◌, ◌/◌, length, refl, subst, arith}
+use Rattle.std.proofs.Common.{◌≡◌, ◌+◌, ◌*◌, ◌/◌, length, map, refl, subst, arith}
 use Rattle.apl_reduce.specs.Magnitudes.{IsProductSum}
 use Rattle.apl_reduce.proofs.ProductSums.{halves_sum}
 use Rattle.apl_reduce.proofs.product_sums.product_sum.Goals as goal
 
 pub loop-k-init : goal.loop-k-init
-loop-k-init c = record {
-  low = c.none-low.ensures c.args.left.now c.args.right.now c.args.near 0;
-  high = c.none-high.ensures c.args.left.now c.args.right.now c.args.near _;
+loop-k-init g c = record {
+  low = c.none-low.ensures _ _ c.args.near 0;
+  high = c.none-high.ensures _ _ c.args.near _;
 }
 
 pub loop-k-preserved : goal.loop-k-preserved
-loop-k-preserved c =
+loop-k-preserved g c =
     let here : 0 + c.loop-k.k ≡ c.loop-k.k = omega arith in
     record {
       low = c.with_next-low.ensures 0 c.loop-k.k here c.loop-k.invariant.low;
@@ -18,10 +18,10 @@ loop-k-preserved c =
     }
 
 pub returns-then-half-left : goal.returns-then-half-left
-returns-then-half-left c =
-    let left = c.args.left.now in
-    let right = c.args.right.now in
-    let n = length left in
+returns-then-half-left g c =
+    let left = map g.T.Numeric.number_in c.args.left.now in
+    let right = map g.U.Numeric.number_in c.args.right.now in
+    let n = length c.args.left.now in
     let half = n / 2 in
     let both = halves_sum left right c.args.near n c.loop-k.k c.loop-k.low c.loop-k.high c.joined-both.result c.loop-k-test.false c.loop-k.auto.k-end c.loop-k.invariant.low c.loop-k.invariant.high
     (c.joined-both.ensures left right c.args.near 0 half half) in
@@ -30,10 +30,10 @@ returns-then-half-left c =
     subst (λ m. IsProductSum left right c.args.near 0 m c.with_next.result) all (c.with_next.ensures 0 (half + half) here both)
 
 pub returns-else-half-left : goal.returns-else-half-left
-returns-else-half-left c =
-    let left = c.args.left.now in
-    let right = c.args.right.now in
-    let n = length left in
+returns-else-half-left g c =
+    let left = map g.T.Numeric.number_in c.args.left.now in
+    let right = map g.U.Numeric.number_in c.args.right.now in
+    let n = length c.args.left.now in
     let half = n / 2 in
     let both = halves_sum left right c.args.near n c.loop-k.k c.loop-k.low c.loop-k.high c.joined-both.result c.loop-k-test.false c.loop-k.auto.k-end c.loop-k.invariant.low c.loop-k.invariant.high
     (c.joined-both.ensures left right c.args.near 0 half half) in

@@ -1,4 +1,4 @@
-use Rattle.std.proofs.Common.{◌≡◌, ℤ, pos, ◌+◌, ◌*◌, FitsSigned, Ok, slice_index_or, to_z, of_z, w64, sym, ap, ◌∙◌, arith, rules}
+use Rattle.std.proofs.Common.{◌≡◌, ℤ, pos, ◌+◌, ◌*◌, FitsSigned, Ok, slice_index_or, to_z, of_z, w64, sym, ap, ◌∙◌, arith, rules, map}
 use Rattle.std.proofs.lemmas.Int.{to_z-of_z}
 use Rattle.std.proofs.lemmas.List.{get_or-set_other}
 use Rattle.apl_array.specs.declared.function.ScalarFunction.TheVariants.{Plus, Times}
@@ -7,24 +7,19 @@ use Rattle.apl_reduce.specs.Items.{number_step}
 use Rattle.apl_reduce.proofs.Runs.{written_more}
 use Rattle.apl_reduce.proofs.line_rows.LineRows.fold_products.Goals as goal
 
-pub overflow_add-number : goal.overflow_add-number
-overflow_add-number c =
-    let first = c.requires.within 0 c.args.self.now.some in
-    omega (arith, first, c.loop-j-test.true)
-
 pub loop-j-preserved : goal.loop-j-preserved
-loop-j-preserved c =
+loop-j-preserved g c =
     let s = c.args.self.now in
     let totals = c.loop-j.totals in
     let j = c.loop-j.j in
     let x = slice_index_or s.line.now c.args.row (pos 0) in
-    let y = slice_index_or s.right.now (c.args.column + j + c.args.row * s.stride) (pos 0) in
+    let y = slice_index_or (map g.U.Numeric.number_in s.right.now) (c.args.column + j + c.args.row * s.stride) (pos 0) in
     let t = slice_index_or totals j (pos 0) in
     let fits_x : FitsSigned w64 x = search rules in
-    let fits_y : FitsSigned w64 y = search rules in
+    let held_y : to_z w64 (of_z w64 c.number_at-number.result) ≡ c.number_at-number.result = search rules in
     let fits_t : FitsSigned w64 t = search rules in
     let read_x = sym (to_z-of_z w64 x fits_x) in
-    let read_y = sym (to_z-of_z w64 y fits_y) in
+    let read_y = sym (held_y ∙ c.number_at-number.ensures) in
     let read_t = sym (to_z-of_z w64 t fits_t) in
     let kept : to_z w64 (of_z w64 c.in-Ok.total) ≡ c.in-Ok.total = search rules in
     let before = sym (c.loop-j.invariant.2 j (omega arith)) in

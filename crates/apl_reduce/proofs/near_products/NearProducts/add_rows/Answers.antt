@@ -1,4 +1,4 @@
-use Rattle.std.proofs.Common.{◌≡◌, ℕ, ℤ, pos, ◌+◌, ◌*◌, ◌<◌, FitsSigned, slice_index_or, slice_set, length, to_z, of_z, w64, refl, sym, subst, ◌∙◌, ⊎_elim, arith, rules}
+use Rattle.std.proofs.Common.{◌≡◌, ℕ, ℤ, pos, ◌+◌, ◌*◌, ◌<◌, FitsSigned, slice_index_or, slice_set, length, to_z, of_z, w64, refl, sym, subst, ◌∙◌, ⊎_elim, arith, rules, map}
 use Rattle.std.proofs.lemmas.Bool.{cases_lt}
 use Rattle.std.proofs.lemmas.Grind.{get_or-set_at}
 use Rattle.std.proofs.lemmas.Int.{to_z-of_z}
@@ -8,12 +8,12 @@ use Rattle.apl_reduce.proofs.NearSums.{both_low}
 use Rattle.apl_reduce.proofs.near_products.NearProducts.add_rows.Goals as goal
 
 pub overflow_add-column : goal.overflow_add-column
-overflow_add-column c =
+overflow_add-column g c =
     let first = c.requires.within 0 c.args.self.now.some in
     omega (arith, first, c.loop-j-test.true)
 
 pub loop-j-preserved : goal.loop-j-preserved
-loop-j-preserved c =
+loop-j-preserved g c =
     let s = c.args.self.now in
     let most = s.near.left * s.near.right in
     let all = c.args.row + c.args.count in
@@ -26,7 +26,7 @@ loop-j-preserved c =
     let read : to_z w64 (of_z w64 t) ≡ t = to_z-of_z w64 t fits in
     let stored : to_z w64 (of_z w64 sum.0) ≡ sum.0 = search rules in
     let inside : j < length totals = omega (arith, c.loop-j-test.true, kept.len) in
-    let Is : ℕ → ℕ → ℤ → Type 0 = λ i count z. IsRowSum s.line.now s.right.now s.stride most (c.args.column + i) count z in
+    let Is : ℕ → ℕ → ℤ → Type 0 = λ i count z. IsRowSum s.line.now (map g.U.Numeric.number_in s.right.now) s.stride most (c.args.column + i) count z in
     record {
       sums = λ low i below.
           let both = both_low (2 * s.near.right) c.loop-j.bits sum.1 low in

@@ -1,4 +1,4 @@
-use Rattle.std.proofs.Common.{◌≡◌, ◌+◌, ◌*◌, ◌^◌, ◌<◌, ◌≤◌, ℤ, pos, ◌+ℤ◌, ◌*ℤ◌, FitsSigned, length, slice_index_or, to_z, of_z, w64, sym, ap, subst, ◌∙◌, arith, rules}
+use Rattle.std.proofs.Common.{◌≡◌, ◌+◌, ◌*◌, ◌^◌, ◌<◌, ◌≤◌, ℤ, pos, ◌+ℤ◌, ◌*ℤ◌, FitsSigned, length, slice_index_or, to_z, of_z, w64, sym, ap, subst, ◌∙◌, arith, rules, map}
 use Rattle.std.specs.Prelude.{unsigned_abs}
 use Rattle.std.proofs.lemmas.Int.{to_z-of_z}
 use Rattle.apl_reduce.specs.ProductRows.{row_product}
@@ -9,22 +9,22 @@ use Rattle.apl_reduce.proofs.ProductRows.{fewer_rows}
 use Rattle.apl_reduce.proofs.near_products.NearProducts.with_row.Goals as goal
 
 pub returns : goal.returns
-returns c = λ low before.
+returns g c = λ low before.
     let s = c.args.self.now in
     let most = s.near.left * s.near.right in
     let row = c.args.row in
     let sum = c.args.sum in
-    let number = row_product s.line.now s.right.now s.stride c.args.column in
+    let number = row_product s.line.now (map g.U.Numeric.number_in s.right.now) s.stride c.args.column in
     let x = slice_index_or s.line.now row (pos 0) in
-    let y = slice_index_or s.right.now (c.args.column + row * s.stride) (pos 0) in
+    let y = slice_index_or (map g.U.Numeric.number_in s.right.now) (c.args.column + row * s.stride) (pos 0) in
     let product = c.narrow_product-product.result in
     let above = c.above_least-above.result in
     let fits_x : FitsSigned w64 x = search rules in
     let factor = c.held_factor.result in
     let fits_factor : FitsSigned w64 factor = search rules in
-    let fits_y : FitsSigned w64 y = search rules in
+    let held_y : to_z w64 (of_z w64 c.number_at-number.result) ≡ c.number_at-number.result = search rules in
     let read_x : to_z w64 (of_z w64 x) ≡ x = to_z-of_z w64 x fits_x in
-    let read_y : to_z w64 (of_z w64 y) ≡ y = to_z-of_z w64 y fits_y in
+    let read_y : to_z w64 (of_z w64 c.number_at-number.result) ≡ y = held_y ∙ c.number_at-number.ensures in
     let near_x : unsigned_abs x ≤ s.near.left = omega (arith, near_of s.line.now row, s.line_near) in
     let near_y = near_from_above s.near.right above y (λ own. subst (λ z. pos above ≡ z +ℤ pos s.near.right) read_y (c.above_least-above.ensures.near own)) low in
     let narrow_x : unsigned_abs x < 2 ^ 31 = omega (arith, near_x, s.near_most.0) in

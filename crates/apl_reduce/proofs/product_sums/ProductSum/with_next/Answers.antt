@@ -1,15 +1,14 @@
-use Rattle.std.proofs.Common.{◌≡◌, ◌*◌, ◌^◌, ◌<◌, ◌≤◌, ℤ, pos, ◌+ℤ◌, ◌*ℤ◌, FitsSigned, slice_index_or, to_z, of_z, w64, sym, ap, subst, ◌∙◌, arith, rules}
+use Rattle.std.proofs.Common.{◌≡◌, ◌*◌, ◌^◌, ◌<◌, ◌≤◌, ℤ, pos, map, ◌+ℤ◌, ◌*ℤ◌, FitsSigned, slice_index_or, to_z, of_z, w64, sym, ap, subst, ◌∙◌, arith, rules}
 use Rattle.std.specs.Prelude.{unsigned_abs}
-use Rattle.std.proofs.lemmas.Int.{to_z-of_z}
 use Rattle.apl_reduce.specs.Magnitudes.{meeting_product}
 use Rattle.apl_reduce.proofs.NearSums.{both_low, near_from_above, stored, one_more}
 use Rattle.apl_reduce.proofs.ProductSums.{near_product, next_fits}
 use Rattle.apl_reduce.proofs.product_sums.ProductSum.with_next.Goals as goal
 
 pub returns : goal.returns
-returns c = λ first count there before small low_left low_right.
-    let left = c.args.left.now in
-    let right = c.args.right.now in
+returns g c = λ first count there before small low_left low_right.
+    let left = map g.T.Numeric.number_in c.args.left.now in
+    let right = map g.U.Numeric.number_in c.args.right.now in
     let near = c.args.near in
     let most = near.left * near.right in
     let place = c.args.place in
@@ -21,16 +20,16 @@ returns c = λ first count there before small low_left low_right.
     let above_y = c.above_least-2.result in
     let lefts = both_low (2 * near.left) c.args.self.now.left above_x low_left in
     let rights = both_low (2 * near.right) c.args.self.now.right above_y low_right in
-    let fits_x : FitsSigned w64 x = search rules in
-    let fits_y : FitsSigned w64 y = search rules in
-    let read_x : to_z w64 (of_z w64 x) ≡ x = to_z-of_z w64 x fits_x in
-    let read_y : to_z w64 (of_z w64 y) ≡ y = to_z-of_z w64 y fits_y in
+    let held_x : to_z w64 (of_z w64 c.number_at-x.result) ≡ c.number_at-x.result = search rules in
+    let held_y : to_z w64 (of_z w64 c.number_at-y.result) ≡ c.number_at-y.result = search rules in
+    let read_x : to_z w64 (of_z w64 c.number_at-x.result) ≡ x = held_x ∙ c.number_at-x.ensures in
+    let read_y : to_z w64 (of_z w64 c.number_at-y.result) ≡ y = held_y ∙ c.number_at-y.ensures in
     let near_x = near_from_above near.left above_x x (λ own. subst (λ z. pos above_x ≡ z +ℤ pos near.left) read_x (c.above_least.ensures.near own)) lefts.1 in
     let near_y = near_from_above near.right above_y y (λ own. subst (λ z. pos above_y ≡ z +ℤ pos near.right) read_y (c.above_least-2.ensures.near own)) rights.1 in
     let narrow_x : unsigned_abs x < 2 ^ 31 = omega (arith, near_x, c.requires.near.0) in
     let narrow_y : unsigned_abs y < 2 ^ 31 = omega (arith, near_y, c.requires.near.1) in
     let Is : ℤ → ℤ → Type 0 = λ a b. unsigned_abs a < 2 ^ 31 → unsigned_abs b < 2 ^ 31 → c.narrow_product.result ≡ a *ℤ b in
-    let product : c.narrow_product.result ≡ x *ℤ y = subst (λ a. Is a y) read_x (subst (λ b. Is (to_z w64 (of_z w64 x)) b) read_y c.narrow_product.ensures) narrow_x narrow_y in
+    let product : c.narrow_product.result ≡ x *ℤ y = subst (λ a. Is a y) read_x (subst (λ b. Is (to_z w64 (of_z w64 c.number_at-x.result)) b) read_y c.narrow_product.ensures) narrow_x narrow_y in
     let here : number count ≡ x *ℤ y = ap (λ n. slice_index_or left n (pos 0) *ℤ slice_index_or right n (pos 0)) there in
     let so_far = before (omega (arith, small)) lefts.0 rights.0 in
     let number_near : unsigned_abs (number count) ≤ most = subst (λ z. unsigned_abs z ≤ most) (sym here) (near_product near.left near.right x y near_x near_y) in
