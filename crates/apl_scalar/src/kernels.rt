@@ -12,7 +12,7 @@ use crate::loops::HeldLoops;
 use crate::operands::Operand;
 use crate::runs::{HeldRuns, Results, write_results};
 use apl_array::ScalarFunction;
-use apl_pool::{Fault, FirstFault, Kernel};
+use apl_pool::{Fault, FirstFault, Kernel, Reused};
 use std::marker::PhantomData;
 
 /// The results of a monadic function of an argument.
@@ -56,6 +56,11 @@ impl<A: Operand, F: Function + Copy> Results for ElementResults<A, F> {
     #[inline(always)]
     fn have_runs() -> bool {
         has_monadic_runs(F::FUNCTION)
+    }
+
+    #[inline(always)]
+    fn are_of_truth_values() -> bool {
+        A::PER_NUMBER == bool::PER_NUMBER
     }
 }
 
@@ -104,6 +109,11 @@ impl<L: Operand, R: Operand, F: Function + Copy> Results for PairResults<L, R, F
     #[inline(always)]
     fn have_runs() -> bool {
         has_dyadic_runs(F::FUNCTION)
+    }
+
+    #[inline(always)]
+    fn are_of_truth_values() -> bool {
+        L::PER_NUMBER == bool::PER_NUMBER && R::PER_NUMBER == bool::PER_NUMBER
     }
 }
 
