@@ -3,7 +3,7 @@ use Rattle.std.proofs.Common.{◌≡◌, ℕ, zero, suc, add-one, ◌+◌, ◌-�
 use Rattle.std.specs.Prelude.{Bool, ◌&&◌, max, option_map, Some, ◌≤◌, All, sum, flat_map, ◌^◌, ◌==◌, ◌⊎◌}
 use Rattle.std.specs.List.{range_with_len, list_all}
 use Rattle.std.proofs.Math.Nat.{div-eq_of_lt, add-div_right}
-use Rattle.std.proofs.lemmas.Bool.{cases_lt, true≢false, cases_Bool, eqb-true, eqb-false, ne_eqb}
+use Rattle.std.proofs.lemmas.Bool.{cases_lt, true≢false, cases_Bool, eqb-true, eqb-false, ne_eqb, ltb-true}
 use Rattle.std.proofs.lemmas.Int.{ints}
 use Rattle.std.proofs.lemmas.List.{append-nil, append_assoc, length-append, length-replicate, get_or_append_left, get_or-append_right, get_or-replicate, length-map, length-set, get_or-set_same}
 use Rattle.std.proofs.lemmas.List.Elements.{All-nil, All-append, All-replicate}
@@ -149,6 +149,10 @@ bit_natural (negsuc n) bit = absurd (true≢false (sym bit))
 pub natural_is : (z : ℤ) → to_z w64 (of_z w64 z) ≡ z → int_lt (to_z w64 (of_z w64 z)) (pos 0) ≡ false → is_natural z ≡ true
 natural_is (pos n) turned least = refl
 natural_is (negsuc n) turned least = absurd (true≢false (sym (ap (λ z. int_lt z (pos 0)) turned) ∙ least))
+
+pub below_natural : (z : ℤ) → int_lt z (pos 0) ≡ true → is_natural z ≡ false
+below_natural (pos n) below = absurd (omega (arith, ltb-true n 0 below))
+below_natural (negsuc n) below = refl
 
 -- a count is what its cast is
 pub cast_is : (z : ℤ) → is_natural z ≡ true → to_z w64 (of_z w64 z) ≡ z → nat_abs (to_z w64 (of_z w64 z)) ≡ place_number z

@@ -11,6 +11,7 @@ pub mod Indexing
 pub mod Along
 pub mod Joined
 pub mod Rotation
+pub mod Held
 pub mod Selecting
 pub mod Chosen
 pub mod Numbering

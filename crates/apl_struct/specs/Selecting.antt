@@ -1,5 +1,5 @@
 -- The places of an argument that the slots of an index choose. No contract of a public function cites this file.
-use Rattle.std.specs.Prelude.{◌≡◌, ℕ, ℤ, pos, ◌/◌, ◌%◌, ◌<◌, ◌≤◌, ◌⊎◌, true, List, [], ◌∷◌, length, Option, Some, None, Result, Ok, Err, slice_index_or}
+use Rattle.std.specs.Prelude.{◌≡◌, ℕ, pos, ◌/◌, ◌%◌, ◌<◌, ◌≤◌, ◌⊎◌, true, List, [], ◌∷◌, length, Option, Some, None, Result, Ok, Err, slice_index_or}
 use Rattle.apl_array.specs.declared.axis.Origin.{Origin}
 use Rattle.apl_array.specs.Axes.{from_origin, place_number}
 use Rattle.apl_array.specs.Shape.{most_axes, most_elements, count_of, place_of, index_at}
@@ -7,13 +7,10 @@ use Rattle.apl_array.specs.Array.{ArrayValue, IsArray}
 use Rattle.apl_answer.specs.declared.fault.OpFault.{OpFault}
 use Rattle.apl_answer.specs.declared.fault.OpFault.TheVariants.{Memory}
 use Rattle.apl_answer.specs.Arguments.{rank_of, numbers_of}
-use Rattle.apl_answer.specs.Numbers.{number_list}
 use Rattle.apl_answer.specs.Rows.{Check, first_failure_or}
 use Rattle.apl_walk.specs.declared.maps.Map.{Map}
 use Rattle.apl_walk.specs.Maps.{extent_of, map_extent, map_step, walked}
 use Rattle.apl_walk.specs.Steps.{and_step}
-use Rattle.apl_struct.specs.declared.selecting.SlotNumbers.{SlotNumbers}
-use Rattle.apl_struct.specs.declared.selecting.SlotNumbers.TheVariants.{Narrow, Wide}
 use Rattle.apl_struct.specs.Indexing.{Slots, are_slots_within, selected_shape, select_source}
 
 -- ---- walks
@@ -27,11 +24,6 @@ abbrev pub reached_with : (start : ℕ) → List Map → Map → (place : ℕ) �
 reached_with start maps map place = and_step (reached_from start maps place) (map_step map (place / extent_of maps % map_extent map))
 
 -- ---- slots
-
--- the numbers of a slot in row order, held in 32 bits or in 64
-abbrev pub slot_list : SlotNumbers → List ℤ
-slot_list (Narrow numbers) = numbers.now
-slot_list (Wide numbers) = number_list numbers
 
 abbrev pub slot_count : ℕ → Option ArrayValue → ℕ
 slot_count n (Some s) = count_of s.shape

@@ -6,9 +6,10 @@ ghost use Rattle.apl_answer.specs.declared.fault.OpFault.TheVariants.{Domain, Me
 ghost use Rattle.apl_answer.specs.Arguments.{is_numbers, numbers_of, is_same_shape};
 ghost use Rattle.apl_answer.specs.Numbers.{number_list};
 ghost use Rattle.apl_struct.specs.Axes.{axis_number_of};
+ghost use Rattle.apl_struct.specs.Held.{held_list};
 
 use apl_answer::{Numbers, OpFault, numbers_of};
-use apl_array::{Array, Elem};
+use apl_array::{Array, Elem, Elements};
 use apl_pool::Crew;
 
 /// How many numbers are taken in one turn of a loop.
@@ -26,6 +27,28 @@ pub(crate) fn numbers_among<'a, W: Crew>(workers: &W, a: &'a Array) -> Result<Nu
         None if a.shape().count() == 0 => Ok(Numbers::Held(&[])),
         None => Err(OpFault::Domain),
     }
+}
+
+/// Numbers in row order: those of 32 bits as they are held, and others in 64 bits.
+#[derive(Drop)]
+pub(crate) enum HeldNumbers<'a> {
+    Narrow(&'a [i32]),
+    Wide(Numbers<'a>),
+}
+
+/// The numbers of an array, those of 32 bits as they are held. It is of numbers or without elements (`Domain`).
+pub(crate) fn held_numbers<'a, W: Crew>(
+    workers: &W,
+    a: &'a Array,
+) -> Result<HeldNumbers<'a>, OpFault>
+    ensures numbers { IfOk result (λ ns. (is_numbers a.now ≡ true) × (numbers_of a.now ≡ held_list ns)) }
+    ensures refused { IfErr result (λ fault. ((fault ≡ Domain) × (is_numbers a.now ≡ false)) ⊎ (fault ≡ Memory)) }
+    ensures lawful { IsArray a.now }
+{
+    if let Elements::Narrow(numbers) = a.elements() {
+        return Ok(HeldNumbers::Narrow(numbers));
+    }
+    Ok(HeldNumbers::Wide(numbers_among(workers, a)?))
 }
 
 /// Whether the lengths of a shape are those of another without axis `k`.

@@ -6,8 +6,10 @@ ghost use Rattle.apl_array.specs.Axes.{place_number};
 ghost use Rattle.apl_pool.specs.declared.kernel.TheConstants.{MOST_PLACES};
 ghost use Rattle.apl_answer.specs.Arguments.{is_bit};
 ghost use Rattle.apl_struct.specs.Compressing.{repeated_indexes};
+ghost use Rattle.apl_struct.specs.Held.{held_list};
 
-use crate::arguments::TURN;
+use crate::arguments::{HeldNumbers, TURN};
+use apl_answer::{Numeric, number_at};
 use std::alloc::{AllocError, Global};
 
 /// Puts an index several times after others.
@@ -71,27 +73,28 @@ fn is_bit(number: i64) -> bool
 /// Puts the numbers from `from` up to before `to` as truth values into a list, after those before them. It answers whether all up to there
 /// are bits.
 #[inline(always)]
-fn judge_up_to(numbers: &[i64], from: usize, to: usize, truths: &mut Vec<bool>) -> bool
-    requires before { map bit truths.old.items ≡ take from numbers.now }
+fn judge_up_to<T: Numeric>(numbers: &[T], from: usize, to: usize, truths: &mut Vec<bool>) -> bool
+    requires before { map bit truths.old.items ≡ take from (map T.number_in numbers.now) }
     requires order { from ≤ to }
     requires places { to ≤ length numbers.now }
     requires room { length numbers.now ≤ vec_capacity truths.old }
-    ensures bits { result ≡ list_all is_bit (take to numbers.now) }
-    ensures truths { result ≡ true → map bit truths.new.items ≡ take to numbers.now }
+    ensures bits { result ≡ list_all is_bit (take to (map T.number_in numbers.now)) }
+    ensures truths { result ≡ true → map bit truths.new.items ≡ take to (map T.number_in numbers.now) }
     ensures capacity { vec_capacity truths.new ≡ vec_capacity truths.old }
 {
     let mut are_bits = true;
     for i in from..to {
-        are_bits &= is_bit(numbers[i]);
-        truths.push_reserved(numbers[i] == 1);
+        let number = number_at(numbers, i);
+        are_bits &= is_bit(number);
+        truths.push_reserved(number == 1);
     }
     are_bits
 }
 
 /// Numbers as truth values, if all are bits.
-pub(crate) fn truths_of(alloc: Global, numbers: &[i64]) -> Result<Option<Vec<bool>>, AllocError>
+fn truths_of<T: Numeric>(alloc: Global, numbers: &[T]) -> Result<Option<Vec<bool>>, AllocError>
     requires most { length numbers.now ≤ MOST_PLACES }
-    ensures { IfOk result (λ found. MatchOption found (list_all is_bit numbers.now ≡ false) (λ truths. map bit truths.items ≡ numbers.now)) }
+    ensures { IfOk result (λ found. MatchOption found (list_all is_bit (map T.number_in numbers.now) ≡ false) (λ truths. map bit truths.items ≡ map T.number_in numbers.now)) }
 {
     let mut truths = Vec::with_capacity(alloc, numbers.len())?;
     let turns = numbers.len() / TURN;
@@ -104,5 +107,19 @@ pub(crate) fn truths_of(alloc: Global, numbers: &[i64]) -> Result<Option<Vec<boo
         Ok(Some(truths))
     } else {
         Ok(None)
+    }
+}
+
+/// The same of numbers as they are held.
+pub(crate) fn truths_of_held(
+    alloc: Global,
+    numbers: &HeldNumbers,
+) -> Result<Option<Vec<bool>>, AllocError>
+    requires most { length (held_list numbers.now) ≤ MOST_PLACES }
+    ensures { IfOk result (λ found. MatchOption found (list_all is_bit (held_list numbers.now) ≡ false) (λ truths. map bit truths.items ≡ held_list numbers.now)) }
+{
+    match numbers {
+        HeldNumbers::Narrow(numbers) => truths_of(alloc, numbers),
+        HeldNumbers::Wide(numbers) => truths_of(alloc, numbers.as_slice()),
     }
 }

@@ -13,7 +13,7 @@ ghost use Rattle.apl_struct.specs.Building.{shape_of_row, ravel_row, reshape_sou
 ghost use Rattle.apl_array.specs.declared.array.Elem.{Elem};
 
 use crate::arguments::numbers_among;
-use apl_answer::{ElementType, OpFault, array_of_elements, fill_array};
+use apl_answer::{ElementType, Numeric, OpFault, array_of_elements, fill_array, number_at};
 use apl_array::{
     Array, MOST_AXES, MOST_ELEMENTS, Origin, Shape, places_match_index_lists, with_elements,
 };
@@ -117,10 +117,15 @@ pub(crate) fn repeat<W: Crew>(workers: &W, shape: Shape, b: &Array) -> Result<Ar
 }
 
 /// Whether all numbers are 0 and above.
-pub(crate) fn are_natural(numbers: &[i64]) -> bool
-    ensures { result ≡ list_all is_natural numbers.now }
+pub(crate) fn are_natural<T: Numeric>(numbers: &[T]) -> bool
+    ensures { result ≡ list_all is_natural (map T.number_in numbers.now) }
 {
-    numbers.iter().all(|number| *number >= 0)
+    for place in 0..numbers.len() {
+        if number_at(numbers, place) < 0 {
+            return false;
+        }
+    }
+    true
 }
 
 /// The shape with these lengths, each from 0 up. It is refused where it passes a limit (`Limit`).

@@ -8,15 +8,16 @@ ghost use Rattle.apl_answer.specs.Arguments.{is_natural, is_numbers, numbers_of,
 ghost use Rattle.apl_answer.specs.Pointwise.{IsAnswerOf};
 ghost use Rattle.apl_answer.specs.Rows.{Answers};
 ghost use Rattle.apl_struct.specs.Compressing.{as_vector, repeated_indexes, replicate_row, expand_row};
+ghost use Rattle.apl_struct.specs.Held.{held_list};
 ghost use Rattle.apl_struct.specs.Replicating.{replicated, IsSumOf};
 ghost use Rattle.apl_struct.specs.Expanding.{expanded};
 ghost use Rattle.std.specs.Ordering.{int_eq};
 
 use crate::along::{Taking, gather_along, shape_with_axis, vector_length, vector_rank};
-use crate::arguments::{TURN, numbers_among};
-use crate::bits::{indexes_of_ones, push_times, truths_of};
+use crate::arguments::{HeldNumbers, TURN, held_numbers, numbers_among};
+use crate::bits::{indexes_of_ones, push_times, truths_of_held};
 use crate::building::{are_natural, empty};
-use apl_answer::OpFault;
+use apl_answer::{Numeric, OpFault, number_at};
 use apl_array::{Array, Axis, Elements, MOST_ELEMENTS};
 use apl_pool::{Crew, Cut, Gate, Pool, Workers};
 use apl_walk::{CountedBits, count_blocks};
@@ -30,13 +31,13 @@ const SPARE: usize = 4;
 const PAST: u64 = MOST_ELEMENTS as u64 + 1;
 
 /// The sum of counts. A count below 0 is refused first (`Domain`), and then a sum past the most elements (`Limit`).
-fn sum_of_counts(counts: &[i64]) -> Result<usize, OpFault>
+fn sum_of_counts<T: Numeric>(counts: &[T]) -> Result<usize, OpFault>
     requires { length counts.now ≤ MOST_PLACES }
-    ensures { IsSumOf counts.now result }
+    ensures { IsSumOf (map T.number_in counts.now) result }
 {
     let mut all: u64 = 0;
-    for count in counts {
-        all += count.cast_unsigned().min(PAST);
+    for i in 0..counts.len() {
+        all += number_at(counts, i).cast_unsigned().min(PAST);
     }
     if all < PAST {
         return Ok(all as usize);
@@ -45,6 +46,17 @@ fn sum_of_counts(counts: &[i64]) -> Result<usize, OpFault>
         Err(OpFault::Limit)
     } else {
         Err(OpFault::Domain)
+    }
+}
+
+/// The same of counts as they are held.
+fn sum_of_held(counts: &HeldNumbers) -> Result<usize, OpFault>
+    requires { length (held_list counts.now) ≤ MOST_PLACES }
+    ensures { IsSumOf (held_list counts.now) result }
+{
+    match counts {
+        HeldNumbers::Narrow(counts) => sum_of_counts(counts),
+        HeldNumbers::Wide(counts) => sum_of_counts(counts.as_slice()),
     }
 }
 
@@ -66,28 +78,32 @@ fn append_times(table: &mut Vec<u32>, index: u32, count: usize)
 
 /// Puts the indexes from `from` up to before `to` into a table, each as often as its count says, after those before them.
 #[inline(always)]
-fn list_up_to(counts: &[i64], from: usize, to: usize, table: &mut Vec<u32>)
-    requires counts { list_all is_natural counts.now ≡ true }
+fn list_up_to<T: Numeric>(counts: &[T], from: usize, to: usize, table: &mut Vec<u32>)
+    requires counts { list_all is_natural (map T.number_in counts.now) ≡ true }
     requires order { from ≤ to }
     requires places { to ≤ length counts.now }
     requires most { length counts.now ≤ MOST_PLACES }
-    requires room { sum (map place_number counts.now) + SPARE ≤ vec_capacity table.old }
-    requires before { table.old.items ≡ repeated_indexes (take from (map place_number counts.now)) }
-    ensures items { table.new.items ≡ repeated_indexes (take to (map place_number counts.now)) }
+    requires room { sum (map place_number (map T.number_in counts.now)) + SPARE ≤ vec_capacity table.old }
+    requires before { table.old.items ≡ repeated_indexes (take from (map place_number (map T.number_in counts.now))) }
+    ensures items { table.new.items ≡ repeated_indexes (take to (map place_number (map T.number_in counts.now))) }
     ensures capacity { vec_capacity table.new ≡ vec_capacity table.old }
 {
     for i in from..to {
-        append_times(table, i as u32, counts[i] as usize);
+        append_times(table, i as u32, number_at(counts, i) as usize);
     }
 }
 
 /// Each index as often as its count says, which is so often in all.
-fn listed_indexes(alloc: Global, counts: &[i64], all: usize) -> Result<Vec<u32>, AllocError>
-    requires counts { list_all is_natural counts.now ≡ true }
+fn listed_indexes<T: Numeric>(
+    alloc: Global,
+    counts: &[T],
+    all: usize,
+) -> Result<Vec<u32>, AllocError>
+    requires counts { list_all is_natural (map T.number_in counts.now) ≡ true }
     requires most { length counts.now ≤ MOST_PLACES }
-    requires all { all ≡ sum (map place_number counts.now) }
+    requires all { all ≡ sum (map place_number (map T.number_in counts.now)) }
     requires few { all ≤ MOST_PLACES }
-    ensures { IfOk result (λ table. table.items ≡ repeated_indexes (map place_number counts.now)) }
+    ensures { IfOk result (λ table. table.items ≡ repeated_indexes (map place_number (map T.number_in counts.now))) }
 {
     let mut table = Vec::with_capacity(alloc, all + SPARE)?;
     let turns = counts.len() / TURN;
@@ -98,27 +114,43 @@ fn listed_indexes(alloc: Global, counts: &[i64], all: usize) -> Result<Vec<u32>,
     Ok(table)
 }
 
-/// Each index of axis `k` as often as its count says.
+/// The same by counts as they are held.
+fn listed_of_held(alloc: Global, counts: &HeldNumbers, all: usize) -> Result<Vec<u32>, AllocError>
+    requires counts { list_all is_natural (held_list counts.now) ≡ true }
+    requires most { length (held_list counts.now) ≤ MOST_PLACES }
+    requires all { all ≡ sum (map place_number (held_list counts.now)) }
+    requires few { all ≤ MOST_PLACES }
+    ensures { IfOk result (λ table. table.items ≡ repeated_indexes (map place_number (held_list counts.now))) }
+{
+    match counts {
+        HeldNumbers::Narrow(counts) => listed_indexes(alloc, counts, all),
+        HeldNumbers::Wide(counts) => listed_indexes(alloc, counts.as_slice(), all),
+    }
+}
+
+/// Each index of axis `k`, which has this length, as often as its count says.
 fn replicate_listed<W: Crew>(
     workers: &W,
     b: &Array,
     k: usize,
-    counts: &[i64],
+    axis_length: usize,
+    counts: &HeldNumbers,
 ) -> Result<Array, OpFault>
     requires axis { k < max 1 (rank_of b.now) }
-    requires length { length counts.now ≡ slice_index (as_vector (length counts.now) b.now).shape k }
-    requires most { length counts.now ≤ MOST_PLACES }
-    ensures { IsAnswerOf (if list_all is_natural counts.now then replicated (as_vector (length counts.now) b.now) k (map place_number counts.now) else Err OpFault.Domain) result }
+    requires each { length (held_list counts.now) ≡ axis_length }
+    requires length { axis_length ≡ slice_index (as_vector axis_length b.now).shape k }
+    requires most { axis_length ≤ MOST_PLACES }
+    ensures { IsAnswerOf (if list_all is_natural (held_list counts.now) then replicated (as_vector axis_length b.now) k (map place_number (held_list counts.now)) else Err OpFault.Domain) result }
 {
     let alloc = workers.alloc();
-    let extent = sum_of_counts(counts)?;
+    let extent = sum_of_held(counts)?;
     let shape = shape_with_axis(alloc, b, k, extent)?;
     if shape.count() == 0 {
         return empty(workers, shape, b);
     }
-    let indexes = listed_indexes(alloc, counts, extent)?;
+    let indexes = listed_of_held(alloc, counts, extent)?;
     let taking = Taking::Listed(indexes.as_slice());
-    gather_along(workers, b, k, counts.len(), indexes.len(), taking)
+    gather_along(workers, b, k, axis_length, indexes.len(), taking)
 }
 
 /// The indexes of axis `k` at which truth values are true. Those of a vector are not listed, so that the workers look for them.
@@ -152,10 +184,10 @@ fn replicate_each<W: Crew>(workers: &W, a: &Array, b: &Array, k: usize) -> Resul
     if let Elements::Truths(truths) = a.elements() {
         return keep_ones(workers, b, k, truths);
     }
-    let numbers = numbers_among(workers, a)?;
-    match truths_of(workers.alloc(), numbers.as_slice())? {
+    let numbers = held_numbers(workers, a)?;
+    match truths_of_held(workers.alloc(), &numbers)? {
         Some(truths) => keep_ones(workers, b, k, truths.as_slice()),
-        None => replicate_listed(workers, b, k, numbers.as_slice()),
+        None => replicate_listed(workers, b, k, a.shape().count(), &numbers),
     }
 }
 
@@ -267,8 +299,8 @@ pub fn expand<R: Threads + Sync, C: Cut + Sync, G: Gate + Sync>(
     if let Elements::Truths(truths) = a.elements() {
         return expand_by(&workers, truths, b, k);
     }
-    let numbers = numbers_among(&workers, a)?;
-    match truths_of(alloc, numbers.as_slice())? {
+    let numbers = held_numbers(&workers, a)?;
+    match truths_of_held(alloc, &numbers)? {
         Some(truths) => expand_by(&workers, truths.as_slice(), b, k),
         None => Err(OpFault::Domain),
     }

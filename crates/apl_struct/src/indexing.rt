@@ -6,11 +6,13 @@ ghost use Rattle.apl_answer.specs.Arguments.{rank_of};
 ghost use Rattle.apl_answer.specs.Pointwise.{IsShapeOf};
 ghost use Rattle.apl_answer.specs.Rows.{Answers};
 ghost use Rattle.apl_struct.specs.Indexing.{are_slots_within, selected_shape, selection_checks, select_row};
-ghost use Rattle.apl_struct.specs.Selecting.{slot_list, IsCheckedResult, IsSelection};
+ghost use Rattle.apl_struct.specs.Held.{held_list};
+ghost use Rattle.apl_struct.specs.Selecting.{IsCheckedResult, IsSelection};
 
+use crate::arguments::HeldNumbers;
 use crate::building::empty;
 use crate::chosen::select_of_vector;
-use crate::selecting::{NumberArray, SlotNumbers, push_slots, selected_walk};
+use crate::selecting::{NumberArray, push_slots, selected_walk};
 use apl_answer::{Numeric, OpFault, number_at};
 use apl_array::{Array, Origin, Shape, places_match_index_lists};
 use apl_pool::{Crew, Cut, Gate, Pool, Workers};
@@ -38,12 +40,12 @@ fn are_indexes<N: Numeric>(numbers: &[N], origin: Origin, axis_length: usize) ->
 }
 
 /// The same of the numbers of a slot.
-fn are_slot_indexes(numbers: &SlotNumbers, origin: Origin, axis_length: usize) -> bool
-    ensures { result ≡ list_all (λ number. is_below axis_length (from_origin origin number)) (slot_list numbers.now) }
+fn are_slot_indexes(numbers: &HeldNumbers, origin: Origin, axis_length: usize) -> bool
+    ensures { result ≡ list_all (λ number. is_below axis_length (from_origin origin number)) (held_list numbers.now) }
 {
     match numbers {
-        SlotNumbers::Narrow(numbers) => are_indexes(numbers, origin, axis_length),
-        SlotNumbers::Wide(numbers) => are_indexes(numbers.as_slice(), origin, axis_length),
+        HeldNumbers::Narrow(numbers) => are_indexes(numbers, origin, axis_length),
+        HeldNumbers::Wide(numbers) => are_indexes(numbers.as_slice(), origin, axis_length),
     }
 }
 

@@ -1,5 +1,5 @@
 //! The slots of an index, each of them empty or of numbers, and the walk over an array of which they choose.
-ghost use Rattle.std.specs.Prelude.{◌≡◌, ℕ, ◌+◌, ◌*◌, ◌<◌, ◌≤◌, ◌⊎◌, true, Some, IfOk, length, vec_len, ◌++◌, ◌∷◌, [], map, Ok, Err, IfErr, false, option_copied, if◌then◌else◌, vec_capacity};
+ghost use Rattle.std.specs.Prelude.{◌≡◌, ℕ, ◌+◌, ◌*◌, ◌<◌, ◌≤◌, ◌⊎◌, true, Some, IfOk, length, vec_len, ◌++◌, ◌∷◌, [], map, Ok, Err, option_copied, if◌then◌else◌, vec_capacity};
 ghost use Rattle.apl_array.specs.declared.shape.TheConstants.{MOST_AXES};
 ghost use Rattle.apl_array.specs.Shape.{IsIndexOf, count_of};
 ghost use Rattle.apl_pool.specs.declared.kernel.TheConstants.{MOST_PLACES};
@@ -8,32 +8,26 @@ ghost use Rattle.apl_walk.specs.declared.maps.TheConstants.{MOST_MAPS};
 ghost use Rattle.apl_walk.specs.Maps.{extent_of, map_extent, map_step, walked};
 ghost use Rattle.apl_walk.specs.Walks.{maps_of};
 ghost use Rattle.apl_struct.specs.Indexing.{is_slot_within, selected_shape, is_slot_of_numbers};
-ghost use Rattle.apl_struct.specs.Selecting.{slot_list, reached_from, reached_with, slot_count, slot_index, chosen_index, chosen_place, AreSelectable, IsSelection, AreArrays, IsCheckedResult};
+ghost use Rattle.apl_struct.specs.Held.{held_list};
+ghost use Rattle.apl_struct.specs.Selecting.{reached_from, reached_with, slot_count, slot_index, chosen_index, chosen_place, AreSelectable, IsSelection, AreArrays, IsCheckedResult};
 ghost use Rattle.std.specs.List.{list_all};
 ghost use Rattle.apl_array.specs.Array.{ArrayValue, IsArray};
-ghost use Rattle.apl_answer.specs.Arguments.{is_numbers, numbers_of};
+ghost use Rattle.apl_answer.specs.Arguments.{numbers_of};
 ghost use Rattle.apl_answer.specs.declared.fault.OpFault.TheVariants.{Domain, Memory};
 
-use crate::arguments::numbers_among;
-use apl_answer::{Numbers, OpFault};
-use apl_array::{Array, Elements, Origin, Shape, places_match_index_lists};
+use crate::arguments::{HeldNumbers, held_numbers};
+use apl_answer::OpFault;
+use apl_array::{Array, Origin, Shape, places_match_index_lists};
 use apl_pool::Crew;
 use apl_walk::{AxisMap, Listed, Map, Numbered, Walk, Window};
 use std::alloc::{AllocError, Global};
 use std::marker::Model;
 
-/// The numbers of a slot in row order: those of 32 bits as they are held, and others in 64 bits.
-#[derive(Drop)]
-pub(crate) enum SlotNumbers<'a> {
-    Narrow(&'a [i32]),
-    Wide(Numbers<'a>),
-}
-
 /// An array of numbers, or without elements, and its numbers in row order.
 #[derive(Drop)]
 pub(crate) struct NumberArray<'a> {
     pub array: &'a Array,
-    pub numbers: SlotNumbers<'a>,
+    pub numbers: HeldNumbers<'a>,
 }
 
 impl<'a> Model for NumberArray<'a> {
@@ -41,19 +35,7 @@ impl<'a> Model for NumberArray<'a> {
 
     ghost view = { λ n. n.array.now };
 
-    ghost invariant = { λ n. IsArray n.array.now × (numbers_of n.array.now ≡ slot_list n.numbers) };
-}
-
-/// The numbers of a slot. It is of numbers or without elements (`Domain`).
-fn slot_numbers<'a, W: Crew>(workers: &W, slot: &'a Array) -> Result<SlotNumbers<'a>, OpFault>
-    ensures numbers { IfOk result (λ ns. (is_numbers slot.now ≡ true) × (numbers_of slot.now ≡ slot_list ns)) }
-    ensures refused { IfErr result (λ fault. ((fault ≡ Domain) × (is_numbers slot.now ≡ false)) ⊎ (fault ≡ Memory)) }
-    ensures lawful { IsArray slot.now }
-{
-    if let Elements::Narrow(numbers) = slot.elements() {
-        return Ok(SlotNumbers::Narrow(numbers));
-    }
-    Ok(SlotNumbers::Wide(numbers_among(workers, slot)?))
+    ghost invariant = { λ n. IsArray n.array.now × (numbers_of n.array.now ≡ held_list n.numbers) };
 }
 
 /// A slot that is empty or of numbers, and no other (`Domain`).
@@ -67,7 +49,7 @@ fn slot_of_numbers<'a, W: Crew>(
     let Some(array) = slot else {
         return Ok(None);
     };
-    let numbers = slot_numbers(workers, array)?;
+    let numbers = held_numbers(workers, array)?;
     Ok(Some(NumberArray { array, numbers }))
 }
 
@@ -107,13 +89,13 @@ fn slot_map<'a>(
     };
     let first = origin.number();
     match &chosen.numbers {
-        SlotNumbers::Narrow(numbers) => Map::Listed(Listed::Narrow(Numbered {
+        HeldNumbers::Narrow(numbers) => Map::Listed(Listed::Narrow(Numbered {
             numbers,
             first,
             axis_length,
             stride,
         })),
-        SlotNumbers::Wide(numbers) => Map::Listed(Listed::Numbers(Numbered {
+        HeldNumbers::Wide(numbers) => Map::Listed(Listed::Numbers(Numbered {
             numbers: numbers.as_slice(),
             first,
             axis_length,

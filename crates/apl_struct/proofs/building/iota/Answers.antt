@@ -1,5 +1,6 @@
-use Rattle.std.proofs.Common.{◌≡◌, ◌+◌, pos, true, [], ◌∷◌, Ok, map, slice_index, sym, ap, ◌∙◌, rules}
+use Rattle.std.proofs.Common.{◌≡◌, ℤ, ◌+◌, pos, true, [], ◌∷◌, Ok, map, slice_index, sym, ap, ◌∙◌, rules}
 use Rattle.std.specs.List.{list_all}
+use Rattle.std.proofs.lemmas.List.{map-id}
 use Rattle.apl_array.specs.declared.array.Elem.TheVariants.{Int}
 use Rattle.apl_array.specs.Axes.{origin_number, place_number}
 use Rattle.apl_array.specs.Shape.{is_shape}
@@ -19,7 +20,8 @@ returns g c =
     let one : size_of n ≡ 1 = search rules in
     let one_element : has_one_element n.shape ≡ true = search rules in
     let numbers : numbers_of n ≡ c.as_slice-numbers.result.now = c.in_ok-numbers.ensures.numbers.1 ∙ sym c.as_slice-numbers.ensures in
-    let natural : list_all is_natural (numbers_of n) ≡ true = search rules in
+    let judged : list_all is_natural (map (λ (z : ℤ). z) c.as_slice-numbers.result.now) ≡ true = search rules in
+    let natural : list_all is_natural (numbers_of n) ≡ true = ap (list_all is_natural) (numbers ∙ sym (map-id c.as_slice-numbers.result.now)) ∙ judged in
     let lengths : map place_number c.as_slice-numbers.result.now ≡ length ∷ [] = ap (map place_number) (sym numbers) ∙ only_number n c.shape.ensures.lawful one in
     let shapes : c.in_ok-shape.shape ≡ length ∷ [] = c.in_ok-shape.ensures.1 ∙ lengths in
     let lawful : is_shape (length ∷ []) ≡ true = ap is_shape (sym lengths) ∙ c.in_ok-shape.ensures.0 in

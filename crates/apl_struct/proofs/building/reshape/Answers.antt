@@ -1,6 +1,7 @@
-use Rattle.std.proofs.Common.{◌≡◌, true, map, ◌==◌, sym, ap, ◌∙◌, rules}
+use Rattle.std.proofs.Common.{◌≡◌, ℤ, true, map, ◌==◌, sym, ap, ◌∙◌, rules}
 use Rattle.std.specs.Prelude.{◌||◌}
 use Rattle.std.specs.List.{list_all}
+use Rattle.std.proofs.lemmas.List.{map-id}
 use Rattle.apl_array.specs.Axes.{place_number}
 use Rattle.apl_array.specs.Shape.{is_shape, count_of, place_of}
 use Rattle.apl_array.specs.Array.{element_in}
@@ -18,7 +19,8 @@ returns g c =
     let shape = map place_number (numbers_of a) in
     let numbers : numbers_of a ≡ c.as_slice-numbers.result.now = c.in_ok-numbers.ensures.numbers.1 ∙ sym c.as_slice-numbers.ensures in
     let list : is_list a ≡ true = search rules in
-    let natural : list_all is_natural (numbers_of a) ≡ true = search rules in
+    let judged : list_all is_natural (map (λ (z : ℤ). z) c.as_slice-numbers.result.now) ≡ true = search rules in
+    let natural : list_all is_natural (numbers_of a) ≡ true = ap (list_all is_natural) (numbers ∙ sym (map-id c.as_slice-numbers.result.now)) ∙ judged in
     let shapes : c.in_ok-shape.shape ≡ shape = c.in_ok-shape.ensures.1 ∙ ap (map place_number) (sym numbers) in
     let lawful : is_shape shape ≡ true = ap (λ ns. is_shape (map place_number ns)) numbers ∙ c.in_ok-shape.ensures.0 in
     let fits : (has_elements b || (count_of shape == 0)) ≡ true = search rules in

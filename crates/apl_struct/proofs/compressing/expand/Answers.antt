@@ -19,10 +19,10 @@ returns-in-Truths g c =
 pub returns-in-Some-2 : goal.returns-in-Some-2
 returns-in-Some-2 g c =
     let a = c.args.a.now in
-    let truths = c.as_slice-in-Some-2.result.now in
+    let truths = c.as_slice.result.now in
     let numbers = c.in_ok-numbers.ensures.numbers in
     let made = rw c.in-Some-2.is at c.in_ok-truths.ensures in
-    let own : numbers_of a ≡ map bit truths = numbers.1 ∙ sym c.as_slice.ensures ∙ sym made ∙ ap (map bit) (sym c.as_slice-in-Some-2.ensures.value) in
+    let own : numbers_of a ≡ map bit truths = numbers.1 ∙ sym made ∙ ap (map bit) (sym c.as_slice.ensures.value) in
     expand_answer a c.args.b.now c.args.axis c.vector_rank.result c.in-Some.k truths c.expand_by-in-Some-2.result c.vector_rank.ensures.rank c.in-Some.ensures.0 c.in-Some.ensures.1 (search rules)
     numbers.0 own c.shape.ensures.lawful.len (c.expand_by-in-Some-2.ensures _ refl)
 
@@ -31,6 +31,5 @@ returns g c =
     let a = c.args.a.now in
     let numbers = c.in_ok-numbers.ensures.numbers in
     let made = rw c.in-None.is at c.in_ok-truths.ensures in
-    let own : numbers_of a ≡ c.as_slice.result.now = numbers.1 ∙ sym c.as_slice.ensures in
-    let none : (is_numbers a && list_all is_bit (numbers_of a)) ≡ false = rw (own, made, numbers.0) refl in
+    let none : (is_numbers a && list_all is_bit (numbers_of a)) ≡ false = rw (numbers.1, made, numbers.0) refl in
     expand_refused a c.args.b.now c.args.axis c.vector_rank.result c.vector_rank.ensures.rank c.in-Some.ensures.0 (search rules) none

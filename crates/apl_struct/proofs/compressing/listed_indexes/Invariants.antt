@@ -5,7 +5,7 @@ use Rattle.apl_struct.specs.declared.compressing.TheConstants.{SPARE}
 use Rattle.apl_struct.proofs.compressing.listed_indexes.Given as goal
 
 abbrev pub invariant-loop-turn : goal.invariant-loop-turn
-invariant-loop-turn l = record {
-  kept : l.table.items ≡ repeated_indexes (take (l.turn * 4) (map place_number l.counts));
+invariant-loop-turn g l = record {
+  kept : l.table.items ≡ repeated_indexes (take (l.turn * 4) (map place_number (map g.T.Numeric.number_in l.counts)));
   room : l.all + SPARE ≤ vec_capacity l.table;
 }

@@ -1,4 +1,4 @@
-use Rattle.std.proofs.Common.{◌≡◌, true, length, map, ap, ◌∙◌, sym}
+use Rattle.std.proofs.Common.{◌≡◌, true, length, map, ap, ◌∙◌, sym, rules}
 use Rattle.std.proofs.lemmas.List.{length-map}
 use Rattle.std.proofs.lemmas.Simd.{map-map}
 use Rattle.apl_array.specs.Array.{bit, truth_array, truth_element}
@@ -19,18 +19,22 @@ returns-in-Truths g c =
 pub returns-in-Some : goal.returns-in-Some
 returns-in-Some g c =
     let a = c.args.a.now in
-    let truths = c.as_slice-in-Some.result.now in
+    let truths = c.as_slice.result.now in
     let numbers = c.in_ok-numbers.ensures.numbers in
     let made = rw c.in-Some.is at c.in_ok-truths.ensures in
-    let own : numbers_of a ≡ map bit truths = numbers.1 ∙ sym c.as_slice.ensures ∙ sym made ∙ ap (map bit) (sym c.as_slice-in-Some.ensures.value) in
+    let own : numbers_of a ≡ map bit truths = numbers.1 ∙ sym made ∙ ap (map bit) (sym c.as_slice.ensures.value) in
     let many : length truths ≡ size_of a = sym (length-map truths bit) ∙ sym (ap length own) ∙ length-map a.ravel number_of ∙ c.in_ok-numbers.ensures.lawful.len in
     rw (numbers.0, own, truths_natural truths) (rw many at c.keep_ones-in-Some.ensures)
+
+pub replicate_listed-requires-clause-each : goal.replicate_listed-requires-clause-each
+replicate_listed-requires-clause-each g c = λ lifetimes outlive.
+    let a = c.args.a.now in
+    let own = c.in_ok-numbers.ensures.numbers.1 in
+    sym (ap length own) ∙ length-map a.ravel number_of ∙ search rules
 
 pub returns : goal.returns
 returns g c =
     let a = c.args.a.now in
     let numbers = c.in_ok-numbers.ensures.numbers in
-    let items = c.as_slice-in-None.result.now in
-    let own : numbers_of a ≡ items = numbers.1 ∙ sym c.as_slice-in-None.ensures in
-    let many : length items ≡ size_of a = sym (ap length own) ∙ length-map a.ravel number_of ∙ c.in_ok-numbers.ensures.lawful.len in
-    rw (numbers.0, own) (rw many at c.replicate_listed.ensures)
+    let many : c.count.result ≡ size_of a = search rules in
+    rw (numbers.0, numbers.1) (rw many at c.replicate_listed.ensures)
