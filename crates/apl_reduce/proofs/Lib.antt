@@ -28,7 +28,6 @@ pub mod OuterRows
 pub mod InnerPlaces
 pub mod ItemRuns
 pub mod Strides
-pub mod InnerFolds
 pub mod InnerItems
 pub mod Passing
 pub mod Distances

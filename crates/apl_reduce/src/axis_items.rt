@@ -14,11 +14,13 @@ ghost use Rattle.apl_summary.specs.RowFolds.{AreRowFolds};
 use crate::foldable::Foldable;
 use crate::folded_rows::{Doubts, fold_last_rows, fold_rows, from_place};
 use crate::four::{Four, put_four};
-use crate::item_rows::{ItemRows, PlacedItems};
+use crate::item_rows::ItemRows;
 use crate::line_folds::{fold_along, fold_lines};
 use crate::near_rows::has_near_rows;
 use crate::outer_products::NARROW;
-use crate::sharing::{FEWEST_COLUMNS, piece_of, shares_items, shares_sums, work_of};
+use crate::sharing::{
+    FEWEST_COLUMNS, piece_of, repays_summaries, shares_items, shares_sums, work_of,
+};
 use crate::stretch_sums::{STRETCH, Stretches, fill_row_sums};
 use crate::truth_folds::has_truth_runs;
 use apl_answer::{ElementType, Numeric, elements_are_numbers};
@@ -37,12 +39,12 @@ use std::marker::PhantomData;
 pub(crate) struct AxisItems<'a, T> {
     elements: &'a [T],
     /// How many items there are at each place.
-    items: usize,
+    pub items: usize,
     /// How many elements there are for one index list of the axes to the left.
     block: usize,
     /// How far apart neighbours along the axis are.
     inner: Divisor,
-    count: usize,
+    pub count: usize,
     ghost most: { count ≤ MOST_PLACES },
     ghost elements_most: { length elements.now ≤ MOST_PLACES },
     ghost two: { 2 ≤ items },
@@ -128,6 +130,18 @@ impl<T> AxisItems<'_, T> {
         }
         let rest = self.inner.number() - self.inner.remainder(from);
         rest.min(to - from).min(MOST_TOTALS)
+    }
+}
+
+impl<T: Numeric> AxisItems<'_, T> {
+    /// Number `k` at a place.
+    #[inline(always)]
+    pub(crate) fn number(&self, place: usize, k: usize) -> i64
+        requires place { place < self.now.count }
+        requires item { k < self.now.items }
+        ensures { let a = self.now in result ≡ number_of_axis (map T.number_in a.elements.now) a.block a.inner place k }
+    {
+        self.elements[self.first_item(place) + k * self.inner.number()].number()
     }
 }
 
@@ -321,31 +335,6 @@ impl<T: Foldable> Kernel for AxisFolds<'_, T> {
     }
 }
 
-impl<T: Numeric> PlacedItems for AxisItems<'_, T> {
-    ghost use Rattle.std.specs.Prelude.{Ok, map};
-    ghost use Rattle.apl_reduce.specs.Folded.{number_of_axis};
-
-    ghost place_count = { λ x. x.count };
-
-    ghost item_count = { λ x. x.items };
-
-    ghost outcome = { λ x place k. Ok (number_of_axis (map T.number_in x.elements.now) x.block x.inner place k) };
-
-    fn places(&self) -> usize {
-        self.count
-    }
-
-    fn items(&self) -> usize {
-        self.items
-    }
-
-    #[inline(always)]
-    fn item(&self, place: usize, k: usize) -> Result<i64, Fault> {
-        let place = self.first_item(place) + k * self.inner.number();
-        Ok(self.elements[place].number())
-    }
-}
-
 fn fill_folds<T: Foldable + Sync, W: Crew>(
     workers: &W,
     f: ScalarFunction,
@@ -395,8 +384,8 @@ pub(crate) fn fill_number_folds<T: Foldable + Numeric + Sync, W: Crew>(
         return Ok(sums);
     }
     rows_have_folds(f, axis);
-    if shares_items(workers, f, axis.count, axis.items) {
-        return apl_summary::fold_rows(workers, f, &ItemRows { items: axis });
+    if repays_summaries(workers, f) && shares_items(workers, f, axis.count, axis.items) {
+        return apl_summary::fold_rows(workers, f, &ItemRows { axis });
     }
     fill_folds(workers, f, axis)
 }
@@ -412,7 +401,7 @@ pub(crate) fn fill_truth_folds<W: Crew>(
     rows_have_folds(f, axis);
     let is_quick = axis.inner.number() == 1 && has_truth_runs(f);
     if !is_quick && shares_items(workers, f, axis.count, axis.items) {
-        return apl_summary::fold_rows(workers, f, &ItemRows { items: axis });
+        return apl_summary::fold_rows(workers, f, &ItemRows { axis });
     }
     fill_folds(workers, f, axis)
 }

@@ -1,11 +1,9 @@
 //! Inner products.
-ghost use Rattle.std.specs.Prelude.{◌≡◌, ◌≢◌, ◌*◌, ◌≤◌, true, IsTrue, length, map};
+ghost use Rattle.std.specs.Prelude.{◌≢◌, IsTrue, length, map};
 ghost use Rattle.apl_array.specs.declared.array.Elem.TheVariants.{Int, Chr};
 ghost use Rattle.apl_array.specs.declared.function.ScalarFunction.TheVariants.{Plus as PlusNamed, Times as TimesNamed};
 ghost use Rattle.apl_array.specs.Array.{IsArray};
 ghost use Rattle.apl_array.specs.Valences.{has_dyadic};
-ghost use Rattle.apl_pool.specs.declared.kernel.TheConstants.{MOST_PLACES};
-ghost use Rattle.apl_summary.specs.Functions.{has_summary};
 ghost use Rattle.apl_answer.specs.Rows.{Answers};
 ghost use Rattle.apl_reduce.specs.Filled.{IsFilled};
 ghost use Rattle.apl_reduce.specs.Layouts.{IsWithin, inner_number};
@@ -15,7 +13,6 @@ use crate::columns::fill_columns;
 use crate::conformability::{common_length, layout_of, left_lengths, right_lengths};
 use crate::dyadic::{Chosen, Dyadic, Typed};
 use crate::inner_runs::fill_runs;
-use crate::item_rows::ItemRows;
 use crate::items::{SameItems, reduced};
 use crate::layouts::{Layout, SEVERAL_ITEMS};
 use crate::magnitudes::{is_narrow, magnitude, sums_are_small};
@@ -24,7 +21,6 @@ use crate::product_items::ProductItems;
 use crate::product_rows::fill_product_rows;
 use crate::product_sums::fill_product_sums;
 use crate::shapes::{characters_of, joined_shape};
-use crate::sharing::shares_items;
 use crate::sums::Sums;
 use apl_answer::{ElementType, OpFault, array_from_fill, fill_uniform, numbers_of};
 use apl_array::{Array, Elem, ScalarFunction, range_is_decided};
@@ -34,7 +30,6 @@ use apl_scalar::function_types::{
     And, Ceiling, Equal, Floor, Function, NotEqual, Or, Plus, Star, Times,
 };
 use apl_scalar::{Prim, dyadic_result};
-use apl_summary::fold_rows;
 use apl_walk::ByLines;
 use std::alloc::Global;
 use std::marker::PhantomData;
@@ -294,72 +289,6 @@ fn fill_inner_characters<W: Crew>(
     }
 }
 
-/// The reduction of the items at each place, which the workers share.
-fn share_lines<T: ElementType + Sync, P: Dyadic + Sync, W: Crew>(
-    workers: &W,
-    layout: &Layout,
-    left: &[T],
-    right: &[T],
-    f: ScalarFunction,
-    pairing: P,
-) -> Result<Vec<i64>, Stop>
-    requires within { IsWithin layout.now (length left.now) (length right.now) }
-    requires summary { has_summary f ≡ true }
-    requires two { 2 ≤ layout.now.items }
-    requires all { layout.now.count * layout.now.items ≤ MOST_PLACES }
-    ensures { IsFilled (inner_number layout.now (map T.elem_of left.now) (map T.elem_of right.now) f (P.function pairing)) layout.now.count result }
-{
-    let items = ProductItems {
-        layout,
-        columns: Divisor::new(layout.columns),
-        left,
-        right,
-        pairing,
-    };
-    let rows = ItemRows { items: &items };
-    fold_rows(workers, f, &rows)
-}
-
-/// An inner product of numbers. The workers share the items of each place, or the places. Of the pairings of shared items only `×` is compiled
-/// on its own.
-fn fill_number_items<W: Crew>(
-    workers: &W,
-    f: ScalarFunction,
-    g: ScalarFunction,
-    layout: &Layout,
-    left: &[i64],
-    right: &[i64],
-) -> Result<Vec<i64>, Stop>
-    requires { IsWithin layout.now (length left.now) (length right.now) }
-    ensures { IsFilled (inner_number layout.now (map Int left.now) (map Int right.now) f g) layout.now.count result }
-{
-    if !shares_items(workers, f, layout.count, layout.items) {
-        return fill_inner_rows(workers, f, g, layout, left, right);
-    }
-    match g {
-        Prim::Times => { share_lines(workers, layout, left, right, f, Typed::<Times>(PhantomData)) }
-        _ => share_lines(workers, layout, left, right, f, Chosen(g)),
-    }
-}
-
-/// An inner product of characters. The workers share the items of each place, or the places.
-fn fill_character_items<W: Crew>(
-    workers: &W,
-    f: ScalarFunction,
-    g: ScalarFunction,
-    layout: &Layout,
-    left: &[char],
-    right: &[char],
-) -> Result<Vec<i64>, Stop>
-    requires { IsWithin layout.now (length left.now) (length right.now) }
-    ensures { IsFilled (inner_number layout.now (map Chr left.now) (map Chr right.now) f g) layout.now.count result }
-{
-    if shares_items(workers, f, layout.count, layout.items) {
-        return share_lines(workers, layout, left, right, f, Chosen(g));
-    }
-    fill_inner_characters(workers, f, g, layout, left, right)
-}
-
 /// An inner product of numbers and characters, whose items are all alike.
 fn fill_mixed_items<W: Crew>(
     workers: &W,
@@ -399,10 +328,10 @@ fn fill_inner_elements<W: Crew>(
     }
     match (numbers_of(workers, a)?, numbers_of(workers, b)?) {
         (Some(left), Some(right)) => {
-            fill_number_items(workers, f, g, layout, left.as_slice(), right.as_slice())
+            fill_inner_rows(workers, f, g, layout, left.as_slice(), right.as_slice())
         }
         (None, None) => {
-            fill_character_items(workers, f, g, layout, characters_of(a), characters_of(b))
+            fill_inner_characters(workers, f, g, layout, characters_of(a), characters_of(b))
         }
         _ => fill_mixed_items(workers, f, g, layout, a, b),
     }

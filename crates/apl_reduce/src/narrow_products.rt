@@ -9,7 +9,6 @@ ghost use Rattle.apl_reduce.specs.ProductRows.{IsByRows};
 use crate::layouts::{Layout, SEVERAL_ITEMS};
 use crate::product_rows::fill_product_rows;
 use crate::product_sums::fill_product_sums;
-use crate::sharing::shares_items;
 use apl_answer::numbers_of;
 use apl_array::{Array, Elements, ScalarFunction};
 use apl_pool::{Crew, Stop};
@@ -86,7 +85,7 @@ fn fill_held_sums<W: Crew>(
     fill_narrow_lines(workers, layout, a, b)
 }
 
-/// An inner product of numbers as they are held. There is none by other functions than `+` and `×`, and where the workers share the items.
+/// An inner product of numbers as they are held. There is none by other functions than `+` and `×`.
 pub(crate) fn fill_narrow_products<W: Crew>(
     workers: &W,
     f: ScalarFunction,
@@ -99,10 +98,7 @@ pub(crate) fn fill_narrow_products<W: Crew>(
     ensures { IfSome result (IsFilled (inner_number layout.now a.now.ravel b.now.ravel f g) layout.now.count) }
 {
     match (f, g) {
-        (ScalarFunction::Plus, ScalarFunction::Times)
-            if !shares_items(workers, f, layout.count, layout.items) => {
-            fill_held_sums(workers, layout, a, b)
-        }
+        (ScalarFunction::Plus, ScalarFunction::Times) => fill_held_sums(workers, layout, a, b),
         _ => None,
     }
 }

@@ -3,7 +3,6 @@ ghost use Rattle.std.specs.Prelude.{◌≡◌, ℕ, ◌+◌, ◌*◌, ◌/◌, �
 ghost use Rattle.apl_reduce.specs.Layouts.{IsWithin};
 
 use crate::dyadic::Dyadic;
-use crate::item_rows::PlacedItems;
 use crate::items::Items;
 use crate::layouts::Layout;
 use apl_answer::ElementType;
@@ -83,29 +82,5 @@ impl<'a, T, U, P: Dyadic> ProductItems<'a, T, U, P> {
             count: layout.items,
             pairing: self.pairing,
         }
-    }
-}
-
-impl<T: ElementType, U: ElementType, P: Dyadic> PlacedItems for ProductItems<'_, T, U, P> {
-    ghost use Rattle.std.specs.Prelude.{map};
-    ghost use Rattle.apl_reduce.specs.Layouts.{inner_item};
-
-    ghost place_count = { λ x. x.layout.now.count };
-
-    ghost item_count = { λ x. x.layout.now.items };
-
-    ghost outcome = { λ x. inner_item x.layout.now (map T.elem_of x.left.now) (map U.elem_of x.right.now) (P.function x.pairing) };
-
-    fn places(&self) -> usize {
-        self.layout.count
-    }
-
-    fn items(&self) -> usize {
-        self.layout.items
-    }
-
-    #[inline(always)]
-    fn item(&self, place: usize, k: usize) -> Result<i64, Fault> {
-        self.line(place).at(k)
     }
 }

@@ -5,6 +5,7 @@ ghost use Rattle.apl_pool.specs.declared.kernel.TheConstants.{MOST_PLACES};
 ghost use Rattle.apl_summary.specs.Functions.{has_summary};
 
 use crate::layouts::Layout;
+use crate::sums::TURN;
 use apl_array::ScalarFunction;
 use apl_pool::{Crew, MOST_PLACES, USUAL_PIECE};
 use apl_summary::has_summary;
@@ -15,15 +16,20 @@ const FEW_PLACES: usize = 64;
 /// Folds of so many items, and of fewer, have pieces of the usual length.
 const LIGHT: usize = 8;
 
-/// The fewest places of a piece of folds.
+/// The fewest places of a piece of folds, unless fewer have items enough.
 const FEWEST_PLACES: usize = 128;
 
-/// The same where the items are no neighbours. In shorter pieces too little of each row would be read at a time.
+/// So many items are enough for a piece, however few places have them.
+const ENOUGH_ITEMS: usize = 1 << 18;
+
+/// The fewest places of a piece where the items are no neighbours. In shorter pieces too little of each row would be read at a time.
 pub(crate) const FEWEST_COLUMNS: usize = 512;
 
 /// How many places are to be a piece of folds of some items, as `Kernel::piece` has it.
 pub(crate) fn piece_of(items: usize) -> usize {
-    (USUAL_PIECE * LIGHT / items.max(LIGHT)).max(FEWEST_PLACES)
+    let items = items.max(LIGHT);
+    let fewest = (ENOUGH_ITEMS / items).max(1).min(FEWEST_PLACES);
+    (USUAL_PIECE * LIGHT / items).max(fewest)
 }
 
 /// About how much work the folds of so many items at each of some places are, as `Kernel::work` has it: two items are folded in the time
@@ -33,9 +39,9 @@ pub(crate) fn work_of(places: usize, items: usize) -> usize {
 }
 
 impl Layout {
-    /// How many places are to be a piece of an inner product, as `Kernel::piece` has it.
+    /// How many places are to be a piece of an inner product, as `Kernel::piece` has it. Some sums of products are made several at once.
     pub(crate) fn piece(&self) -> usize {
-        piece_of(self.items)
+        piece_of(self.items).max(TURN)
     }
 
     /// About how much work all its places are, as `Kernel::work` has it.
@@ -66,6 +72,16 @@ fn shares_work<W: Crew>(workers: &W, places: usize, items: usize, work: usize) -
     few && items > 1 && workers.pool().is_shared(items - 1, work)
 }
 
+/// Whether there are so many workers that they are quicker by summaries of numbers than one of them by folds.
+pub(crate) fn repays_summaries<W: Crew>(workers: &W, f: ScalarFunction) -> bool {
+    workers.pool().workers() as usize > summary_factor(f)
+}
+
+/// Whether there are fewer places than workers. Otherwise workers share the places.
+fn are_fewer_than_workers<W: Crew>(workers: &W, places: usize) -> bool {
+    places < workers.pool().workers() as usize
+}
+
 /// Whether workers share the items of folds at some places, by summaries of them.
 pub(crate) fn shares_items<W: Crew>(
     workers: &W,
@@ -79,7 +95,9 @@ pub(crate) fn shares_items<W: Crew>(
     ensures all { result ≡ true → places * items ≤ MOST_PLACES }
 {
     let work = work_of(places, items) / summary_factor(f);
-    has_summary(f) && shares_work(workers, places, items, work)
+    has_summary(f)
+        && are_fewer_than_workers(workers, places)
+        && shares_work(workers, places, items, work)
 }
 
 /// Whether workers share the items of folds at some places, by sums of them. These take no longer than the folds.

@@ -46,7 +46,7 @@ pub(crate) fn narrow_product(x: i64, y: i64) -> i64
 }
 
 /// How many neighbouring columns of a line are summed at once.
-const TURN: usize = 4;
+pub(crate) const TURN: usize = 4;
 
 /// How many lines are a piece, if there are enough for several pieces.
 const PIECE_LINES: usize = 16;

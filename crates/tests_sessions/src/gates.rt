@@ -425,77 +425,62 @@ const CUT_FOLDS: &str = r"
     +⌿F → 3⏎
     +/[1]F → 3⏎
     +⌿[1]F → 3⏎
-    F+.×F → 3⏎
     -/F → 1⏎
     -⌿F → 1⏎
     -/[1]F → 1⏎
     -⌿[1]F → 1⏎
-    F-.×F → 1⏎
     ×/F → 1⏎
     ×⌿F → 1⏎
     ×/[1]F → 1⏎
     ×⌿[1]F → 1⏎
-    F×.×F → 1⏎
     ⌊/F → 1⏎
     ⌊⌿F → 1⏎
     ⌊/[1]F → 1⏎
     ⌊⌿[1]F → 1⏎
-    F⌊.×F → 1⏎
     ⌈/F → 1⏎
     ⌈⌿F → 1⏎
     ⌈/[1]F → 1⏎
     ⌈⌿[1]F → 1⏎
-    F⌈.×F → 1⏎
     ∧/F → 1⏎
     ∧⌿F → 1⏎
     ∧/[1]F → 1⏎
     ∧⌿[1]F → 1⏎
-    F∧.×F → 1⏎
     ∨/F → 1⏎
     ∨⌿F → 1⏎
     ∨/[1]F → 1⏎
     ∨⌿[1]F → 1⏎
-    F∨.×F → 1⏎
     ⍲/F → 1⏎
     ⍲⌿F → 1⏎
     ⍲/[1]F → 1⏎
     ⍲⌿[1]F → 1⏎
-    F⍲.×F → 1⏎
     ⍱/F → 0⏎
     ⍱⌿F → 0⏎
     ⍱/[1]F → 0⏎
     ⍱⌿[1]F → 0⏎
-    F⍱.×F → 0⏎
     </F → 0⏎
     <⌿F → 0⏎
     </[1]F → 0⏎
     <⌿[1]F → 0⏎
-    F<.×F → 0⏎
     ≤/F → 1⏎
     ≤⌿F → 1⏎
     ≤/[1]F → 1⏎
     ≤⌿[1]F → 1⏎
-    F≤.×F → 1⏎
     =/F → 1⏎
     =⌿F → 1⏎
     =/[1]F → 1⏎
     =⌿[1]F → 1⏎
-    F=.×F → 1⏎
     ≥/F → 1⏎
     ≥⌿F → 1⏎
     ≥/[1]F → 1⏎
     ≥⌿[1]F → 1⏎
-    F≥.×F → 1⏎
     >/F → 1⏎
     >⌿F → 1⏎
     >/[1]F → 1⏎
     >⌿[1]F → 1⏎
-    F>.×F → 1⏎
     ≠/F → 1⏎
     ≠⌿F → 1⏎
     ≠/[1]F → 1⏎
     ≠⌿[1]F → 1⏎
-    F≠.×F → 1⏎
     ";
 
 /// Answers a line, and says whether the session goes on after it. A line has no line feed.
@@ -513,22 +498,29 @@ fn goes_on<R: Threads + Sync>(
     session.line(rt, alloc, pool, line.as_bytes(), sink) == Ok(Next::Go)
 }
 
+/// So many workers that each fold of numbers which can be cut is cut. The folds here are cut into two pieces, so two of them work.
+const MANY: u8 = 9;
+
 /// How often a line is answered before its two workers are taken not to meet. A busy machine may keep one of them waiting for seconds.
 const TRIES: usize = 3;
 
-/// Whether a line writes this text by two workers and pieces of this length, and the workers meet at one of them.
+/// Whether a line writes this text by so many workers and pieces of this length, and two workers meet at one of them.
 fn meet_at<R: Threads + Sync>(
     rt: &R,
     alloc: Global,
+    workers: u8,
     schedule: Schedule,
     piece: usize,
     session: &mut Session,
     line: &str,
     text: &str,
-) -> bool {
+) -> bool
+    requires some { 1 ≤ workers }
+    requires most { workers ≤ MOST_WORKERS }
+{
     for _ in 0..TRIES {
         let meeting = Meeting::new();
-        let pool = Pool::with(2, schedule, Every(piece), Door::Meeting(&meeting));
+        let pool = Pool::with(workers, schedule, Every(piece), Door::Meeting(&meeting));
         let mut sink = MemorySink::new(alloc, BLOCK, None);
         let is_answered = goes_on(rt, alloc, &pool, session, line, &mut sink);
         if !is_answered || sink.bytes() != text.as_bytes() {
@@ -541,17 +533,21 @@ fn meet_at<R: Threads + Sync>(
     false
 }
 
-/// Opens a session by some lines, and answers others by two workers and pieces of this length. An error names the first of these that
-/// wrote another text, or at which the workers did not meet.
+/// Opens a session by some lines, and answers others by so many workers and pieces of this length. An error names the first of these that
+/// wrote another text, or at which no two workers met.
 fn meet_at_each<R: Threads + Sync>(
     rt: &R,
     alloc: Global,
+    workers: u8,
     schedule: Schedule,
     piece: usize,
     opening: &str,
     rows: &[(String, String)],
-) -> Result<(), Fail> {
-    let pool = Pool::with(2, schedule, Every(piece), Door::Open);
+) -> Result<(), Fail>
+    requires some { 1 ≤ workers }
+    requires most { workers ≤ MOST_WORKERS }
+{
+    let pool = Pool::with(workers, schedule, Every(piece), Door::Open);
     let mut session = Session::new(alloc);
     let mut sink = MemorySink::new(alloc, BLOCK, None);
     for line in opening.lines() {
@@ -561,7 +557,16 @@ fn meet_at_each<R: Threads + Sync>(
     }
     for (line, text) in rows {
         let (line, text) = (line.as_str(), text.as_str());
-        if !meet_at(rt, alloc, schedule, piece, &mut session, line, text) {
+        if !meet_at(
+            rt,
+            alloc,
+            workers,
+            schedule,
+            piece,
+            &mut session,
+            line,
+            text,
+        ) {
             return Err(Fail::new(format_args!("{line}")));
         }
     }
@@ -572,12 +577,16 @@ fn meet_at_each<R: Threads + Sync>(
 fn meet_under_both<R: Threads + Sync>(
     rt: &R,
     alloc: Global,
+    workers: u8,
     piece: usize,
     opening: &str,
     rows: &[(String, String)],
-) -> Result<(), Fail> {
+) -> Result<(), Fail>
+    requires some { 1 ≤ workers }
+    requires most { workers ≤ MOST_WORKERS }
+{
     for schedule in [Schedule::Claims, Schedule::Deques] {
-        meet_at_each(rt, alloc, schedule, piece, opening, rows)?;
+        meet_at_each(rt, alloc, workers, schedule, piece, opening, rows)?;
     }
     Ok(())
 }
@@ -632,7 +641,7 @@ fn meet_at_two<R: Threads + Sync>(
     let mut two = rows_of(alloc, table)?;
     let (line, text) = more;
     two.push(row(alloc, line, text)?)?;
-    meet_under_both(rt, alloc, 1, opening, &two)
+    meet_under_both(rt, alloc, 2, 1, opening, &two)
 }
 
 /// Assigns the values of a table's lines, whose arrays have 2048 elements.
@@ -643,7 +652,7 @@ fn meet_at_some<R: Threads + Sync>(
     table: Table,
 ) -> Result<(), Fail> {
     let some = assigned_rows(alloc, table)?;
-    meet_under_both(rt, alloc, 1024, opening, &some)
+    meet_under_both(rt, alloc, 2, 1024, opening, &some)
 }
 
 /// Answers the lines of a table whose arrays have as many elements as the largest here.
@@ -654,7 +663,7 @@ fn meet_at_many<R: Threads + Sync>(
     table: Table,
 ) -> Result<(), Fail> {
     let many = rows_of(alloc, table)?;
-    meet_under_both(rt, alloc, HALF, opening, &many)
+    meet_under_both(rt, alloc, 2, HALF, opening, &many)
 }
 
 #[test]
@@ -689,7 +698,7 @@ fn each_reduction_uses_the_pool(rt: HostRuntime) -> Result<(), Fail> {
     let more = ones(alloc, 2048, "V←2 2048\nW←2048 2\nR←1 1\n", ITEMS)?;
     meet_at_some(&rt, alloc, more.as_str(), table)?;
     let largest = ones(alloc, 2 * HALF, "V←2 1048576\n", "")?;
-    let many = ("B←+⌿V⍴A →\nB←A∘.×1 →\nB←+/A →\nB←A+.×A →", 4);
+    let many = ("B←+⌿V⍴A →\nB←A∘.×1 →\nB←+/A →", 3);
     meet_at_many(&rt, alloc, largest.as_str(), many)
 }
 
@@ -708,7 +717,7 @@ fn long_folds_have_short_pieces(rt: HostRuntime) -> Result<(), Fail> {
         B←D∨.≠R →
         ";
     let rows = rows_of(alloc, (folds, 7))?;
-    meet_under_both(&rt, alloc, 4096, opening, &rows)
+    meet_under_both(&rt, alloc, 2, 4096, opening, &rows)
 }
 
 /// The line that makes `F` a vector of `count` ones, by a constant.
@@ -723,7 +732,8 @@ fn items(alloc: Global, count: usize) -> Result<String, AllocError> {
 #[test]
 fn each_cut_fold_uses_the_pool(rt: HostRuntime) -> Result<(), Fail> {
     let alloc = rt.alloc();
-    let three = rows_of(alloc, (CUT_FOLDS, 75))?;
-    meet_under_both(&rt, alloc, 1, items(alloc, 3)?.as_str(), &three)?;
-    meet_at_some(&rt, alloc, items(alloc, 2049)?.as_str(), (CUT_FOLDS, 75))
+    let three = rows_of(alloc, (CUT_FOLDS, 60))?;
+    meet_under_both(&rt, alloc, MANY, 1, items(alloc, 3)?.as_str(), &three)?;
+    let some = assigned_rows(alloc, (CUT_FOLDS, 60))?;
+    meet_under_both(&rt, alloc, MANY, 1024, items(alloc, 2049)?.as_str(), &some)
 }

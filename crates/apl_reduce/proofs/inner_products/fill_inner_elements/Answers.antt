@@ -14,4 +14,4 @@ returns-in-Some-Some g c =
     let left_is : c.args.a.now.ravel ≡ map Int c.as_slice.result.now = ap (λ v. v.ravel) left in
     let right : c.args.b.now ≡ number_array c.args.b.now.shape c.as_slice-in-Some-Some.result.now = search rules in
     let right_is : c.args.b.now.ravel ≡ map Int c.as_slice-in-Some-Some.result.now = ap (λ v. v.ravel) right in
-    rw (left_is, right_is) c.fill_number_items.ensures
+    rw (left_is, right_is) c.fill_inner_rows.ensures
