@@ -519,7 +519,7 @@ fn meet_at<R: Threads + Sync>(
     requires most { workers ≤ MOST_WORKERS }
 {
     for _ in 0..TRIES {
-        let meeting = Meeting::new();
+        let meeting = Meeting::new(workers);
         let pool = Pool::with(workers, schedule, Every(piece), Door::Meeting(&meeting));
         let mut sink = MemorySink::new(alloc, BLOCK, None);
         let is_answered = goes_on(rt, alloc, &pool, session, line, &mut sink);
