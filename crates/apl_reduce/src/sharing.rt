@@ -74,7 +74,7 @@ fn shares_work<W: Crew>(workers: &W, places: usize, items: usize, work: usize) -
 
 /// Whether there are so many workers that they are quicker by summaries of numbers than one of them by folds.
 pub(crate) fn repays_summaries<W: Crew>(workers: &W, f: ScalarFunction) -> bool {
-    workers.pool().workers() as usize > summary_factor(f)
+    workers.pool().workers() as usize >= summary_factor(f)
 }
 
 /// Whether there are fewer places than workers. Otherwise workers share the places.

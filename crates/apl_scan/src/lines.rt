@@ -7,14 +7,14 @@ ghost use Rattle.apl_summary.specs.Functions.{has_summary};
 ghost use Rattle.apl_scan.specs.Lines.{folded, number_along, numbers_before, scan_at};
 
 use crate::columns::fold_columns;
-use crate::summarized::{fill_summarized, put_scans};
+use crate::summarized::{fill_by_summary, put_scans};
 use apl_answer::Numeric;
 use apl_array::ScalarFunction;
 use apl_divisor::Divisor;
 use apl_pool::{Crew, Fault, Kernel, Stop, fill};
 use apl_scalar::function_types::Function;
 use apl_scalar::with_type;
-use apl_summary::{Extreme, Scaled, SignedSum, has_summary};
+use apl_summary::has_summary;
 use std::alloc::AllocError;
 
 /// The numbers of an array, in lines along an axis.
@@ -172,25 +172,6 @@ fn fill_by_columns<W: Crew>(
     }
 }
 
-/// The folds of numbers up to each place of lines of neighbours, by a function whose folds have summaries. The workers share them, but for
-/// functions with two values.
-fn fill_lines<W: Crew>(workers: &W, f: ScalarFunction, lines: &AxisLines) -> Result<Vec<i64>, Stop>
-    requires summary { has_summary f ≡ true }
-    requires near { lines.now.inner ≡ 1 }
-    ensures values { IfOk result (λ v. AreValues (scan_at (dyadic_numbers f) lines.now.numbers.now lines.now.items lines.now.inner) (length lines.now.numbers.now) v.items) }
-    ensures stop { IfErr result (IsStopOf (scan_at (dyadic_numbers f) lines.now.numbers.now lines.now.items lines.now.inner) (length lines.now.numbers.now)) }
-{
-    let (numbers, items) = (lines.numbers, lines.items.number());
-    match f {
-        ScalarFunction::Plus => fill_summarized::<SignedSum<0>, W>(workers, numbers, items),
-        ScalarFunction::Minus => fill_summarized::<SignedSum<1>, W>(workers, numbers, items),
-        ScalarFunction::Times => fill_summarized::<Scaled, W>(workers, numbers, items),
-        ScalarFunction::Floor => fill_summarized::<Extreme<0>, W>(workers, numbers, items),
-        ScalarFunction::Ceiling => fill_summarized::<Extreme<1>, W>(workers, numbers, items),
-        _ => fill_by_columns(workers, f, lines),
-    }
-}
-
 /// The folds of numbers along their lines up to each place.
 pub(crate) fn fill_scans<W: Crew>(
     workers: &W,
@@ -204,7 +185,7 @@ pub(crate) fn fill_scans<W: Crew>(
         return fill_by_places(workers, f, lines);
     }
     if lines.inner.number() == 1 {
-        return fill_lines(workers, f, lines);
+        return fill_by_summary(workers, f, lines.numbers, lines.items.number());
     }
     fill_by_columns(workers, f, lines)
 }

@@ -224,28 +224,14 @@ fn put_lines<S: Running, T: Numeric, W: Crew>(
     Ok(Some(values))
 }
 
-/// Whether workers share scans by a function: those by a function with two values are one worker's.
-fn is_shared_function(f: ScalarFunction) -> bool {
-    matches!(
-        f,
-        ScalarFunction::Plus
-            | ScalarFunction::Minus
-            | ScalarFunction::Times
-            | ScalarFunction::Floor
-            | ScalarFunction::Ceiling
-    )
-}
-
 /// Whether workers share the folds up to each of `count` numbers of lines. They go twice over the numbers of lines that are longer than a
 /// chunk, since they summarize these first. So as many workers are no quicker than one there.
-fn shares_lines<W: Crew>(workers: &W, f: ScalarFunction, count: usize, items: usize) -> bool
+fn shares_lines<W: Crew>(workers: &W, count: usize, items: usize) -> bool
     requires { count ≤ MOST_PLACES }
 {
     let passes = if items > CHUNK { 2 } else { 1 };
     let pool = workers.pool();
-    is_shared_function(f)
-        && pool.workers() > passes
-        && pool.is_shared(count, count / passes as usize)
+    pool.workers() > passes && pool.is_shared(count, count / passes as usize)
 }
 
 /// The folds of numbers up to each place of lines of neighbours, as `put_lines` has them, by a function whose folds have summaries. There
@@ -263,7 +249,7 @@ pub(crate) fn put_scans<T: Numeric, W: Crew>(
     requires lines { length numbers.now / items * items ≡ length numbers.now }
     ensures { IfOk result (λ lines. IfSome lines (λ v. AreValues (scan_at (dyadic_numbers f) (map T.number_in numbers.now) items 1) (length numbers.now) v.items)) }
 {
-    if T::PER_NUMBER == 1 && shares_lines(workers, f, numbers.len(), items) {
+    if T::PER_NUMBER == 1 && shares_lines(workers, numbers.len(), items) {
         return Ok(None);
     }
     with_summary!(
@@ -274,7 +260,7 @@ pub(crate) fn put_scans<T: Numeric, W: Crew>(
 }
 
 /// The folds of numbers up to each place of lines of neighbours, by one type of summaries.
-pub(crate) fn fill_summarized<S: Running + Copy + Drop + Send + Sync, W: Crew>(
+fn fill_summarized<S: Running + Copy + Drop + Send + Sync, W: Crew>(
     workers: &W,
     numbers: &[i64],
     items: usize,
@@ -294,4 +280,25 @@ pub(crate) fn fill_summarized<S: Running + Copy + Drop + Send + Sync, W: Crew>(
         beginnings: beginnings.as_slice(),
     };
     fill(workers, &scans)
+}
+
+/// The folds of numbers up to each place of lines of neighbours, by a function whose folds have summaries.
+pub(crate) fn fill_by_summary<W: Crew>(
+    workers: &W,
+    f: ScalarFunction,
+    numbers: &[i64],
+    items: usize,
+) -> Result<Vec<i64>, Stop>
+    requires summary { has_summary f ≡ true }
+    requires most { length numbers.now ≤ MOST_PLACES }
+    requires items { (0 < items) × (items ≤ MOST_PLACES) }
+    requires lines { length numbers.now / items * items ≡ length numbers.now }
+    ensures values { IfOk result (λ v. AreValues (scan_at (dyadic_numbers f) numbers.now items 1) (length numbers.now) v.items) }
+    ensures stop { IfErr result (IsStopOf (scan_at (dyadic_numbers f) numbers.now items 1) (length numbers.now)) }
+{
+    with_summary!(
+        f,
+        fill_summarized::<S, W>(workers, numbers, items),
+        unreachable!()
+    )
 }
