@@ -160,7 +160,7 @@ pub(crate) fn likely_magnitude(x: i64) -> (i64, u64)
 pub(crate) fn sign(x: i64) -> i64
     ensures { result ≡ int_signum x }
 {
-    i64::from(x >= 0) - i64::from(x <= 0)
+    i64::from(x > 0) - i64::from(x < 0)
 }
 
 /// 1 divided by `x`.
