@@ -202,7 +202,8 @@ class Cells(KernelCase):
         self.assertEqual(output["traceback"], ["\x1b[1;31mDOMAIN ERROR\x1b[0m", "      7÷2", "       \x1b[1;31m∧\x1b[0m"])
 
     def test_a_report_ends_the_cells_that_wait(self):
-        sent = [self.client.execute(code) for code in ("(2000⍴1)+.×2000 2000⍴1\nA←1 2+3 4 5", "A←6")]
+        # The first cell takes so long that the second one waits for it.
+        sent = [self.client.execute(code) for code in ("A←(1000 1000⍴1)⌈.+1000 1000⍴1\nA←1 2+3 4 5", "A←6")]
         replies = {}
         while len(replies) < 2:
             message = self.client.get_shell_msg(timeout=SECONDS)
